@@ -1,0 +1,6 @@
+pub mod Cutting
+pub mod Typing
+pub mod Whole
+pub mod Cuts
+pub mod Sound
+pub mod Stopping

@@ -1,0 +1,33 @@
+-- The same pieces by a grammar: each has its spellings, and the rest begins one that isn't whole yet.
+use Rattle.std.specs.Prelude.{ℕ, List, [], ◌∷◌, ◌++◌, ◌==◌, true, false, ◌≡◌}
+use Rattle.mud_nvt.specs.declared.codes.TheConstants.{IAC, SE, SB}
+use Rattle.mud_nvt.specs.declared.telnet.Piece.{Piece}
+use Rattle.mud_nvt.specs.declared.telnet.Piece.TheVariants.{Data, Command, Request, Subnegotiation}
+use Rattle.mud_nvt.specs.Telnet.{is_verb}
+
+-- what may stand inside a subnegotiation: bytes, and IAC with another byte than SE behind it
+pub data IsInside : List ℕ → Type 0 where
+  at_end : IsInside []
+  a_byte : (b : ℕ) (bytes : List ℕ) → (b == IAC) ≡ false → IsInside bytes → IsInside (b ∷ bytes)
+  a_pair : (b : ℕ) (bytes : List ℕ) → (b == SE) ≡ false → IsInside bytes → IsInside (IAC ∷ b ∷ bytes)
+
+-- a piece, and bytes that spell it
+pub data Spells : Piece → List ℕ → Type 0 where
+  a_plain_byte : (b : ℕ) → (b == IAC) ≡ false → Spells (Data b) (b ∷ [])
+  a_doubled_iac : Spells (Data IAC) (IAC ∷ IAC ∷ [])
+  a_command : (b : ℕ) → (b == IAC) ≡ false → (b == SB) ≡ false → is_verb b ≡ false → Spells (Command b) (IAC ∷ b ∷ [])
+  a_request : (verb option : ℕ) → is_verb verb ≡ true → Spells (Request verb option) (IAC ∷ verb ∷ option ∷ [])
+  a_subnegotiation : (inside : List ℕ) → IsInside inside → Spells Subnegotiation (IAC ∷ SB ∷ (inside ++ IAC ∷ SE ∷ []))
+
+-- less than a whole piece
+pub data IsUnfinished : List ℕ → Type 0 where
+  no_byte : IsUnfinished []
+  an_iac : IsUnfinished (IAC ∷ [])
+  a_verb : (verb : ℕ) → is_verb verb ≡ true → IsUnfinished (IAC ∷ verb ∷ [])
+  an_open_subnegotiation : (inside : List ℕ) → IsInside inside → IsUnfinished (IAC ∷ SB ∷ inside)
+  an_iac_inside : (inside : List ℕ) → IsInside inside → IsUnfinished (IAC ∷ SB ∷ (inside ++ IAC ∷ []))
+
+-- the bytes are the spellings of these pieces, one after the other, and then less than a whole piece
+pub data Cuts : List ℕ → List Piece → Type 0 where
+  to_rest : (rest : List ℕ) → IsUnfinished rest → Cuts rest []
+  to_piece : (p : Piece) (front back : List ℕ) (ps : List Piece) → Spells p front → Cuts back ps → Cuts (front ++ back) (p ∷ ps)

@@ -1,0 +1,9 @@
+pub mod Telnet
+pub mod Grammar
+pub mod Editing
+pub mod Units
+pub mod Machine
+pub mod Shown
+pub mod Lines
+pub mod History
+pub mod Memory

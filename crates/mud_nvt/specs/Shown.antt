@@ -1,0 +1,17 @@
+-- What a caller sees of units: not how much room a text takes, nor where.
+use Rattle.std.specs.Prelude.{List, map}
+use Rattle.std.specs.String.{string_bytes}
+use Rattle.mud_nvt.specs.declared.Unit.{Unit as CodeUnit}
+use Rattle.mud_nvt.specs.declared.Unit.TheVariants as code
+use Rattle.mud_nvt.specs.Units.{Given, Text, TooLong, Ayt, Answer}
+
+-- a unit as a caller sees it
+abbrev pub shown : {A : Type 0} → CodeUnit A → Given
+shown (code.Text text) = Text (string_bytes text)
+shown code.TooLong = TooLong
+shown code.Ayt = Ayt
+shown (code.Answer bytes) = Answer bytes
+
+-- units as a caller sees them
+abbrev pub all_shown : {A : Type 0} → List (CodeUnit A) → List Given
+all_shown units = map shown units

@@ -1,0 +1,33 @@
+-- The units of all bytes that came.
+use Rattle.std.specs.Prelude.{ℕ, List, [], ◌∷◌, ◌++◌, if◌then◌else◌}
+use Rattle.mud_nvt.specs.declared.codes.TheConstants.{IAC}
+use Rattle.mud_nvt.specs.declared.strokes.Stroke.{Stroke}
+use Rattle.mud_nvt.specs.declared.strokes.Stroke.TheVariants.{Character, EraseCharacter, EraseLine, EndLine, AreYouThere, Refuse, Nothing}
+use Rattle.mud_nvt.specs.Telnet.{pieces}
+use Rattle.mud_nvt.specs.Editing.{strokes, line, is_too_long}
+
+-- a unit as a caller sees it, with the bytes of its text
+pub data Given : Type 0 where
+  Text : (text : List ℕ) → Given
+  TooLong : Given
+  Ayt : Given
+  Answer : (bytes : List ℕ) → Given
+
+-- the units that a stroke gives, after the earlier ones, the latest of them first
+abbrev pub units_at : List Stroke → Stroke → List Given
+units_at earlier EndLine = (if is_too_long earlier then TooLong else Text (line earlier)) ∷ []
+units_at earlier AreYouThere = Ayt ∷ []
+units_at earlier (Refuse verb option) = Answer (IAC ∷ verb ∷ option ∷ []) ∷ []
+units_at earlier (Character c) = []
+units_at earlier EraseCharacter = []
+units_at earlier EraseLine = []
+units_at earlier Nothing = []
+
+-- the units that these strokes give, each where it stands, after the earlier ones, the latest of them first
+abbrev pub units_after : List Stroke → List Stroke → List Given
+units_after earlier [] = []
+units_after earlier (s ∷ later) = units_at earlier s ++ units_after (s ∷ earlier) later
+
+-- the units of all bytes that came
+abbrev pub units : List ℕ → List Given
+units bytes = units_after [] (strokes (pieces bytes))

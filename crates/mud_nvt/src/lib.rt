@@ -1,0 +1,267 @@
+//! Lines of a network virtual terminal (NVT, RFC 854), from any cutting of the stream.
+//!
+//! A session reads a connection in pieces that may be cut anywhere. [`Nvt`] takes them in, and
+//! gives units: a whole line, a line that is too long, the question whether anyone is there, and
+//! the bytes that answer a request. [`write_line`] adds a line that is sent.
+//!
+//! ```rust
+//! let mut nvt: Nvt = Nvt::new(alloc);
+//! let mut units = Vec::new(alloc);
+//! nvt.feed(b"lo", &mut units)?;
+//! nvt.feed(b"ok\r\n", &mut units)?;
+//! for unit in &units {
+//!     match unit {
+//!         Unit::Text(line) => write_line(line.as_str(), &mut out)?,
+//!         Unit::TooLong => write_line("(line too long)", &mut out)?,
+//!         Unit::Ayt => write_line("(yes)", &mut out)?,
+//!         Unit::Answer(bytes) => out.extend_from_slice(bytes)?,
+//!     }
+//! }
+//! ```
+//!
+//! **The rules**, which `docs/TELNET.md` gives with the section of RFC 854 that each comes from:
+//! requests are refused, subnegotiations and other commands skipped; LF ends a line, and so does
+//! CR, whose very next byte is swallowed where it is LF or NUL; EC, 8 and 127 take the last
+//! character, EL the whole line; a line in which more than 1,000 characters stood at once is too
+//! long.
+//!
+//! **What is proved.** The units of all bytes are defined over the whole list, without any state
+//! (`specs/Telnet`, `specs/Editing`, `specs/Units`). Whatever pieces came, the units so far are
+//! those of all bytes so far. Where memory is refused, `feed` says how many bytes are done: the
+//! units are those up to there, the next byte is one that types a character or gives a unit, and
+//! feeding the rest goes on as if nothing had happened. Texts are of bytes 32 to 126, at most
+//! 1,000 of them. No byte makes the terminal fail. [`laws`] has what is proved of the definitions.
+//!
+//! **Time and memory.** Each byte takes constant time, but that a line that grows is copied now
+//! and then, at doubled room. A terminal holds one line of at most 1,000 characters, and nothing
+//! of a subnegotiation.
+#![tactic(auto)]
+
+ghost use Rattle.std.specs.Prelude.{◌≡◌, ◌≤◌, List, ℕ, [], ◌∷◌, ◌++◌, length, OnOk, OnErr, IfErr, IsTrue, take, ◌<◌, slice_index, All};
+ghost use Rattle.std.specs.List.{list_any};
+ghost use Rattle.mud_nvt.specs.Machine.{next, byte_units, byte_strokes, after_stroke, stroke_units};
+ghost use Rattle.mud_nvt.specs.Memory.{takes_memory, StopsBefore};
+ghost use Rattle.mud_nvt.specs.Shown.{all_shown};
+ghost use Rattle.mud_nvt.specs.Lines.{IsPlain, IsPrintable, IsSound};
+ghost use Rattle.mud_nvt.specs.History.{StandsAfter, TakesIn};
+
+mod codes;
+pub mod laws;
+mod strokes;
+mod telnet;
+
+use codes::{CR, IAC, LF};
+use std::alloc::{AllocError, Allocator, Global};
+use std::marker::Model;
+use std::mem;
+use strokes::{Stroke, is_return, stroke_of};
+use telnet::{Place, step};
+use thiserror::Error;
+
+/// The most characters that may stand in a line at once. This project's profile: RFC 854 sets no
+/// limit.
+pub const MOST: usize = 1000;
+
+/// What the bytes give, each where it is complete.
+#[derive(Debug, Drop)]
+pub enum Unit<A: Allocator = Global> {
+    /// A line that was ended by LF or CR: the characters that were left in it, bytes 32 to 126,
+    /// at most 1,000 (RFC 854, "The NVT printer and keyboard").
+    Text(String<A>),
+    /// A line that was ended, and in which more than 1,000 characters stood at once since its
+    /// start or the last EL (this project's profile).
+    TooLong,
+    /// AYT: the other side asks for a visible sign that anyone is there (RFC 854, "Standard
+    /// representation of control functions").
+    Ayt,
+    /// A request was refused: these bytes are to be sent back, WONT for DO and DONT for WILL
+    /// (RFC 854, "General considerations").
+    Answer([u8; 3]),
+}
+
+/// Memory was refused. The first `taken` bytes of the piece are done, and the rest may be fed
+/// again.
+#[derive(Clone, Copy, Debug, PartialEq, Eq, Error)]
+#[error("out of memory after {taken} bytes")]
+pub struct Stop {
+    /// How many bytes of the piece are done.
+    pub taken: usize,
+}
+
+/// The receiving side of a network virtual terminal. Its lines, and the lines that it gives, take
+/// their memory from `A`.
+#[derive(Drop)]
+pub struct Nvt<A: Allocator = Global> {
+    place: Place,
+    after_cr: bool,
+    line: String<A>,
+    is_too_long: bool,
+}
+
+impl<A: Allocator> Model for Nvt<A> {
+    ghost use Rattle.std.specs.Prelude.{◌≤◌, All};
+    ghost use Rattle.std.specs.Str.{IsAscii};
+    ghost use Rattle.std.specs.String.{string_bytes, string_len};
+    ghost use Rattle.mud_nvt.specs.Machine.{Held};
+    ghost use Rattle.mud_nvt.specs.declared.TheConstants.{MOST};
+    ghost use Rattle.mud_nvt.specs.Lines.{IsPrintable};
+
+    ghost Value = { Held };
+
+    ghost view = { λ n. record {
+      place = n.place;
+      after_cr = n.after_cr;
+      text = string_bytes n.line;
+      too_long = n.is_too_long;
+    } };
+
+    ghost invariant = { λ n. record {
+      ascii : IsAscii (string_bytes n.line);
+      printable : All IsPrintable (string_bytes n.line);
+      short : string_len n.line ≤ MOST;
+    } };
+}
+
+impl<A: Allocator + Clone + Drop> Nvt<A> {
+    /// A terminal to which nothing came.
+    pub fn new(alloc: A) -> Nvt<A>
+        ensures { StandsAfter result [] }
+    {
+        Nvt {
+            place: Place::Between,
+            after_cr: false,
+            line: String::new(alloc),
+            is_too_long: false,
+        }
+    }
+
+    /// Takes in the next bytes, and adds the units that are complete now at the end of `units`.
+    ///
+    /// The only error is a [`Stop`], where memory is refused: the first `taken` bytes are done,
+    /// and `feed` may go on with the rest, `&bytes[stop.taken..]`.
+    pub fn feed(&mut self, bytes: &[u8], units: &mut Vec<Unit<A>, A>) -> Result<(), Stop>
+        ensures ok { let before = all_shown units.old.items in
+            let after = all_shown units.new.items in
+            OnOk result (TakesIn self.old self.new before after bytes.now) }
+
+        // On a `Stop` the first bytes are taken in, and the next one is a byte that needs memory.
+        ensures stop { let before = all_shown units.old.items in
+            let after = all_shown units.new.items in
+            IfErr result (λ stop. TakesIn self.old self.new before after (take stop.taken bytes.now)) }
+        ensures taken { IfErr result (λ stop. stop.taken < length bytes.now) }
+        ensures memory { IfErr result (λ stop.
+            StopsBefore self.old (take stop.taken bytes.now) (slice_index bytes.now stop.taken)) }
+
+        // Each text is of printable characters, and of 1,000 at most.
+        ensures sound { All IsSound (all_shown units.old.items) → All IsSound (all_shown units.new.items) }
+    {
+        for (taken, byte) in bytes.iter().enumerate() {
+            match self.take_byte(*byte, units) {
+                Ok(()) => {}
+                Err(_) => return Err(Stop { taken }),
+            }
+        }
+        Ok(())
+    }
+
+    fn take_byte(&mut self, byte: u8, units: &mut Vec<Unit<A>, A>) -> Result<(), AllocError>
+        ensures state { OnOk result (self.new ≡ next self.old byte) }
+        ensures given { OnOk result (all_shown units.new.items ≡ all_shown units.old.items ++ byte_units self.old byte) }
+        ensures sound { All IsSound (all_shown units.old.items) → All IsSound (all_shown units.new.items) }
+        ensures err { OnErr result (self.new ≡ self.old) }
+        ensures err_units { OnErr result (all_shown units.new.items ≡ all_shown units.old.items) }
+        ensures memory { OnErr result (IsTrue (list_any takes_memory (byte_strokes self.old byte))) }
+    {
+        let (place, piece) = step(self.place, byte);
+        if let Some(piece) = piece {
+            self.apply(stroke_of(self.after_cr, piece), units)?;
+            self.after_cr = is_return(piece);
+        }
+        self.place = place;
+        Ok(())
+    }
+
+    fn apply(&mut self, stroke: Stroke, units: &mut Vec<Unit<A>, A>) -> Result<(), AllocError>
+        requires { IsPlain stroke }
+        ensures state { OnOk result (self.new ≡ after_stroke self.old stroke) }
+        ensures given { let fresh = stroke_units self.old.too_long self.old.text stroke in
+            OnOk result (all_shown units.new.items ≡ all_shown units.old.items ++ fresh) }
+        ensures sound { All IsSound (all_shown units.old.items) → All IsSound (all_shown units.new.items) }
+        ensures err { OnErr result (self.new ≡ self.old) }
+        ensures err_units { OnErr result (all_shown units.new.items ≡ all_shown units.old.items) }
+        ensures memory { OnErr result (IsTrue (takes_memory stroke)) }
+    {
+        match stroke {
+            Stroke::Character(byte) => self.add_character(byte)?,
+            Stroke::EraseCharacter => {
+                let len = self.line.len();
+                if len > 0 {
+                    self.line.truncate(len - 1);
+                }
+            }
+            Stroke::EraseLine => {
+                self.line.clear();
+                self.is_too_long = false;
+            }
+            Stroke::EndLine => self.end_line(units)?,
+            Stroke::AreYouThere => units.push(Unit::Ayt)?,
+            Stroke::Refuse(verb, option) => units.push(Unit::Answer([IAC, verb, option]))?,
+            Stroke::Nothing => {}
+        }
+        Ok(())
+    }
+
+    fn add_character(&mut self, byte: u8) -> Result<(), AllocError>
+        requires { IsPrintable byte }
+        ensures state { OnOk result (self.new ≡ after_stroke self.old (Stroke.Character byte)) }
+        ensures err { OnErr result (self.new ≡ self.old) }
+    {
+        if self.is_too_long {
+            return Ok(());
+        }
+        if self.line.len() < MOST {
+            self.line.push(char::from(byte))?;
+        } else {
+            self.is_too_long = true;
+        }
+        Ok(())
+    }
+
+    fn end_line(&mut self, units: &mut Vec<Unit<A>, A>) -> Result<(), AllocError>
+        ensures state { OnOk result (self.new ≡ after_stroke self.old Stroke.EndLine) }
+        ensures given { let fresh = stroke_units self.old.too_long self.old.text Stroke.EndLine in
+            OnOk result (all_shown units.new.items ≡ all_shown units.old.items ++ fresh) }
+        ensures sound { All IsSound (all_shown units.old.items) → All IsSound (all_shown units.new.items) }
+        ensures err { OnErr result (self.new ≡ self.old) }
+        ensures err_units { OnErr result (all_shown units.new.items ≡ all_shown units.old.items) }
+    {
+        units.reserve(1)?;
+        let empty = String::new(self.line.allocator().clone()?);
+        let line = mem::replace(&mut self.line, empty);
+        let unit = if self.is_too_long {
+            Unit::TooLong
+        } else {
+            Unit::Text(line)
+        };
+        self.is_too_long = false;
+        units.push(unit)?;
+        Ok(())
+    }
+}
+
+/// Adds a line that is sent: the text, CR and LF (RFC 854, "The NVT printer and keyboard").
+///
+/// The text is sent as it is, so it should be of bytes 32 to 126. Where memory is refused `out`
+/// stays as it was.
+pub fn write_line<A: Allocator>(text: &str, out: &mut Vec<u8, A>) -> Result<(), AllocError>
+    ensures ok { OnOk result (out.new.items ≡ out.old.items ++ text.now ++ CR ∷ LF ∷ []) }
+    ensures err { OnErr result (out.new.items ≡ out.old.items) }
+{
+    out.reserve(text.len() + 2)?;
+    out.extend_from_slice(text.as_bytes())?;
+    out.extend_from_slice(&[CR, LF])?;
+    Ok(())
+}
+
+#[cfg(test)]
+mod tests;

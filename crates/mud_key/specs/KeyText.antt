@@ -1,0 +1,71 @@
+-- Key texts: which text stands for which key, with no reading position.
+use Rattle.std.specs.Prelude.{ℕ, ◌<◌, ◌≤◌, List, ◌++◌, length, take, codes, Result, Ok, Err}
+use Rattle.std.specs.List.{All}
+use Rattle.mud_key.specs.declared.key_fault.KeyFault.{KeyFault}
+use Rattle.mud_key.specs.declared.key_fault.KeyFault.TheVariants.{OutOfMemory, BadKey, TooManyAtoms, NoSuch, Ambiguous}
+use Rattle.mud_key.specs.declared.operator.Operator.{Operator}
+use Rattle.mud_key.specs.declared.operator.Operator.TheVariants.{And, Or}
+use Rattle.mud_key.specs.Tree.{Tree, Has, Asks, Not, Join, IsWithinLimits}
+use Rattle.mud_key.specs.Name.{IsDigit, IsNameText}
+
+-- a sharp and one to nine digits
+pub record IsNumberText (digits : List ℕ) : Type 0 where
+  pub some : 0 < length digits
+  pub few : length digits ≤ 9
+  pub each : All IsDigit digits
+
+-- the sign of an operator
+abbrev pub sign : Operator → List ℕ
+sign And = codes "&&"
+sign Or = codes "||"
+
+-- what a text may stand as: an object, a unary, or a chain of unaries
+pub data Level : Type 0 where
+  Object : Level
+  Unary : Level
+  Chain : Level
+
+-- The grammar: at a level, a text stands for a tree. Chains group from the left, since a join has a
+-- chain on its left and a unary on its right. Parentheses leave no node.
+pub data Spells : Level → List ℕ → Tree (List ℕ) → Type 0 where
+  number : {digits : List ℕ} → IsNumberText digits → Spells Object (codes "#" ++ digits) (Has (codes "#" ++ digits))
+  name : {text : List ℕ} → IsNameText text → Spells Object text (Has text)
+  object : {x : List ℕ} {k : Tree (List ℕ)} → Spells Object x k → Spells Unary x k
+  asks : {x o : List ℕ} → Spells Object x (Has o) → Spells Unary (codes "?" ++ x) (Asks o)
+  not : {x : List ℕ} {k : Tree (List ℕ)} → Spells Unary x k → Spells Unary (codes "!" ++ x) (Not k)
+  parentheses : {x : List ℕ} {k : Tree (List ℕ)} → Spells Chain x k → Spells Unary (codes "(" ++ x ++ codes ")") k
+  unary : {x : List ℕ} {k : Tree (List ℕ)} → Spells Unary x k → Spells Chain x k
+  join : {x y : List ℕ} {a b : Tree (List ℕ)} → Spells Chain x a → (op : Operator) → Spells Unary y b → Spells Chain (x ++ sign op ++ y) (Join op a b)
+  space_before : {l : Level} {x : List ℕ} {k : Tree (List ℕ)} → Spells l x k → Spells l (codes " " ++ x) k
+  space_behind : {l : Level} {x : List ℕ} {k : Tree (List ℕ)} → Spells l x k → Spells l (x ++ codes " ") k
+
+-- the text is a key text, of this key
+abbrev pub SpellsKey : List ℕ → Tree (List ℕ) → Type 0
+SpellsKey text key = Spells Chain text key
+
+-- the text is a key text of no key
+abbrev pub IsNoKeyText : List ℕ → Type 0
+IsNoKeyText text = (key : Tree (List ℕ)) → SpellsKey text key → ⊥
+
+-- some text goes on from this one to a key text
+pub record BeginsKeyText (front : List ℕ) : Type 0 where
+  pub rest : List ℕ
+  pub key : Tree (List ℕ)
+  pub whole : SpellsKey (front ++ rest) key
+
+-- n is the length of the longest front of the text that begins some key text
+pub record IsLongestFront (text : List ℕ) (n : ℕ) : Type 0 where
+  pub within : n ≤ length text
+  pub begins : BeginsKeyText (take n text)
+  pub longest : (m : ℕ) → m ≤ length text → BeginsKeyText (take m text) → m ≤ n
+
+-- `read` answered the key of the text, within the limits; or, where the text is no key text, the
+-- length of its longest front that begins some key text; or, where the text is a key text beyond
+-- the limits, that it has too many atoms; unless memory ran out
+abbrev pub ReadsAs : List ℕ → Result (Tree (List ℕ)) KeyFault → Type 0
+ReadsAs text (Ok key) = SpellsKey text key × IsWithinLimits key
+ReadsAs text (Err OutOfMemory) = Unit {0}
+ReadsAs text (Err (BadKey at)) = IsNoKeyText text × IsLongestFront text at
+ReadsAs text (Err TooManyAtoms) = (key : Tree (List ℕ)) × SpellsKey text key × (IsWithinLimits key → ⊥)
+ReadsAs text (Err NoSuch) = ⊥
+ReadsAs text (Err Ambiguous) = ⊥

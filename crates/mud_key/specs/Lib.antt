@@ -1,0 +1,15 @@
+pub mod Class
+pub mod Tree
+pub mod TreeCode
+pub mod Name
+pub mod Names
+pub mod Parts
+pub mod Node
+pub mod KeyText
+pub mod Namer
+pub mod Printed
+pub mod Machine
+pub mod Scan
+pub mod Builder
+pub mod NameReader
+pub mod Reading

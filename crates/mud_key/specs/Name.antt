@@ -1,0 +1,32 @@
+-- What a name may be.
+use Rattle.std.specs.Prelude.{◌≡◌, ◌≢◌, ℕ, ◌≤◌, List, [], ◌∷◌, ◌++◌, length, codes}
+use Rattle.std.specs.List.{All, AllByRecursion}
+
+-- a byte that a name may have: any from 32 to 126 but these nine
+pub record IsNameByte (b : ℕ) : Type 0 where
+  pub from : 32 ≤ b
+  pub to : b ≤ 126
+  pub plain : AllByRecursion (λ c. b ≢ c) (codes "\"\\,|&!?()")
+
+-- a digit
+abbrev pub IsDigit : ℕ → Type 0
+IsDigit b = (48 ≤ b) × (b ≤ 57)
+
+-- a text that names an object in a key: name bytes, of which the first is no space and no sharp,
+-- and the last no space
+pub record IsNameText (name : List ℕ) : Type 0 where
+  pub bytes : All IsNameByte name
+  pub first : (b : ℕ) × (rest : List ℕ) × (name ≡ b ∷ rest) × (b ≢ 32) × (b ≢ 35)
+  pub last : (front : List ℕ) × (b : ℕ) × (name ≡ front ++ b ∷ []) × (b ≢ 32)
+
+-- no two spaces stand side by side
+abbrev pub HasNoTwoSpaces : List ℕ → Type 0
+HasNoTwoSpaces [] = Unit {0}
+HasNoTwoSpaces (b ∷ []) = Unit {0}
+HasNoTwoSpaces (b ∷ c ∷ rest) = (b ≡ 32 → c ≢ 32) × HasNoTwoSpaces (c ∷ rest)
+
+-- a name: such a text of at most 60 bytes, with no two spaces side by side
+pub record IsName (name : List ℕ) : Type 0 where
+  pub text : IsNameText name
+  pub short : length name ≤ 60
+  pub spaced : HasNoTwoSpaces name

@@ -1,0 +1,59 @@
+-- The text that a key is printed as.
+use Rattle.std.specs.Prelude.{ℕ, ◌≤◌, ◌+◌, List, [], ◌∷◌, ◌++◌, codes, nat_eq, if◌then◌else◌, ◌≡◌, Result, Ok}
+use Rattle.std.specs.Fmt.{decimal}
+use Rattle.mud_key.specs.Tree.{Tree, Has, Asks, Not, Join}
+use Rattle.mud_key.specs.declared.namer.Miss.{Miss}
+use Rattle.mud_key.specs.Namer.{resolved}
+use Rattle.mud_key.specs.KeyText.{SpellsKey, sign}
+
+-- the text of an object: a sharp and its number
+abbrev pub number_text : ℕ → List ℕ
+number_text n = codes "#" ++ decimal n
+
+-- the key with each object n replaced by its text `#n`
+abbrev pub by_text : Tree ℕ → Tree (List ℕ)
+by_text (Has n) = Has (number_text n)
+by_text (Asks n) = Asks (number_text n)
+by_text (Not k) = Not (by_text k)
+by_text (Join op a b) = Join op (by_text a) (by_text b)
+
+-- the text of a key where a unary is wanted: in parentheses if the key joins two
+abbrev pub enclosed : Tree (List ℕ) → List ℕ → List ℕ
+enclosed (Join op a b) text = codes "(" ++ text ++ codes ")"
+enclosed (Has o) text = text
+enclosed (Asks o) text = text
+enclosed (Not k) text = text
+
+-- the printed text of a key
+abbrev pub printed : Tree (List ℕ) → List ℕ
+printed (Has o) = o
+printed (Asks o) = codes "?" ++ o
+printed (Not k) = codes "!" ++ enclosed k (printed k)
+printed (Join op a b) = printed a ++ codes " " ++ sign op ++ codes " " ++ enclosed b (printed b)
+
+-- how many parentheses a text opens
+abbrev pub opens : List ℕ → ℕ
+opens [] = 0
+opens (b ∷ text) = (if nat_eq b 40 then 1 else 0) + opens text
+
+-- no key text of the key has fewer parentheses
+abbrev pub HasLeastParentheses : List ℕ → Tree (List ℕ) → Type 0
+HasLeastParentheses text key = (other : List ℕ) → SpellsKey other key → opens text ≤ opens other
+
+-- the text is a key text, and it is read as this key wherever each text `#n` means n
+pub record ReadsBack (text : List ℕ) (key : Tree ℕ) : Type 0 where
+  pub is_key_text : (read : Tree (List ℕ)) × SpellsKey text read
+  pub again : (read : Tree (List ℕ)) → SpellsKey text read → (meaning : List ℕ → Result ℕ Miss) → ((n : ℕ) → n ≤ 8191 → meaning (number_text n) ≡ Ok n) → resolved meaning read ≡ Ok key
+
+-- the parentheses that `enclosed` puts round a key, or none; clauses of private parts alone cite them
+abbrev pub opening_of : Tree (List ℕ) → List ℕ
+opening_of (Join op a b) = codes "("
+opening_of (Has o) = []
+opening_of (Asks o) = []
+opening_of (Not k) = []
+
+abbrev pub closing_of : Tree (List ℕ) → List ℕ
+closing_of (Join op a b) = codes ")"
+closing_of (Has o) = []
+closing_of (Asks o) = []
+closing_of (Not k) = []

@@ -1,0 +1,64 @@
+-- What the readers find, as functions of the text, for definitions that compute with it. By
+-- the laws of this crate they find exactly what the relations say.
+use Rattle.std.specs.Prelude.{◌≡◌, ◌↔◌, ℕ, Bool, ◌&&◌, nat_le, List, [], Option, Some, None, Result, Ok, Err, if◌then◌else◌}
+use Rattle.std.specs.Option.{option_and_then}
+use Rattle.mud_key.specs.declared.names.NamesFault.{NamesFault}
+use Rattle.mud_key.specs.declared.names.NamesFault.TheVariants.{OutOfMemory as NoMemory, BadName}
+use Rattle.mud_key.specs.declared.key_fault.KeyFault.{KeyFault}
+use Rattle.mud_key.specs.declared.key_fault.KeyFault.TheVariants.{OutOfMemory, BadKey, TooManyAtoms, NoSuch, Ambiguous}
+use Rattle.mud_key.specs.Tree.{Tree, objects_of, nots_of, IsWithinLimits}
+use Rattle.mud_key.specs.Name.{IsName}
+use Rattle.mud_key.specs.Names.{IsNamesText, is_only}
+use Rattle.mud_key.specs.NameReader.{name_run, name_start, settled}
+use Rattle.mud_key.specs.KeyText.{SpellsKey}
+use Rattle.mud_key.specs.Machine as machine
+use Rattle.mud_key.specs.Builder.{outer_settled}
+
+-- the names of a text, where it is a names text
+unfoldable pub names_in : List ℕ → Option (List (List ℕ))
+names_in text = option_and_then settled (name_run (Some name_start) text)
+
+-- the name that a text is, where it is one
+unfoldable pub name_in : List ℕ → Option (List ℕ)
+name_in text = option_and_then (λ names. if is_only text names then Some text else None) (names_in text)
+
+-- no more objects and `!` than a key can have
+abbrev pub is_within_limits : Tree (List ℕ) → Bool
+is_within_limits key = nat_le (objects_of key) 16 && nat_le (nots_of key) 64
+
+-- the key of a text, where it is a key text within the limits
+unfoldable pub key_in : List ℕ → Option (Tree (List ℕ))
+key_in text =
+    option_and_then (λ key. if is_within_limits key then Some key else None)
+    (option_and_then (λ s. outer_settled s.0 s.1) (machine.run machine.start text))
+
+-- unless memory ran out, the names that were found, or a fault where none were
+abbrev pub FindsNames : List ℕ → Result (List (List ℕ)) NamesFault → Type 0
+FindsNames text (Ok names) = names_in text ≡ Some names
+FindsNames text (Err NoMemory) = Unit {0}
+FindsNames text (Err BadName) = names_in text ≡ None
+
+abbrev pub FindsName : List ℕ → Result (List ℕ) NamesFault → Type 0
+FindsName text (Ok name) = name_in text ≡ Some name
+FindsName text (Err NoMemory) = Unit {0}
+FindsName text (Err BadName) = name_in text ≡ None
+
+abbrev pub FindsKey : List ℕ → Result (Tree (List ℕ)) KeyFault → Type 0
+FindsKey text (Ok key) = key_in text ≡ Some key
+FindsKey text (Err OutOfMemory) = Unit {0}
+FindsKey text (Err (BadKey at)) = key_in text ≡ None
+FindsKey text (Err TooManyAtoms) = key_in text ≡ None
+FindsKey text (Err NoSuch) = ⊥
+FindsKey text (Err Ambiguous) = ⊥
+
+-- the names found are those of the names text
+abbrev pub AreTheNames : Type 0
+AreTheNames = (text : List ℕ) (names : List (List ℕ)) → (names_in text ≡ Some names) ↔ IsNamesText text names
+
+-- a name is found exactly in itself
+abbrev pub IsTheName : Type 0
+IsTheName = (text name : List ℕ) → (name_in text ≡ Some name) ↔ ((name ≡ text) × IsName text)
+
+-- the key found is that of the key text, within the limits
+abbrev pub IsTheKey : Type 0
+IsTheKey = (text : List ℕ) (key : Tree (List ℕ)) → (key_in text ≡ Some key) ↔ (SpellsKey text key × IsWithinLimits key)

@@ -1,0 +1,63 @@
+-- A key as a tree.
+use Rattle.std.specs.Prelude.{ℕ, ◌+◌, ◌≤◌, List, [], ◌∷◌, ◌++◌}
+use Rattle.mud_key.specs.declared.operator.Operator.{Operator}
+
+-- A key over objects of one kind: texts where it is written, numbers where it is resolved. It has
+-- an object, or asks an object by `?`, or is `!` and a key, or joins two keys by `&&` or `||`.
+pub data Tree (O : Type 0) : Type 0 where
+  Has : O → Tree O
+  Asks : O → Tree O
+  Not : Tree O → Tree O
+  Join : Operator → Tree O → Tree O → Tree O
+
+-- in how many places of the key an object stands
+abbrev pub objects_of : {O : Type 0} → Tree O → ℕ
+objects_of (Has o) = 1
+objects_of (Asks o) = 1
+objects_of (Not k) = objects_of k
+objects_of (Join op a b) = objects_of a + objects_of b
+
+-- how many `!` stand in the key
+abbrev pub nots_of : {O : Type 0} → Tree O → ℕ
+nots_of (Has o) = 0
+nots_of (Asks o) = 0
+nots_of (Not k) = nots_of k + 1
+nots_of (Join op a b) = nots_of a + nots_of b
+
+-- how many nodes the key has
+abbrev pub size_of : {O : Type 0} → Tree O → ℕ
+size_of (Has o) = 1
+size_of (Asks o) = 1
+size_of (Not k) = size_of k + 1
+size_of (Join op a b) = size_of a + size_of b + 1
+
+-- P holds of each object of the key
+abbrev pub AllObjects : {O : Type 0} → (O → Type 0) → Tree O → Type 0
+AllObjects P (Has o) = P o
+AllObjects P (Asks o) = P o
+AllObjects P (Not k) = AllObjects P k
+AllObjects P (Join op a b) = AllObjects P a × AllObjects P b
+
+-- the key has at most 16 objects and at most 64 `!`
+pub record IsWithinLimits {O : Type 0} (key : Tree O) : Type 0 where
+  pub objects : objects_of key ≤ 16
+  pub nots : nots_of key ≤ 64
+
+-- what is true of every key over numbers: it is within the limits, and no number is above 8,191
+pub record IsKey (key : Tree ℕ) : Type 0 where
+  pub limits : IsWithinLimits key
+  pub numbers : AllObjects (λ n. n ≤ 8191) key
+
+-- the objects of the key, each as often as it stands there, in the order of the text
+abbrev pub atoms_of : Tree ℕ → List ℕ
+atoms_of (Has n) = n ∷ []
+atoms_of (Asks n) = n ∷ []
+atoms_of (Not k) = atoms_of k
+atoms_of (Join op a b) = atoms_of a ++ atoms_of b
+
+-- the objects of the key that stand behind `?`, in the order of the text
+abbrev pub asks_of : Tree ℕ → List ℕ
+asks_of (Has n) = []
+asks_of (Asks n) = n ∷ []
+asks_of (Not k) = asks_of k
+asks_of (Join op a b) = asks_of a ++ asks_of b

@@ -1,0 +1,26 @@
+//! The parts of a text at its commas.
+
+ghost use Rattle.std.specs.Prelude.{◌≡◌, IfOk, map, string_bytes};
+ghost use Rattle.mud_key.specs.Parts.{parts_of, without_outer_spaces};
+
+use std::alloc::{AllocError, Global};
+
+/// The parts of the text: what stands between its commas, each without the spaces at its ends.
+/// A text without a comma is one part, and a part may be empty. Every other character is kept,
+/// also one past ASCII (docs/KEYS.md, "Parts").
+pub fn parts(alloc: Global, text: &str) -> Result<Vec<String>, AllocError>
+    ensures { IfOk result (λ parts. map string_bytes parts.items ≡ parts_of text.now) }
+{
+    let mut parts = Vec::new(alloc);
+    for stretch in text.split(',') {
+        parts.push(String::from_str(alloc, without_outer_spaces(stretch))?)?;
+    }
+    Ok(parts)
+}
+
+/// The text without the spaces at its ends.
+fn without_outer_spaces(text: &str) -> &str
+    ensures { result.now ≡ without_outer_spaces text.now }
+{
+    text.trim_start_matches(' ').trim_end_matches(' ')
+}

@@ -1,0 +1,127 @@
+//! A key over objects.
+
+ghost use Rattle.std.specs.Prelude.{◌≡◌, ◌≤◌, ◌++◌, IfOk, OnOk};
+ghost use Rattle.mud_key.specs.Tree.{IsKey, size_of, atoms_of, asks_of};
+ghost use Rattle.mud_key.specs.Node.{key_of};
+
+use crate::node::Node;
+use std::alloc::{AllocError, Global};
+use std::marker::Model;
+
+/// A key: its objects are numbers from 0 to 8,191. It has at most 16 objects and 64 `!`
+/// (docs/KEYS.md, "Keys"). A contract sees its tree.
+#[derive(Drop)]
+pub struct Key {
+    tree: Node<u32>,
+}
+
+impl Model for Key {
+    ghost use Rattle.std.specs.Prelude.{ℕ};
+    ghost use Rattle.mud_key.specs.Tree.{Tree, IsKey};
+    ghost use Rattle.mud_key.specs.TreeCode.{coded_number_tree};
+    ghost use Rattle.mud_key.specs.Node.{key_of};
+
+    ghost Value = { Tree ℕ };
+
+    ghost coded = { coded_number_tree };
+
+    ghost view = { λ k. key_of k.tree };
+
+    ghost invariant = { λ k. IsKey (key_of k.tree) };
+}
+
+impl Key {
+    /// The key with this node on top.
+    pub(crate) fn of(tree: Node<u32>) -> Key
+        requires { IsKey (key_of tree) }
+        ensures { result ≡ key_of tree }
+    {
+        Key { tree }
+    }
+
+    /// The node on top, from which a recursion goes down. By `small` such a recursion and one over
+    /// levels of keys have a measure together: 96 times the levels, and the size.
+    pub fn node(&self) -> &Node<u32>
+        ensures node { key_of result.now ≡ self.now }
+        ensures key { IsKey self.now }
+        ensures small { size_of self.now ≤ 95 }
+    {
+        &self.tree
+    }
+
+    /// An equal key.
+    pub fn copy(&self, alloc: Global) -> Result<Key, AllocError>
+        ensures { IfOk result (λ key. key ≡ self.now) }
+    {
+        Ok(Key::of(copy_node(alloc, self.node())?))
+    }
+}
+
+fn copy_node(alloc: Global, node: &Node<u32>) -> Result<Node<u32>, AllocError>
+    ensures { IfOk result (λ k. key_of k ≡ key_of node.now) }
+{
+    match node {
+        Node::Has(n) => Ok(Node::Has(*n)),
+        Node::Asks(n) => Ok(Node::Asks(*n)),
+        Node::Not(k) => {
+            let k = copy_node(alloc, k)?;
+            Ok(Node::Not(Box::new(alloc, k)?))
+        }
+        Node::Join(operator, a, b) => {
+            let a = copy_node(alloc, a)?;
+            let b = copy_node(alloc, b)?;
+            Ok(Node::Join(*operator, Box::new(alloc, a)?, Box::new(alloc, b)?))
+        }
+    }
+}
+
+/// The objects, each as often as it stands in the key, in the order of its text.
+pub fn atoms(alloc: Global, key: &Key) -> Result<Vec<u32>, AllocError>
+    ensures { IfOk result (λ v. v.items ≡ atoms_of key.now) }
+{
+    let mut out = Vec::new(alloc);
+    push_atoms(&mut out, key.node())?;
+    Ok(out)
+}
+
+fn push_atoms(out: &mut Vec<u32>, node: &Node<u32>) -> Result<(), AllocError>
+    ensures { OnOk result (out.new.items ≡ out.old.items ++ atoms_of (key_of node.now)) }
+{
+    match node {
+        Node::Has(n) | Node::Asks(n) => {
+            out.push(*n)?;
+            Ok(())
+        }
+        Node::Not(k) => push_atoms(out, k),
+        Node::Join(_, a, b) => {
+            push_atoms(out, a)?;
+            push_atoms(out, b)
+        }
+    }
+}
+
+/// The objects behind `?`, each as often as it stands there, in the order of the text.
+pub fn asks(alloc: Global, key: &Key) -> Result<Vec<u32>, AllocError>
+    ensures { IfOk result (λ v. v.items ≡ asks_of key.now) }
+{
+    let mut out = Vec::new(alloc);
+    push_asks(&mut out, key.node())?;
+    Ok(out)
+}
+
+fn push_asks(out: &mut Vec<u32>, node: &Node<u32>) -> Result<(), AllocError>
+    ensures { OnOk result (out.new.items ≡ out.old.items ++ asks_of (key_of node.now)) }
+{
+    match node {
+        Node::Has(_) => Ok(()),
+        Node::Asks(n) => {
+            out.push(*n)?;
+            Ok(())
+        }
+        Node::Not(k) => push_asks(out, k),
+        Node::Join(_, a, b) => {
+            push_asks(out, a)?;
+            push_asks(out, b)
+        }
+    }
+}

@@ -1,0 +1,68 @@
+//! Names of objects, and keys: the expressions that a lock holds.
+//!
+//! An object has 1 to 4 names, which are read from a names text as `brass key, key`. A lock holds
+//! a key, an expression over objects as `#4 || #1 && ?chest`. The manner of keys is that of
+//! LambdaCore; the grammar, the limits and the rules of names are this project's own profile,
+//! and stand in docs/KEYS.md.
+//!
+//! | Call | What it does |
+//! |---|---|
+//! | [`Names::read`], [`Name::read`] | reads a names text, a single name |
+//! | [`Names::list`], [`Names::first`], [`Names::copy`] | all names, the one that is shown, equal names |
+//! | [`Names::of`], [`Names::has`] | one name as names, whether a text is one of them |
+//! | [`parts`] | cuts a text at its commas |
+//! | [`read`] | reads a key text: its objects stay texts |
+//! | [`resolve`] | replaces each text by the number of the object that a [`Namer`] gives |
+//! | [`print()`] | prints a key with the least parentheses |
+//! | [`atoms`], [`asks`] | lists the objects of a key, and those behind `?` |
+//! | [`Key::node`], [`KeyText::node`] | the tree, to go down in |
+//! | [`Key::copy`] | an equal key |
+//!
+//! ```text
+//! let names = mud_key::Names::read(alloc, " brass key, key ")?;
+//! names.first()                                        // `brass key`
+//! let text = mud_key::read(alloc, "#4||(#1 && ? #5)")?;
+//! let key = mud_key::resolve(alloc, &text, &namer)?;
+//! mud_key::print(alloc, &key)?                         // `#4 || (#1 && ?#5)`
+//! mud_key::read(alloc, "#4 || #1x")                    // BadKey(8)
+//! ```
+//!
+//! What is proved: exactly the names texts and exactly the key texts within the limits are read,
+//! with the names and the tree that the definitions give, which are the only ones; each fault comes
+//! exactly where its condition holds; the printed text is that of the definition, has as few
+//! parentheses as any text of the key, and reads back as the key; the rest answers as its
+//! definition says. A want of memory is an error of its own everywhere, and changes no argument.
+//! No call recurses along a text that comes from outside: a reader keeps its own stack on the heap.
+#![tactic(auto)]
+
+mod builder;
+mod class;
+mod commas;
+mod draft;
+mod front;
+mod key;
+mod key_fault;
+mod key_text;
+pub mod laws;
+mod name;
+mod name_reader;
+mod namer;
+mod names;
+mod node;
+mod operator;
+mod place;
+mod printing;
+mod scan;
+#[cfg(test)]
+mod tests;
+
+pub use commas::parts;
+pub use key::{Key, asks, atoms};
+pub use key_fault::KeyFault;
+pub use key_text::{KeyText, read};
+pub use name::Name;
+pub use namer::{Miss, Namer, resolve};
+pub use names::{Names, NamesFault};
+pub use node::Node;
+pub use operator::Operator;
+pub use printing::print;

@@ -1,0 +1,77 @@
+//! A single name.
+
+ghost use Rattle.std.specs.Prelude.{◌≡◌, [], ◌∷◌, IfOk, map, string_bytes};
+ghost use Rattle.mud_key.specs.Name.{IsName};
+ghost use Rattle.mud_key.specs.Names.{NameReadsAs, is_only};
+ghost use Rattle.mud_key.specs.Reading.{FindsName};
+
+use crate::names::{Names, NamesFault};
+use std::alloc::{AllocError, Global};
+use std::marker::Model;
+
+/// One name: 1 to 60 bytes (docs/KEYS.md, "Names"). A contract sees its text.
+#[derive(Drop)]
+pub struct Name {
+    text: String,
+}
+
+impl Model for Name {
+    ghost use Rattle.std.specs.Prelude.{ℕ, List, string_bytes};
+
+    ghost Value = { List ℕ };
+
+    ghost view = { λ a. string_bytes a.text };
+
+    ghost use Rattle.mud_key.specs.Name.{IsName};
+
+    ghost invariant = { λ a. IsName (string_bytes a.text) };
+}
+
+impl Name {
+    /// The name that a text is. No space is dropped, and no comma parts it: exactly the names are
+    /// read.
+    pub fn read(alloc: Global, text: &str) -> Result<Name, NamesFault>
+        ensures reads { NameReadsAs text.now result }
+        ensures finds { FindsName text.now result }
+    {
+        let names = match Names::read(alloc, text) {
+            Ok(names) => names,
+            Err(fault) => return Err(fault),
+        };
+        if is_only(text, names.list()) {
+            Ok(Name {
+                text: String::from_str(alloc, text)?,
+            })
+        } else {
+            Err(NamesFault::BadName)
+        }
+    }
+
+    /// The text of the name.
+    pub fn as_str(&self) -> &str
+        ensures text { result.now ≡ self.now }
+        ensures name { IsName self.now }
+    {
+        &self.text
+    }
+
+    /// An equal name.
+    pub fn copy(&self, alloc: Global) -> Result<Name, AllocError>
+        ensures { IfOk result (λ name. name ≡ self.now) }
+    {
+        let _ = &self.text;
+        Ok(Name {
+            text: self.text.clone()?,
+        })
+    }
+}
+
+// Whether the names are this text alone.
+fn is_only(text: &str, names: &[String]) -> bool
+    ensures { result ≡ is_only text.now (map string_bytes names.now) }
+{
+    match names {
+        [name] => name.as_bytes() == text.as_bytes(),
+        _ => false,
+    }
+}

@@ -1,0 +1,135 @@
+//! The names of an object.
+
+ghost use Rattle.std.specs.Prelude.{◌≡◌, [], ◌∷◌, IfOk, map, string_bytes};
+ghost use Rattle.std.specs.List.{list_any};
+ghost use Rattle.std.specs.Str.{str_eq_ignore_ascii_case};
+ghost use Rattle.mud_key.specs.Reading.{FindsNames};
+ghost use Rattle.mud_key.specs.Names.{NamesReadAs, AreNames, first_of};
+ghost use Rattle.mud_key.specs.Parts.{parts_of};
+
+use crate::name::Name;
+use crate::name_reader::NameReader;
+use std::alloc::{AllocError, Global};
+use std::marker::Model;
+use thiserror::Error;
+
+/// Why a text gave no names (docs/KEYS.md, "Names").
+#[derive(Debug, Drop, Error)]
+pub enum NamesFault {
+    /// Memory ran out.
+    #[error("out of memory")]
+    OutOfMemory,
+    /// The text is no names text: not 1 to 4 names.
+    #[error("bad name")]
+    BadName,
+}
+
+impl From<AllocError> for NamesFault {
+    ghost use Rattle.std.specs.Prelude.{◌≡◌};
+    ghost use Rattle.mud_key.specs.declared.names.NamesFault.TheVariants.{OutOfMemory};
+
+    ghost from_gives = { λ _ e. e ≡ OutOfMemory };
+
+    fn from(_e: AllocError) -> NamesFault {
+        NamesFault::OutOfMemory
+    }
+}
+
+/// The 1 to 4 names of an object, the first of which is shown (docs/KEYS.md, "Names"). A
+/// contract sees the list of their texts.
+#[derive(Drop)]
+pub struct Names {
+    list: Vec<String>,
+}
+
+impl Model for Names {
+    ghost use Rattle.std.specs.Prelude.{ℕ, List, map, string_bytes};
+
+    ghost Value = { List (List ℕ) };
+
+    ghost view = { λ a. map string_bytes a.list.items };
+
+    ghost use Rattle.mud_key.specs.Names.{AreNames};
+
+    ghost invariant = { λ a. AreNames (map string_bytes a.list.items) };
+}
+
+impl Names {
+    /// The names of a text: separated by commas, with spaces round each, which are dropped.
+    /// Exactly the names texts are read (docs/KEYS.md, "Names"); any other text is `BadName`.
+    pub fn read(alloc: Global, text: &str) -> Result<Names, NamesFault>
+        ensures reads { NamesReadAs text.now result }
+        ensures finds { FindsNames text.now result }
+
+        // The names are the parts of the text; a text is bad only where its parts are no names.
+        ensures parts { IfOk result (λ names. names ≡ parts_of text.now) }
+        ensures bad { result ≡ Err NamesFault.BadName → ¬ AreNames (parts_of text.now) }
+    {
+        Names::read_text(alloc, text)
+    }
+
+    fn read_text(alloc: Global, text: &str) -> Result<Names, NamesFault>
+        ensures reads { NamesReadAs text.now result }
+        ensures parts { IfOk result (λ names. names ≡ parts_of text.now) }
+        ensures bad { result ≡ Err NamesFault.BadName → ¬ AreNames (parts_of text.now) }
+    {
+        let mut reader = NameReader::new(alloc);
+        for byte in text.as_bytes() {
+            match reader.next(alloc, *byte)? {
+                Some(next) => reader = next,
+                None => return Err(NamesFault::BadName),
+            }
+        }
+        match reader.settle()? {
+            Some(list) => Ok(Names { list }),
+            None => Err(NamesFault::BadName),
+        }
+    }
+
+    /// One name as the names of an object.
+    pub fn of(alloc: Global, name: Name) -> Result<Names, AllocError>
+        ensures { IfOk result (λ names. names ≡ name ∷ []) }
+    {
+        let mut list = Vec::with_capacity(alloc, 1)?;
+        list.push(String::from_str(alloc, name.as_str())?)?;
+        Ok(Names { list })
+    }
+
+    /// Whether a text is one of the names, ASCII case ignored.
+    pub fn has(&self, text: &str) -> bool
+        ensures { result ≡ list_any (str_eq_ignore_ascii_case text.now) self.now }
+    {
+        for name in &self.list {
+            if text.eq_ignore_ascii_case(name) {
+                return true;
+            }
+        }
+        false
+    }
+
+    /// The names, 1 to 4, in the order of their text.
+    pub fn list(&self) -> &[String]
+        ensures list { map string_bytes result.now ≡ self.now }
+        ensures names { AreNames self.now }
+    {
+        self.list.as_slice()
+    }
+
+    /// The first name, which is the one that is shown.
+    pub fn first(&self) -> &str
+        ensures { result.now ≡ first_of self.now }
+    {
+        self.list[0].as_str()
+    }
+
+    /// Equal names.
+    pub fn copy(&self, alloc: Global) -> Result<Names, AllocError>
+        ensures { IfOk result (λ names. names ≡ self.now) }
+    {
+        let mut list = Vec::with_capacity(alloc, self.list.len())?;
+        for name in &self.list {
+            list.push(name.clone()?)?;
+        }
+        Ok(Names { list })
+    }
+}

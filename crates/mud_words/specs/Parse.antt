@@ -1,0 +1,39 @@
+-- What a line says.
+use Rattle.std.specs.Prelude.{ℕ, ◌+◌, List, [], ◌∷◌, length, take, drop, Option, None, Some}
+use Rattle.std.specs.List.{join_with_byte}
+use Rattle.mud_words.specs.Words.{words, after_first_word, without_front, without_back, spelled_out}
+use Rattle.mud_words.specs.Line.{Line}
+use Rattle.mud_words.specs.Prepositions.{Found, lower, counted}
+
+-- the words, joined by one space
+abbrev pub joined : List (List ℕ) → List ℕ
+joined ws = join_with_byte 32 ws
+
+-- the text after the first word, without the spaces at its ends
+abbrev pub rest_of : List ℕ → List ℕ
+rest_of text = without_back (without_front (after_first_word text))
+
+-- the objects round a preposition: the words before it are direct, those behind it indirect; without one all are direct
+abbrev pub round : List ℕ → List (List ℕ) → List ℕ → Option Found → Line
+round verb args rest None = record { verb = verb; args = args; direct = joined args; prep = None; indirect = []; rest = rest }
+round verb args rest (Some f) = record {
+  verb = verb;
+  args = args;
+  direct = joined (take f.place args);
+  prep = Some f.phrase.prep;
+  indirect = joined (drop (f.place + length f.phrase.words) args);
+  rest = rest;
+}
+
+-- the arguments parted at the preposition that counts
+abbrev pub split : List ℕ → List (List ℕ) → List ℕ → Line
+split verb args rest = round verb args rest (counted args)
+
+-- what some words say, of which the first is the verb
+abbrev pub said : List (List ℕ) → List ℕ → Line
+said [] rest = record { verb = []; args = []; direct = []; prep = None; indirect = []; rest = rest }
+said (verb ∷ args) rest = split (lower verb) args rest
+
+-- what a line says: what its words say, with the text behind the first of them
+unfoldable pub parsed : List ℕ → Line
+parsed line = said (words line) (rest_of (spelled_out (without_front line)))

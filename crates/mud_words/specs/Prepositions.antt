@@ -1,0 +1,79 @@
+-- The prepositions, and which one counts among the words of a line.
+use Rattle.std.specs.Prelude.{◌≡◌, ℕ, ◌+◌, ◌≤◌, ◌==◌, Bool, List, [], ◌∷◌, ◌++◌, length, take, drop, filter, map, codes, Option, None, Some}
+use Rattle.std.specs.Char.{to_ascii_lowercase}
+use Rattle.std.specs.List.{slice_split, starts_with, find, Contains}
+use Rattle.std.specs.Str.{bytes_eq}
+use Rattle.mud_words.specs.Words.{is_space}
+use Rattle.mud_words.specs.declared.Prep.{Prep}
+use Rattle.mud_words.specs.declared.Prep.TheVariants.{With, To, InFrontOf, In, OnTopOf, OutOf, Over, Through, Under, Behind, Beside, For, Is, As, Off}
+
+-- a preposition as it is said: which one, and its words
+pub record Phrase : Type 0 where
+  pub prep : Prep
+  pub words : List (List ℕ)
+
+-- a preposition and the phrases that say it
+abbrev pub row : Prep → List (List ℕ) → List Phrase
+row prep phrases = map (λ phrase. record { prep = prep; words = slice_split is_space phrase }) phrases
+
+-- the table of prepositions: a row a preposition
+abbrev pub table : List Phrase
+table =
+    row With (codes "with" ∷ codes "using" ∷ [])
+    ++ row To (codes "at" ∷ codes "to" ∷ [])
+    ++ row InFrontOf (codes "in front of" ∷ [])
+    ++ row In (codes "in" ∷ codes "inside" ∷ codes "into" ∷ [])
+    ++ row OnTopOf (codes "on top of" ∷ codes "on" ∷ codes "onto" ∷ codes "upon" ∷ [])
+    ++ row OutOf (codes "out of" ∷ codes "from inside" ∷ codes "from" ∷ [])
+    ++ row Over (codes "over" ∷ [])
+    ++ row Through (codes "through" ∷ [])
+    ++ row Under (codes "under" ∷ codes "underneath" ∷ codes "beneath" ∷ [])
+    ++ row Behind (codes "behind" ∷ [])
+    ++ row Beside (codes "beside" ∷ [])
+    ++ row For (codes "for" ∷ codes "about" ∷ [])
+    ++ row Is (codes "is" ∷ [])
+    ++ row As (codes "as" ∷ [])
+    ++ row Off (codes "off" ∷ codes "off of" ∷ [])
+
+-- the letters of a word in lower case
+abbrev pub lower : List ℕ → List ℕ
+lower word = map to_ascii_lowercase word
+
+-- a phrase and the place among the words of a line where it stands
+pub record Found : Type 0 where
+  pub place : ℕ
+  pub phrase : Phrase
+
+-- a phrase of the table stands at that place, whatever the case of its letters
+pub record Stands (args : List (List ℕ)) (f : Found) : Type 0 where
+  pub listed : Contains table f.phrase
+  pub here : map lower (take (length f.phrase.words) (drop f.place args)) ≡ map lower f.phrase.words
+
+-- the preposition that counts: none stands at an earlier place, and none longer at the same place
+pub record Counts (args : List (List ℕ)) (f : Found) : Type 0 where
+  pub stands : Stands args f
+  pub earliest : (g : Found) → Stands args g → f.place ≤ g.place
+  pub longest : (g : Found) → Stands args g → g.place ≡ f.place → length g.phrase.words ≤ length f.phrase.words
+
+-- the words begin with those of a phrase, whatever the case of their letters
+abbrev pub begins : List (List ℕ) → List (List ℕ) → Bool
+begins words phrase = starts_with bytes_eq (map lower words) (map lower phrase)
+
+-- the phrases of so many words
+abbrev pub of_length : ℕ → List Phrase
+of_length n = filter (λ p. length p.words == n) table
+
+-- the longest phrase that the words begin with; the longest of all has three words
+unfoldable pub phrase_at : List (List ℕ) → Option Phrase
+phrase_at words = find (λ p. begins words p.words) (of_length 3 ++ of_length 2 ++ of_length 1)
+
+-- a phrase at the first word, or else what stands among the others, one word further on
+abbrev pub or_later : Option Phrase → Option Found → Option Found
+or_later (Some phrase) later = Some (record { place = 0; phrase = phrase })
+or_later None None = None
+or_later None (Some f) = Some (record f { place = f.place + 1 })
+
+-- the preposition that counts, sought word by word: the law `laws::preposition` says that it is the one of `Counts`
+unfoldable pub counted : List (List ℕ) → Option Found
+counted [] = None
+counted (w ∷ ws) = or_later (phrase_at (w ∷ ws)) (counted ws)

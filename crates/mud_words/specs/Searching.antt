@@ -1,0 +1,22 @@
+-- What the code's own values are seen as, cited by private clauses alone.
+use Rattle.std.specs.Prelude.{ℕ, ◌+◌, List, map, length}
+use Rattle.std.specs.Borrow.{Bor}
+use Rattle.mud_words.specs.Prepositions.{Phrase, Found}
+use Rattle.mud_words.specs.declared.Prep.{Prep}
+use Rattle.mud_words.specs.declared.prepositions.Spot.{Spot}
+
+-- which preposition it is, and the places before and behind its words
+abbrev pub spot_of : Found → Spot
+spot_of f = record { prep = f.phrase.prep; start = f.place; end = f.place + length f.phrase.words }
+
+-- which preposition it is, and how many words it has
+abbrev pub phrase_len : Phrase → Prep × ℕ
+phrase_len p = (p.prep, length p.words)
+
+-- the texts that a row of the code's table points to
+abbrev pub texts : List (Bor (List ℕ)) → List (List ℕ)
+texts phrase = map (λ t. t.now) phrase
+
+-- a row of the code's table
+abbrev pub shown : Prep × Bor (List (Bor (List ℕ))) → Phrase
+shown p = record { prep = p.0; words = texts p.1.now }

@@ -1,0 +1,92 @@
+-- The words of a line, a list of bytes.
+use Rattle.std.specs.Prelude.{ℕ, ◌+◌, Bool, true, false, not, ◌&&◌, ◌||◌, ◌==◌, if◌then◌else◌, List, [], ◌∷◌, ◌++◌, drop, filter, map, reverse, codes}
+use Rattle.std.specs.List.{slice_split, flat_map, list_all, position_or_len}
+use Rattle.mud_words.specs.declared.piece.Piece.{Piece}
+use Rattle.mud_words.specs.declared.piece.Piece.TheVariants.{Gap, Mark, Char}
+
+-- ---- what each byte is
+-- A byte is a gap (a space between words), a mark (a quote or a backslash, which belongs to a word and is no character of it)
+-- or a character, by whether a quote is open and whether a backslash stands right before; 92 is a backslash, 34 a quote, 32 a space.
+abbrev pub piece : Bool → Bool → ℕ → Piece
+piece quoted escaped b =
+    if not escaped && (b == 92 || b == 34) then Mark
+    else if not escaped && not quoted && b == 32 then Gap
+    else Char b
+
+-- whether a quote is open behind the byte
+abbrev pub quoted_after : Bool → Bool → ℕ → Bool
+quoted_after quoted escaped b = if not escaped && b == 34 then not quoted else quoted
+
+-- whether the byte makes the next one stand for itself
+abbrev pub escaped_after : Bool → ℕ → Bool
+escaped_after escaped b = not escaped && b == 92
+
+-- what each byte of a line is; the laws of `laws.rt` say the same of whole lines
+abbrev pub pieces_from : Bool → Bool → List ℕ → List Piece
+pieces_from quoted escaped [] = []
+pieces_from quoted escaped (b ∷ bs) = piece quoted escaped b ∷ pieces_from (quoted_after quoted escaped b) (escaped_after escaped b) bs
+
+abbrev pub pieces : List ℕ → List Piece
+pieces line = pieces_from false false line
+
+abbrev pub is_gap : Piece → Bool
+is_gap Gap = true
+is_gap Mark = false
+is_gap (Char b) = false
+
+-- ---- the stretches between gaps
+-- a stretch is a word if it has any byte, a quote or a backslash too
+abbrev pub is_word : List Piece → Bool
+is_word [] = false
+is_word (p ∷ ps) = true
+
+abbrev pub chars_of : Piece → List ℕ
+chars_of Gap = []
+chars_of Mark = []
+chars_of (Char b) = b ∷ []
+
+-- the characters of a stretch
+abbrev pub text_of : List Piece → List ℕ
+text_of stretch = flat_map chars_of stretch
+
+-- the texts of those stretches that are words
+abbrev pub texts_of : List (List Piece) → List (List ℕ)
+texts_of stretches = map text_of (filter is_word stretches)
+
+-- the words of a line as it stands: the stretches between its gaps
+abbrev pub plain_words : List ℕ → List (List ℕ)
+plain_words line = texts_of (slice_split is_gap (pieces line))
+
+-- what stands behind the first gap, the one that ends the first word of a line without spaces in front
+abbrev pub after_first_word : List ℕ → List ℕ
+after_first_word line = drop (position_or_len is_gap (pieces line) + 1) line
+
+-- ---- spaces and shorthand
+abbrev pub is_space : ℕ → Bool
+is_space b = b == 32
+
+-- a text without the spaces at its front
+abbrev pub without_front : List ℕ → List ℕ
+without_front [] = []
+without_front (b ∷ bs) = if is_space b then without_front bs else b ∷ bs
+
+-- a text without the spaces at its end
+abbrev pub without_back : List ℕ → List ℕ
+without_back text = reverse (without_front (reverse text))
+
+-- what a first byte `"`, `:` or `;` stands for; each other stands for itself
+abbrev pub shorthand : ℕ → List ℕ
+shorthand b = if b == 34 then codes "say " else if b == 58 then codes "emote " else if b == 59 then codes "eval " else b ∷ []
+
+-- the line that a line stands for
+abbrev pub spelled_out : List ℕ → List ℕ
+spelled_out [] = []
+spelled_out (b ∷ bs) = shorthand b ++ bs
+
+-- the words of a line: those of the line that it stands for
+unfoldable pub words : List ℕ → List (List ℕ)
+words line = plain_words (spelled_out (without_front line))
+
+-- a line is blank where it is of spaces alone
+abbrev pub is_blank : List ℕ → Bool
+is_blank line = list_all is_space line

@@ -1,0 +1,30 @@
+//! Laws about the definitions, each the contract of a function that does nothing.
+
+ghost use Rattle.std.specs.Prelude.{◌≡◌, ◌↔◌, List, ℕ, Some, None};
+ghost use Rattle.mud_words.specs.Prepositions.{Found, Stands, Counts, counted};
+ghost use Rattle.mud_words.specs.Laws.{QuotedWordsReadBack, PlainLinesSplitAtSpaces, RestHasTheOtherWords};
+
+/// The preposition that the words are searched for is the one that counts: of those that stand
+/// at the earliest place the longest. There is none exactly where no preposition stands at all.
+pub fn preposition()
+    ensures counts { (args : List (List ℕ)) (f : Found) → (counted args ≡ Some f) ↔ Counts args f }
+    ensures none { (args : List (List ℕ)) → (counted args ≡ None) ↔ ((f : Found) → ¬ Stands args f) }
+{}
+
+/// Words between quotes read back: for every list of words, the line that has each between double
+/// quotes, with a backslash before each quote and each backslash of it and one space between two
+/// words, has just these words.
+pub fn quoted_words()
+    ensures { QuotedWordsReadBack }
+{}
+
+/// A line without quotes and backslashes has the words that stand between its spaces.
+pub fn plain_words()
+    ensures { PlainLinesSplitAtSpaces }
+{}
+
+/// What stands behind the first word has the other words: both readings of a line agree on where
+/// the first word ends.
+pub fn rest()
+    ensures { RestHasTheOtherWords }
+{}

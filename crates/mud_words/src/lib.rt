@@ -1,0 +1,165 @@
+//! The words of a line, and what the line says: its verb, its objects and the preposition between
+//! them.
+//!
+//! A line is read as section "The Built-in Command Parser" of the LambdaMOO Programmer's Manual
+//! has it, with the choices of this project's own profile:
+//!
+//! - Words are separated by spaces. Any other byte begins a word or goes on with one.
+//! - Between double quotes a space is a character of the word. Quotes may begin and end inside a
+//!   word, and are no characters of it; one left open ends with the line. So `""` is an empty
+//!   word.
+//! - A backslash makes the next character stand for itself. A backslash at the end of the line
+//!   adds nothing to its word, but it is an empty word where it stands alone.
+//! - A line whose first character, spaces aside, is `"`, `:` or `;` stands for one that begins
+//!   with `say `, `emote ` or `eval ` in its place.
+//! - The first word is the verb. Among the others the earliest preposition counts, and of several
+//!   at one place the one of most words.
+//!
+//! [`words`] gives the words, [`parse`] all that the line says, and [`is_blank`] tells whether it
+//! has words at all. Each takes a line of any length, in time that grows with it in proportion,
+//! and keeps every character of it, also past ASCII. The one error is [`AllocError`], for want of
+//! memory.
+//!
+//! ```
+//! let parsed = parse(rt.alloc(), "@DIG north|south  to \"Big Library\"  ")?;
+//! assert_eq!(rt; parsed.verb.as_str(), "@dig");
+//! assert_eq!(rt; parsed.direct.as_str(), "north|south");
+//! assert_eq!(rt; parsed.prep, Some(Prep::To));
+//! assert_eq!(rt; parsed.indirect.as_str(), "Big Library");
+//! assert_eq!(rt; parsed.rest.as_str(), "north|south  to \"Big Library\"");
+//! ```
+//!
+//! Proved: the answers are exactly those of the definitions in `specs/`, [`words`] those of
+//! `Words.antt` and [`parse`] those of `Parse.antt` with the table in `Prepositions.antt`. The
+//! functions of [`laws`] prove that these definitions say what they are meant to: which
+//! preposition counts, that words written between quotes read back, that a line without quotes
+//! is cut at its spaces, and that what stands behind the first word has the other words.
+#![tactic(auto)]
+
+ghost use Rattle.std.specs.Prelude.{◌≡◌, ◌↔◌, [], IsTrue, map, string_bytes, IfOk};
+ghost use Rattle.mud_words.specs.Words.{words, is_blank};
+ghost use Rattle.mud_words.specs.Line.{line_of};
+ghost use Rattle.mud_words.specs.Parse.{parsed};
+
+mod cut;
+pub mod laws;
+mod piece;
+mod prepositions;
+mod rest;
+mod spaces;
+mod split;
+
+use crate::cut::plain_words;
+use crate::rest::rest_of;
+use crate::spaces::{spelled_out, without_front};
+use crate::split::split;
+use std::alloc::{AllocError, Global};
+
+/// A preposition: one variant for all phrases that say the same (LambdaMOO Programmer's Manual,
+/// "The Built-in Command Parser").
+#[derive(Clone, Copy, Debug, PartialEq, Eq)]
+pub enum Prep {
+    /// `with`, `using`
+    With,
+    /// `at`, `to`
+    To,
+    /// `in front of`
+    InFrontOf,
+    /// `in`, `inside`, `into`
+    In,
+    /// `on top of`, `on`, `onto`, `upon`
+    OnTopOf,
+    /// `out of`, `from inside`, `from`
+    OutOf,
+    /// `over`
+    Over,
+    /// `through`
+    Through,
+    /// `under`, `underneath`, `beneath`
+    Under,
+    /// `behind`
+    Behind,
+    /// `beside`
+    Beside,
+    /// `for`, `about`
+    For,
+    /// `is`
+    Is,
+    /// `as`
+    As,
+    /// `off`, `off of`
+    Off,
+}
+
+/// What a line says.
+///
+/// A blank line has an empty verb and nothing else.
+#[derive(Debug, Drop)]
+pub struct Parsed {
+    /// The first word, its ASCII letters in lower case.
+    pub verb: String,
+    /// The words after the verb, as they are typed.
+    pub args: Vec<String>,
+    /// The words before the preposition that counts, joined by one space; without one all `args`.
+    pub direct: String,
+    /// The preposition that counts, if one stands among `args`.
+    pub prep: Option<Prep>,
+    /// The words after that preposition, joined by one space; without one the empty text.
+    pub indirect: String,
+    /// What stands after the first word of the line, its quotes and backslashes as they are typed,
+    /// without the spaces at its ends. Of a line that begins with `"`, `:` or `;` this is what
+    /// follows that character.
+    pub rest: String,
+}
+
+/// The words of a line, its shorthand spelled out: of `foo "bar mumble" baz` the words `foo`,
+/// `bar mumble` and `baz`, of `"hi there` the words `say`, `hi` and `there`.
+///
+/// A blank line has none. The time is in proportion to the line.
+#[tactic(auto, unfolding(crate::specs::Words::words))]
+pub fn words(alloc: Global, line: &str) -> Result<Vec<String>, AllocError>
+    ensures { IfOk result (λ ws. map string_bytes ws.items ≡ words line.now) }
+{
+    let text = spelled_out(alloc, line)?;
+    plain_words(alloc, text.as_str())
+}
+
+/// What a line says: verb, objects, the preposition between them, and the rest of its text.
+///
+/// The preposition is the one that stands earliest among the words after the verb, and of several
+/// at one place the one of most words. ASCII case is ignored, and quotes make no difference; but
+/// a preposition of several words is several words of the line, so that `"in front of"` between
+/// quotes is none. The time is in proportion to the line.
+#[tactic(auto, unfolding(crate::specs::Parse::parsed, crate::specs::Words::words))]
+pub fn parse(alloc: Global, line: &str) -> Result<Parsed, AllocError>
+    ensures { IfOk result (λ p. line_of p ≡ parsed line.now) }
+{
+    let text = spelled_out(alloc, line)?;
+    let mut args = plain_words(alloc, text.as_str())?;
+    let rest = String::from_str(alloc, rest_of(text.as_str()))?;
+    if args.is_empty() {
+        return Ok(Parsed {
+            verb: String::new(alloc),
+            args,
+            direct: String::new(alloc),
+            prep: None,
+            indirect: String::new(alloc),
+            rest,
+        });
+    }
+    let mut verb = args.remove(0);
+    verb.make_ascii_lowercase();
+    split(alloc, verb, args, rest)
+}
+
+/// Whether a line has no words: it is empty, or of spaces alone. A lone backslash is a word, and
+/// so the line is not blank.
+pub fn is_blank(line: &str) -> bool
+    ensures value { result ≡ is_blank line.now }
+    ensures no_words { IsTrue result ↔ (words line.now ≡ []) }
+{
+    without_front(line).is_empty()
+}
+
+#[cfg(test)]
+mod tests;

@@ -84,9 +84,9 @@ unfolding name_in
 name_law = λ text name. (
   (λ h. is_name_found text name (names_in text) refl h),
   (λ is.
-    ap (option_and_then (one_of text)) ((names_law text (text ∷ [])).1 (name_alone text is.1))
-    ∙ ap (λ b. if b then Some text else None) (same_text text)
-    ∙ ap Some (sym is.0)),
+      ap (option_and_then (one_of text)) ((names_law text (text ∷ [])).1 (name_alone text is.1))
+      ∙ ap (λ b. if b then Some text else None) (same_text text)
+      ∙ ap Some (sym is.0)),
 )
 
 pub name_found : (text : List ℕ) (result : Result (List ℕ) NamesFault) → NameReadsAs text result → FindsName text result
@@ -143,8 +143,8 @@ unfolding key_in
 key_law = λ text key. (
   (λ h. found_key text key (run start text) refl h),
   (λ is.
-    ap (option_and_then limited) (key_reached text key (taken is.0 []))
-    ∙ ap (λ b. if b then Some key else None) (within key is.1)),
+      ap (option_and_then limited) (key_reached text key (taken is.0 []))
+      ∙ ap (λ b. if b then Some key else None) (within key is.1)),
 )
 
 no_key : (text : List ℕ) → ((key : Tree (List ℕ)) → SpellsKey text key → IsWithinLimits key → ⊥) → (o : Option (Tree (List ℕ))) → key_in text ≡ o → key_in text ≡ None

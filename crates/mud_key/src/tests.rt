@@ -1,8 +1,8 @@
 //! The public calls on examples.
 
 use crate::{
-    Key, KeyFault, Miss, Name, Namer, Names, NamesFault, Node, Operator, asks, atoms, parts, print, read,
-    resolve,
+    Key, KeyFault, Miss, Name, Namer, Names, NamesFault, Node, Operator, asks, atoms, parts, print,
+    read, resolve,
 };
 use std::alloc::{AllocError, Global};
 use std::test::Fail;

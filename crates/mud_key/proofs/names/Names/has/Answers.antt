@@ -12,7 +12,7 @@ returns-then-eq_ignore_ascii_case c =
     let item = c.name-item.result in
     let is : p (string_bytes item) ≡ true = same_text _ _ (c.eq_ignore_ascii_case.ensures.test.0 c.if-eq_ignore_ascii_case.true ∙ ap str_to_ascii_lowercase c.deref.ensures) in
     sym (c.loop-name.invariant ∙ any-left p c.deref-name-items.result.now c.loop-name.name-index item c.loop-name-test.true
-      ∙ or_left _ _ (ap (λ s. p (string_bytes s)) (sym c.name-item.is) ∙ is))
+    ∙ or_left _ _ (ap (λ s. p (string_bytes s)) (sym c.name-item.is) ∙ is))
 
 pub loop-name-preserved : goal.loop-name-preserved
 loop-name-preserved c =

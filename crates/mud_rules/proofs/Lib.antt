@@ -1,0 +1,5 @@
+pub mod Joining
+pub mod Searching
+pub mod Finding
+pub mod Bounds
+pub mod Least

@@ -1,0 +1,20 @@
+use Rattle.std.proofs.Common.{◌∙◌, sym, ap, Ok, add-one}
+use Rattle.std.specs.Prelude.{filter}
+use Rattle.mud_rules.specs.Matching.{sole, joined, is_named, is_like, is_sort, numbers_below}
+use Rattle.mud_rules.proofs.Joining.{both_hit, both_miss}
+use Rattle.mud_rules.proofs.matching.sole_of_sort.Goals as goal
+use Rattle.mud_rules.proofs.matching.sole_of_sort.Goals.{then-is_candidate, else-is_candidate}
+
+pub loop-number-preserved : goal.loop-number-preserved
+loop-number-preserved c =
+    let p = is_sort c.args.sort c.args.world.now in
+    let q = is_named (is_like c.args.likeness c.args.text.now) c.args.world.now in
+    let n = c.loop-number.number in
+    let on = ap (λ m. sole (filter q (filter p (numbers_below m)))) (sym (add-one n)) in
+    elim c.if-is_candidate.branch [
+      | then-is_candidate w ↦
+          w.found-is ∙ w.joined-found.ensures ∙ ap (λ f. joined f (Ok n)) c.loop-number.invariant
+          ∙ both_hit p q (numbers_below n) n (sym w.if-is_candidate.ensures) ∙ on
+      | else-is_candidate w ↦
+          w.found-is ∙ c.loop-number.invariant ∙ both_miss p q (numbers_below n) n (sym w.if-is_candidate.ensures) ∙ on
+    ]

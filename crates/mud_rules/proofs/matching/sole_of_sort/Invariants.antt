@@ -1,0 +1,7 @@
+use Rattle.std.proofs.Common.{◌≡◌}
+use Rattle.std.specs.Prelude.{filter}
+use Rattle.mud_rules.specs.Matching.{sole_like, is_sort, numbers_below}
+use Rattle.mud_rules.proofs.matching.sole_of_sort.Given as goal
+
+abbrev pub invariant-loop-number : goal.invariant-loop-number
+invariant-loop-number l = l.found ≡ sole_like l.likeness l.world l.text (filter (is_sort l.sort l.world) (numbers_below l.number))

@@ -1,0 +1,52 @@
+-- What a player hears of the changes of others, as bytes.
+use Rattle.std.specs.Prelude.{ℕ, Bool, false, nat_eq, List, ◌++◌, codes, Option, Some, None, if◌then◌else◌}
+use Rattle.std.specs.Option.{option_map_or}
+use Rattle.mud_world.specs.declared.change.Change.{Change}
+use Rattle.mud_world.specs.declared.change.Deed.{Deed}
+use Rattle.mud_world.specs.declared.change.Deed.TheVariants.{Move, Walk, Player, Say, Emote}
+use Rattle.mud_world.specs.State.{State, place_of, is_number, is_thing, destination_of}
+use Rattle.mud_rules.specs.Listing.{first_name}
+use Rattle.mud_rules.specs.Commands.{together}
+
+-- player p is in room r
+abbrev pub stands_in : State → ℕ → Option ℕ → Bool
+stands_in w p r = option_map_or (λ room. is_number room (place_of w p)) r false
+
+-- A does something with T
+abbrev pub sentence : State → ℕ → List ℕ → ℕ → List ℕ → List ℕ
+sentence w actor does thing end = first_name w actor ++ does ++ first_name w thing ++ end
+
+-- what is said of thing T that goes from A to himself, his room, a thing Y, the hearer, another player Y
+abbrev pub moved_line : State → ℕ → ℕ → ℕ → ℕ → List ℕ
+moved_line w p actor thing to =
+    if nat_eq to actor then sentence w actor (codes " takes ") thing (codes ".")
+    else if is_number to (place_of w actor) then sentence w actor (codes " drops ") thing (codes ".")
+    else (if is_thing w to then sentence w actor (codes " puts ") thing (codes " in " ++ first_name w to ++ codes ".")
+    else (if nat_eq to p then sentence w actor (codes " gives ") thing (codes " to you.")
+    else sentence w actor (codes " gives ") thing (codes " to " ++ first_name w to ++ codes ".")))
+
+abbrev pub arrival_line : List ℕ → List ℕ
+arrival_line name = name ++ codes " arrives."
+
+-- in the room that the actor leaves, or else in the one that he comes to
+abbrev pub walked_line : State → ℕ → ℕ → ℕ → Option (List ℕ)
+walked_line w p actor exit =
+    if together w actor p then Some (sentence w actor (codes " leaves by ") exit (codes "."))
+    else if stands_in w p (destination_of w exit) then Some (arrival_line (first_name w actor))
+    else None
+
+-- the line is heard in the actor's room
+abbrev pub beside : State → ℕ → ℕ → List ℕ → Option (List ℕ)
+beside w p actor line = if together w actor p then Some line else None
+
+abbrev pub heard_deed : State → ℕ → ℕ → Deed → Option (List ℕ)
+heard_deed w p actor (Say text) = beside w p actor (first_name w actor ++ codes " says, \"" ++ text ++ codes "\"")
+heard_deed w p actor (Emote text) = beside w p actor (first_name w actor ++ codes " " ++ text)
+heard_deed w p actor (Move thing to) = beside w p actor (moved_line w p actor thing to)
+heard_deed w p actor (Walk exit) = walked_line w p actor exit
+heard_deed w p actor (Player name) = if stands_in w p (Some 0) then Some (arrival_line name) else None
+heard_deed w p actor deed = None
+
+-- the line that player p is told of another's change, w being the world before it
+abbrev pub heard_line : State → Change → ℕ → Option (List ℕ)
+heard_line w e p = if nat_eq p e.actor then None else heard_deed w p e.actor e.deed

@@ -1,0 +1,10 @@
+pub mod Matching
+pub mod Outcome
+pub mod Commands
+pub mod Shapes
+pub mod Table
+pub mod Laws
+pub mod Listing
+pub mod Replies
+pub mod Answers
+pub mod Hearing

@@ -1,0 +1,26 @@
+-- Names and lists of objects in texts, as bytes.
+use Rattle.std.specs.Prelude.{ℕ, List, [], ◌∷◌, ◌++◌, codes, decimal}
+use Rattle.std.specs.Option.{option_map_or}
+use Rattle.std.specs.List.{join_by}
+use Rattle.mud_world.specs.State.{State, record_at}
+
+abbrev pub head_of : List (List ℕ) → List ℕ
+head_of [] = []
+head_of (name ∷ names) = name
+
+-- the name that is shown
+abbrev pub first_name : State → ℕ → List ℕ
+first_name w n = option_map_or (λ r. head_of r.names) (record_at w n) []
+
+-- NAME #n
+abbrev pub entry_text : State → ℕ → List ℕ
+entry_text w n = first_name w n ++ codes " #" ++ decimal n
+
+-- NAME #n, NAME #m and so on
+abbrev pub listed : State → List ℕ → List ℕ
+listed w ns = join_by (entry_text w) (codes ", ") ns
+
+-- a further line, where there is something to list
+abbrev pub listed_under : State → List ℕ → List ℕ → List ℕ
+listed_under w heading [] = []
+listed_under w heading (n ∷ ns) = codes "\n  " ++ heading ++ listed w (n ∷ ns)

@@ -1,0 +1,146 @@
+//! What questions are answered by.
+
+ghost use Rattle.std.specs.Prelude.{◌≡◌, ◌++◌, not, codes, filter, IfOk, OnOk, string_bytes};
+ghost use Rattle.mud_world.specs.State.{is_number, key_of};
+ghost use Rattle.std.specs.Option.{option_map_or};
+ghost use Rattle.mud_rules.specs.Replies.{key_text};
+ghost use Rattle.mud_rules.specs.Answers.{kind_text, look_text, room_text, inventory_text, key_of_text, show_text};
+
+use crate::Query;
+use crate::listing::{push_entry, push_listed, push_listed_under};
+use mud_key::print;
+use mud_world::{Kind, World};
+use std::alloc::{AllocError, Global};
+
+/// The answer to a question, its lines joined by LF (docs/COMMANDS.md, "What is answered"). Without
+/// a player there is no room to look at and nothing in hand: these two answers are empty then.
+pub fn show(
+    alloc: Global,
+    world: &World,
+    player: Option<u32>,
+    query: &Query,
+) -> Result<String, AllocError>
+    ensures { IfOk result (λ text. string_bytes text ≡ show_text world.now player query.now) }
+{
+    match (query, player) {
+        (Query::Look, Some(player)) => room_text(alloc, world, player),
+        (Query::LookAt(object), _) => look_text(alloc, world, player, *object),
+        (Query::Inventory, Some(player)) => inventory_text(alloc, world, player),
+        (Query::KeyOf(object), _) => key_of_text(alloc, world, *object),
+        (Query::Version, _) => String::from_str(alloc, "version"),
+        (Query::Quit, _) => String::from_str(alloc, "bye"),
+        (Query::Look | Query::Inventory, None) => Ok(String::new(alloc)),
+    }
+}
+
+fn push_kind(
+    text: &mut String,
+    alloc: Global,
+    world: &World,
+    number: u32,
+    kind: Kind,
+) -> Result<(), AllocError>
+    ensures { OnOk result (string_bytes text.new
+        ≡ string_bytes text.old ++ kind_text world.now number kind) }
+{
+    match kind {
+        Kind::Room => push_listed_under(text, alloc, world, "exits ", world.leaving(number)),
+        Kind::Exit(passage) => {
+            let source = passage.source;
+            let destination = passage.destination;
+            let cost = passage.cost;
+            text.push_str(&format!(in alloc; "\n  from #{source} to #{destination} cost {cost}")?)
+        }
+        Kind::Thing { .. } | Kind::Player { .. } => Ok(()),
+    }
+}
+
+fn look_text(
+    alloc: Global,
+    world: &World,
+    player: Option<u32>,
+    number: u32,
+) -> Result<String, AllocError>
+    ensures { IfOk result (λ text. string_bytes text ≡ look_text world.now player number) }
+{
+    let mut text = String::new(alloc);
+    push_entry(&mut text, alloc, world, number)?;
+    let others = others_of(alloc, world.contents(number), player)?;
+    push_listed_under(&mut text, alloc, world, "contents ", &others)?;
+    if let Some(record) = world.get(number) {
+        push_kind(&mut text, alloc, world, number, record.kind)?;
+    }
+    Ok(text)
+}
+
+fn is_player(number: u32, player: Option<u32>) -> bool
+    ensures { result ≡ is_number number player }
+{
+    match player {
+        Some(player) => number == player,
+        None => false,
+    }
+}
+
+// All but the player.
+fn others_of(alloc: Global, numbers: &[u32], player: Option<u32>) -> Result<Vec<u32>, AllocError>
+    ensures { IfOk result (λ others. others.items
+        ≡ filter (λ o. not (is_number o player)) numbers.now) }
+{
+    numbers
+        .iter()
+        .copied()
+        .filter(|number| !is_player(*number, player))
+        .collect(alloc)
+}
+
+// The room that a player is in.
+fn room_text(alloc: Global, world: &World, player: u32) -> Result<String, AllocError>
+    ensures { IfOk result (λ text. string_bytes text ≡ room_text world.now player) }
+{
+    match world.place(player) {
+        Some(room) => look_text(alloc, world, Some(player), room),
+        None => Ok(String::new(alloc)),
+    }
+}
+
+// What a player has, directly.
+fn inventory_text(alloc: Global, world: &World, player: u32) -> Result<String, AllocError>
+    ensures { IfOk result (λ text. string_bytes text ≡ inventory_text world.now player) }
+{
+    let mut text = String::from_str(alloc, "inventory ")?;
+    let contents = world.contents(player);
+    if contents.is_empty() {
+        text.push_str("nothing")?;
+    } else {
+        push_listed(&mut text, alloc, world, contents)?;
+    }
+    Ok(text)
+}
+
+fn key_of_text(alloc: Global, world: &World, number: u32) -> Result<String, AllocError>
+    ensures { IfOk result (λ text. string_bytes text ≡ key_of_text world.now number) }
+{
+    let mut text = format!(in alloc; "key of #{number} is ")?;
+    push_key_of(&mut text, alloc, world, number)?;
+    Ok(text)
+}
+
+fn push_key_of(
+    text: &mut String,
+    alloc: Global,
+    world: &World,
+    number: u32,
+) -> Result<(), AllocError>
+    ensures { OnOk result (string_bytes text.new
+        ≡ string_bytes text.old
+        ++ option_map_or key_text (key_of world.now number) (codes "nothing")) }
+{
+    let Some(record) = world.get(number) else {
+        return text.push_str("nothing");
+    };
+    match &record.key {
+        Some(key) => text.push_str(&print(alloc, key)?),
+        None => text.push_str("nothing"),
+    }
+}

@@ -1,0 +1,208 @@
+//! What a player hears of the changes of others.
+
+ghost use Rattle.std.specs.Prelude.{◌≡◌, ◌++◌, Some, None, IfOk, codes, string_bytes, if◌then◌else◌};
+ghost use Rattle.std.specs.Option.{option_map};
+ghost use Rattle.mud_rules.specs.Hearing.{stands_in, beside, moved_line, arrival_line, walked_line, heard_deed, heard_line};
+ghost use Rattle.mud_rules.specs.Listing.{first_name};
+
+use crate::listing::first_name;
+use crate::moving::together;
+use mud_world::{Change, Deed, World};
+use std::alloc::{AllocError, Global};
+
+/// The line that a player is told of another's change, the world being the one before it; none
+/// where he hears nothing of it, and none of his own (docs/COMMANDS.md, "What others hear").
+pub fn heard(
+    alloc: Global,
+    world: &World,
+    change: &Change,
+    player: u32,
+) -> Result<Option<String>, AllocError>
+    ensures { IfOk result (λ line. option_map string_bytes line
+        ≡ heard_line world.now change.now player) }
+{
+    if player == change.actor {
+        Ok(None)
+    } else {
+        heard_deed(alloc, world, change.actor, &change.deed, player)
+    }
+}
+
+fn heard_deed(
+    alloc: Global,
+    world: &World,
+    actor: u32,
+    deed: &Deed,
+    player: u32,
+) -> Result<Option<String>, AllocError>
+    ensures { IfOk result (λ line. option_map string_bytes line
+        ≡ heard_deed world.now player actor deed.now) }
+{
+    match deed {
+        Deed::Say(text) => heard_say(alloc, world, player, actor, text.as_str()),
+        Deed::Emote(text) => heard_emote(alloc, world, player, actor, text.as_str()),
+        Deed::Move { thing, to } => heard_move(alloc, world, player, actor, *thing, *to),
+        Deed::Walk { exit } => walked_line(alloc, world, player, actor, *exit),
+        Deed::Player(name) => heard_arrival(alloc, world, player, name.as_str()),
+        _ => Ok(None),
+    }
+}
+
+// One name, words, and another name.
+fn said(alloc: Global, who: &str, does: &str, what: &str, end: &str) -> Result<String, AllocError>
+    ensures { IfOk result (λ line. string_bytes line ≡ who.now ++ does.now ++ what.now ++ end.now) }
+{
+    let mut line = String::from_str(alloc, who)?;
+    line.push_str(does)?;
+    line.push_str(what)?;
+    line.push_str(end)?;
+    Ok(line)
+}
+
+fn heard_say(
+    alloc: Global,
+    world: &World,
+    player: u32,
+    actor: u32,
+    text: &str,
+) -> Result<Option<String>, AllocError>
+    ensures { IfOk result (λ line. option_map string_bytes line
+        ≡ beside world.now player actor (first_name world.now actor ++ codes " says, \""
+        ++ text.now ++ codes "\"")) }
+{
+    if together(world, actor, player) {
+        let line = said(alloc, first_name(world, actor), " says, \"", text, "\"")?;
+        Ok(Some(line))
+    } else {
+        Ok(None)
+    }
+}
+
+fn heard_emote(
+    alloc: Global,
+    world: &World,
+    player: u32,
+    actor: u32,
+    text: &str,
+) -> Result<Option<String>, AllocError>
+    ensures { IfOk result (λ line. option_map string_bytes line
+        ≡ beside world.now player actor (first_name world.now actor ++ codes " " ++ text.now)) }
+{
+    if together(world, actor, player) {
+        let who = first_name(world, actor);
+        let line = format!(in alloc; "{who} {text}")?;
+        Ok(Some(line))
+    } else {
+        Ok(None)
+    }
+}
+
+fn heard_move(
+    alloc: Global,
+    world: &World,
+    player: u32,
+    actor: u32,
+    thing: u32,
+    to: u32,
+) -> Result<Option<String>, AllocError>
+    ensures { IfOk result (λ line. option_map string_bytes line
+        ≡ beside world.now player actor (moved_line world.now player actor thing to)) }
+{
+    if together(world, actor, player) {
+        let line = moved_line(alloc, world, player, actor, thing, to)?;
+        Ok(Some(line))
+    } else {
+        Ok(None)
+    }
+}
+
+fn moved_line(
+    alloc: Global,
+    world: &World,
+    player: u32,
+    actor: u32,
+    thing: u32,
+    to: u32,
+) -> Result<String, AllocError>
+    ensures { IfOk result (λ line. string_bytes line ≡ moved_line world.now player actor thing to) }
+{
+    let who = first_name(world, actor);
+    let what = first_name(world, thing);
+    if to == actor {
+        said(alloc, who, " takes ", what, ".")
+    } else if world.is_in(actor, to) {
+        said(alloc, who, " drops ", what, ".")
+    } else if world.is_thing(to) {
+        let mut line = said(alloc, who, " puts ", what, " in ")?;
+        line.push_str(first_name(world, to))?;
+        line.push_str(".")?;
+        Ok(line)
+    } else if to == player {
+        said(alloc, who, " gives ", what, " to you.")
+    } else {
+        let mut line = said(alloc, who, " gives ", what, " to ")?;
+        line.push_str(first_name(world, to))?;
+        line.push_str(".")?;
+        Ok(line)
+    }
+}
+
+fn walked_line(
+    alloc: Global,
+    world: &World,
+    player: u32,
+    actor: u32,
+    exit: u32,
+) -> Result<Option<String>, AllocError>
+    ensures { IfOk result (λ line. option_map string_bytes line
+        ≡ walked_line world.now player actor exit) }
+{
+    let who = first_name(world, actor);
+    if together(world, actor, player) {
+        let line = said(alloc, who, " leaves by ", first_name(world, exit), ".")?;
+        return Ok(Some(line));
+    }
+    let to = match world.passage(exit) {
+        Some(passage) => Some(passage.destination),
+        None => None,
+    };
+    if stands_in(world, player, to) {
+        let line = arrival_line(alloc, who)?;
+        Ok(Some(line))
+    } else {
+        Ok(None)
+    }
+}
+
+fn stands_in(world: &World, player: u32, room: Option<u32>) -> bool
+    ensures { result ≡ stands_in world.now player room }
+{
+    match room {
+        Some(room) => world.is_in(player, room),
+        None => false,
+    }
+}
+
+fn arrival_line(alloc: Global, name: &str) -> Result<String, AllocError>
+    ensures { IfOk result (λ line. string_bytes line ≡ arrival_line name.now) }
+{
+    format!(in alloc; "{name} arrives.")
+}
+
+// A new player comes into the hall.
+fn heard_arrival(
+    alloc: Global,
+    world: &World,
+    player: u32,
+    name: &str,
+) -> Result<Option<String>, AllocError>
+    ensures { IfOk result (λ line. option_map string_bytes line
+        ≡ (if stands_in world.now player (Some 0) then Some (arrival_line name.now) else None)) }
+{
+    if stands_in(world, player, Some(0)) {
+        let line = arrival_line(alloc, name)?;
+        Ok(Some(line))
+    } else {
+        Ok(None)
+    }
+}

@@ -1,0 +1,62 @@
+//! What a line means in a world: the table of commands, which object a text means, and the texts
+//! of all answers (docs/COMMANDS.md).
+//!
+//! - [`decide`] takes a parsed line of a player, or of a guest, and gives its [`Verdict`]: a change
+//!   that is legal, a question, a player to become, or the refusal of least number.
+//! - [`local_match`], [`room_match`] and [`player_match`] find the object that a text means.
+//! - [`is_question`] tells the lines that change nothing.
+//! - [`reply_text`], [`welcome_text`], [`refusal_text`] and [`show`] give what the player is told,
+//!   [`heard`] what another player is told of his change.
+//!
+//! Nothing here changes a world: who has a verdict does that by `World::apply`.
+//!
+//! ```
+//! let world = World::opening(alloc)?;
+//! let parsed = parse(alloc, "@dig north|south to \"Library\"")?;
+//! match decide(alloc, &world, Some(1), &parsed)? {
+//!     Verdict::Change(change) => {
+//!         let text = reply_text(alloc, &world, &change)?;
+//!         assert_eq!(rt; text.as_str(), "dug room #2, exit #3, exit back #4");
+//!     }
+//!     _ => unreachable!(),
+//! }
+//! ```
+//!
+//! Proved: the verdict is exactly that of the table in `specs/Table.antt`, with the commands of
+//! `Commands.antt` and the matching of `Matching.antt`, and a change in it is legal and of the
+//! player who typed the line; all texts are exactly those of `Replies.antt`, `Answers.antt` and
+//! `Hearing.antt`. Want of memory is the one error. The functions of [`laws`] prove what the table
+//! comes to: the tests of a command and the conditions of its change are one list of refusals,
+//! tried by rising number.
+#![tactic(auto)]
+
+mod answers;
+mod asking;
+mod building;
+mod digging;
+mod hearing;
+mod keys;
+pub mod laws;
+mod line;
+mod listing;
+mod matching;
+mod moving;
+mod naming;
+mod outcome;
+mod replies;
+mod rows;
+mod shapes;
+mod talking;
+mod verb;
+mod verdict;
+
+pub use answers::show;
+pub use hearing::heard;
+pub use line::{decide, is_question};
+pub use matching::{Match, local_match, player_match, room_match};
+pub use mud_world::Refusal;
+pub use replies::{refusal_text, reply_text, welcome_text};
+pub use verdict::{Query, Verdict};
+
+#[cfg(test)]
+mod tests;

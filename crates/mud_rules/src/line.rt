@@ -1,0 +1,136 @@
+//! What a line means to a player, or to a guest.
+
+ghost use Rattle.std.specs.Prelude.{◌≡◌, ℕ, Option, Some, IfOk};
+ghost use Rattle.mud_words.specs.Line.{line_of};
+ghost use Rattle.mud_rules.specs.Outcome.{IsLawful};
+ghost use Rattle.mud_rules.specs.Table.{connect_line, command, other_line, guest, decision, is_question};
+
+use crate::matching::{Likeness, Match, sole_like};
+use crate::moving::walk;
+use crate::naming::connect;
+use crate::outcome::shaped;
+use crate::rows::{
+    cost_line, create_line, dig_line, drop_line, give_line, go_line, key_line, lock_line,
+    look_line, put_line, recycle_line, rename_line, take_line, unlock_line,
+};
+use crate::shapes::{first_of, is_bare, whole_of};
+use crate::talking::{emote, say};
+use crate::verb::Verb;
+use crate::{Query, Verdict};
+use mud_words::Parsed;
+use mud_world::{Refusal, World};
+use std::alloc::{AllocError, Global};
+
+/// Whether a line has the verb of a question, whatever its other words are: `look`, `l`,
+/// `inventory`, `inv`, `i`, `@key`, `@version` or `quit` (this project's profile).
+pub fn is_question(parsed: &Parsed) -> bool
+    ensures { result ≡ is_question (line_of parsed.now) }
+{
+    match Verb::named(&parsed.verb) {
+        Some(verb) => verb.asks(),
+        None => false,
+    }
+}
+
+/// What a line asks for in a world: a change that is legal there, a question, a player to become,
+/// or the refusal of least number (docs/COMMANDS.md). Without a player it is the line of a guest,
+/// who has `connect` and `quit` alone.
+///
+/// A given player is to be one of that world; the line of any other number is decided too, by the
+/// same table. The one error is want of memory.
+pub fn decide(
+    alloc: Global,
+    world: &World,
+    player: Option<u32>,
+    parsed: &Parsed,
+) -> Result<Verdict, AllocError>
+    ensures decision { IfOk result (λ v. v ≡ decision world.now player (line_of parsed.now)) }
+    ensures lawful { IfOk result (IsLawful world.now player) }
+{
+    let verb = Verb::named(&parsed.verb);
+    match (player, verb) {
+        (Some(player), Some(verb)) => command(alloc, world, player, parsed, verb),
+        (Some(player), None) => other_line(alloc, world, player, parsed),
+        (None, _) => guest(alloc, world, parsed, verb),
+    }
+}
+
+fn command(
+    alloc: Global,
+    world: &World,
+    player: u32,
+    parsed: &Parsed,
+    verb: Verb,
+) -> Result<Verdict, AllocError>
+    ensures decision { IfOk result (λ v. v ≡ command world.now player (line_of parsed.now) verb) }
+    ensures lawful { IfOk result (IsLawful world.now (Some player)) }
+{
+    match verb {
+        Verb::Connect => connect_line(alloc, world, parsed),
+        Verb::Look => look_line(alloc, world, player, parsed),
+        Verb::Inventory => Ok(shaped(is_bare(parsed), Query::Inventory)),
+        Verb::Go => go_line(alloc, world, player, parsed),
+        Verb::Take => take_line(alloc, world, player, parsed),
+        Verb::Drop => drop_line(alloc, world, player, parsed),
+        Verb::Put => Ok(put_line(world, player, parsed)),
+        Verb::Give => Ok(give_line(world, player, parsed)),
+        Verb::Say => say(alloc, world, player, &parsed.rest),
+        Verb::Emote => emote(alloc, world, player, &parsed.rest),
+        Verb::Dig => dig_line(alloc, world, player, parsed),
+        Verb::Create => create_line(alloc, world, player, parsed),
+        Verb::Lock => lock_line(alloc, world, player, parsed),
+        Verb::Unlock => unlock_line(alloc, world, player, parsed),
+        Verb::Key => key_line(alloc, world, player, parsed),
+        Verb::Cost => Ok(cost_line(world, player, parsed)),
+        Verb::Rename => rename_line(alloc, world, player, parsed),
+        Verb::Recycle => recycle_line(alloc, world, player, parsed),
+        Verb::Version => Ok(shaped(is_bare(parsed), Query::Version)),
+        Verb::Quit => Ok(shaped(is_bare(parsed), Query::Quit)),
+    }
+}
+
+// Any other line: an exit of the player's room that has the whole line as a name.
+fn other_line(
+    alloc: Global,
+    world: &World,
+    player: u32,
+    parsed: &Parsed,
+) -> Result<Verdict, AllocError>
+    ensures decision { IfOk result (λ v. v ≡ other_line world.now player (line_of parsed.now)) }
+    ensures lawful { IfOk result (IsLawful world.now (Some player)) }
+{
+    let whole = whole_of(alloc, parsed)?;
+    let found = match world.place(player) {
+        Some(room) => sole_like(world, world.leaving(room), &whole, Likeness::Equal),
+        None => Err(Match::NoSuch),
+    };
+    Ok(walk(world, player, found))
+}
+
+fn guest(
+    alloc: Global,
+    world: &World,
+    parsed: &Parsed,
+    verb: Option<Verb>,
+) -> Result<Verdict, AllocError>
+    ensures decision { IfOk result (λ v. v ≡ guest world.now (line_of parsed.now) verb) }
+    ensures lawful { (player : Option ℕ) → IfOk result (IsLawful world.now player) }
+{
+    match verb {
+        Some(Verb::Connect) => connect_line(alloc, world, parsed),
+        Some(Verb::Quit) => Ok(shaped(is_bare(parsed), Query::Quit)),
+        _ => Ok(Verdict::Refused(Refusal::NotUnderstood)),
+    }
+}
+
+fn connect_line(alloc: Global, world: &World, parsed: &Parsed) -> Result<Verdict, AllocError>
+    ensures decision { IfOk result (λ v. v ≡ connect_line world.now (line_of parsed.now)) }
+    ensures lawful { (player : Option ℕ) → IfOk result (IsLawful world.now player) }
+{
+    let name = first_of(parsed);
+    if name.is_empty() {
+        Ok(Verdict::Refused(Refusal::NotUnderstood))
+    } else {
+        connect(alloc, world, name)
+    }
+}

@@ -1,0 +1,253 @@
+//! Which object a text means.
+
+ghost use Rattle.std.specs.Prelude.{◌≡◌, ◌&&◌, ℕ, ◌+◌, ◌<◌, ◌≤◌, filter, length, map, string_bytes};
+ghost use Rattle.std.specs.List.{list_any};
+ghost use Rattle.mud_rules.specs.Matching.{is_like, is_named, sole_like, joined, digits_value, number_in, object_number, existing, candidates, direct_match, local_match, is_sort, all_of_sort, room_match, player_match};
+ghost use Rattle.mud_world.specs.State.{place_of};
+
+use mud_world::World;
+
+/// Why a text means no object; the numbers -1, -3 and -2 of the LambdaMOO Programmer's Manual
+/// ("The Built-in Command Parser").
+#[derive(Clone, Copy, Debug, PartialEq, Eq)]
+pub enum Match {
+    /// The text is empty.
+    Nothing,
+    /// No candidate has such a name, or no object such a number.
+    NoSuch,
+    /// Several candidates have such a name.
+    Ambiguous,
+}
+
+// How a text is compared with a name.
+#[derive(Clone, Copy)]
+pub(crate) enum Likeness {
+    Equal,
+    Prefix,
+}
+
+// Of which kind all objects are candidates.
+#[derive(Clone, Copy)]
+pub(crate) enum Sort {
+    Rooms,
+    Players,
+}
+
+/// The object that a text means to a player, where he is.
+///
+/// `#n` is that object, `me` the player, `here` his place. Else the candidates are what he has,
+/// what lies in his room, and the exits that leave it; those with a name equal to the text are
+/// found, ASCII case ignored, or if there are none, those with a name that begins with it. One
+/// found is the answer (LambdaMOO Programmer's Manual, "The Built-in Command Parser"; that exits are
+/// candidates is this project's profile).
+pub fn local_match(world: &World, player: u32, text: &str) -> Result<u32, Match>
+    ensures { result ≡ local_match world.now player text.now }
+{
+    if let Some(answer) = direct_match(world, player, text) {
+        return answer;
+    }
+    let place = world.place(player);
+    match sole_near(world, player, place, text, Likeness::Equal) {
+        Err(Match::NoSuch) => sole_near(world, player, place, text, Likeness::Prefix),
+        found => found,
+    }
+}
+
+/// The room that a text means to a player: as [`local_match`], with all rooms as candidates. By
+/// `#n`, `me` or `here` it may be an object of another kind (this project's profile).
+pub fn room_match(world: &World, player: u32, text: &str) -> Result<u32, Match>
+    ensures { result ≡ room_match world.now player text.now }
+{
+    if let Some(answer) = direct_match(world, player, text) {
+        return answer;
+    }
+    match sole_of_sort(world, Sort::Rooms, text, Likeness::Equal) {
+        Err(Match::NoSuch) => sole_of_sort(world, Sort::Rooms, text, Likeness::Prefix),
+        found => found,
+    }
+}
+
+/// The player that a text means to a player: as [`local_match`], with all players as candidates. By
+/// `#n` or `here` it may be an object of another kind (this project's profile).
+pub fn player_match(world: &World, player: u32, text: &str) -> Result<u32, Match>
+    ensures { result ≡ player_match world.now player text.now }
+{
+    if let Some(answer) = direct_match(world, player, text) {
+        return answer;
+    }
+    match sole_of_sort(world, Sort::Players, text, Likeness::Equal) {
+        Err(Match::NoSuch) => sole_of_sort(world, Sort::Players, text, Likeness::Prefix),
+        found => found,
+    }
+}
+
+// What a text means whatever the candidates are.
+fn direct_match(world: &World, player: u32, text: &str) -> Option<Result<u32, Match>>
+    ensures { result ≡ direct_match world.now player text.now }
+{
+    if text.is_empty() {
+        return Some(Err(Match::Nothing));
+    }
+    if let Some(number) = object_number(text.as_bytes()) {
+        return Some(existing(world, number));
+    }
+    if text.eq_ignore_ascii_case("me") {
+        return Some(Ok(player));
+    }
+    if text.eq_ignore_ascii_case("here") {
+        return Some(world.place(player).ok_or(Match::NoSuch));
+    }
+    None
+}
+
+fn existing(world: &World, number: u32) -> Result<u32, Match>
+    ensures { result ≡ existing world.now number }
+{
+    if world.exists(number) {
+        Ok(number)
+    } else {
+        Err(Match::NoSuch)
+    }
+}
+
+// The sole candidate near a player that is like the text.
+fn sole_near(
+    world: &World,
+    player: u32,
+    place: Option<u32>,
+    text: &str,
+    likeness: Likeness,
+) -> Result<u32, Match>
+    requires { place ≡ place_of world.now player }
+    ensures { result ≡ sole_like likeness world.now text.now (candidates world.now player) }
+{
+    let own = sole_like(world, world.contents(player), text, likeness);
+    let Some(room) = place else {
+        return own;
+    };
+    let lying = sole_like(world, world.contents(room), text, likeness);
+    let leaving = sole_like(world, world.leaving(room), text, likeness);
+    joined(own, joined(lying, leaving))
+}
+
+pub(crate) fn sole_like(
+    world: &World,
+    numbers: &[u32],
+    text: &str,
+    likeness: Likeness,
+) -> Result<u32, Match>
+    ensures { result ≡ sole_like likeness world.now text.now numbers.now }
+{
+    let mut found = Err(Match::NoSuch);
+    for number in numbers {
+        if is_named(world, *number, text, likeness) {
+            found = joined(found, Ok(*number));
+        }
+    }
+    found
+}
+
+fn sole_of_sort(world: &World, sort: Sort, text: &str, likeness: Likeness) -> Result<u32, Match>
+    ensures { result ≡ sole_like likeness world.now text.now (all_of_sort sort world.now) }
+{
+    let mut found = Err(Match::NoSuch);
+    for number in 0..world.next_number() {
+        if is_candidate(world, sort, number, text, likeness) {
+            found = joined(found, Ok(number));
+        }
+    }
+    found
+}
+
+fn is_candidate(world: &World, sort: Sort, number: u32, text: &str, likeness: Likeness) -> bool
+    ensures { result ≡ (is_sort sort world.now number
+        && is_named (is_like likeness text.now) world.now number) }
+{
+    is_sort(world, sort, number) && is_named(world, number, text, likeness)
+}
+
+fn is_sort(world: &World, sort: Sort, number: u32) -> bool
+    ensures { result ≡ is_sort sort world.now number }
+{
+    match sort {
+        Sort::Rooms => world.is_room(number),
+        Sort::Players => world.is_player(number),
+    }
+}
+
+// What two lists of candidates give together.
+fn joined(first: Result<u32, Match>, second: Result<u32, Match>) -> Result<u32, Match>
+    ensures { result ≡ joined first second }
+{
+    match (first, second) {
+        (Err(Match::NoSuch), _) => second,
+        (_, Err(Match::NoSuch)) => first,
+        _ => Err(Match::Ambiguous),
+    }
+}
+
+fn is_named(world: &World, number: u32, text: &str, likeness: Likeness) -> bool
+    ensures { result ≡ is_named (is_like likeness text.now) world.now number }
+{
+    match world.get(number) {
+        Some(record) => any_like(record.names.list(), text, likeness),
+        None => false,
+    }
+}
+
+fn any_like(names: &[String], text: &str, likeness: Likeness) -> bool
+    ensures { result ≡ list_any (is_like likeness text.now) (map string_bytes names.now) }
+{
+    for name in names {
+        if is_like(text, name, likeness) {
+            return true;
+        }
+    }
+    false
+}
+
+fn is_like(text: &str, name: &str, likeness: Likeness) -> bool
+    ensures { result ≡ is_like likeness text.now name.now }
+{
+    match likeness {
+        Likeness::Equal => text.eq_ignore_ascii_case(name),
+        Likeness::Prefix => match name.as_bytes().get(..text.len()) {
+            Some(head) => text.as_bytes().eq_ignore_ascii_case(head),
+            None => false,
+        },
+    }
+}
+
+// The number in `#` and 1 to 9 digits.
+pub(crate) fn object_number(text: &[u8]) -> Option<u32>
+    ensures { result ≡ object_number text.now }
+{
+    if text.is_empty() || text[0] != b'#' {
+        return None;
+    }
+    number_in(&text[1..])
+}
+
+// The number in 1 to 9 digits.
+pub(crate) fn number_in(text: &[u8]) -> Option<u32>
+    ensures { result ≡ number_in text.now }
+{
+    if text.is_empty() || text.len() >= 10 {
+        return None;
+    }
+    digits_value(text)
+}
+
+fn digits_value(digits: &[u8]) -> Option<u32>
+    requires { length digits.now < 10 }
+    ensures { result ≡ digits_value 0 digits.now }
+{
+    let mut value = 0;
+    for digit in digits {
+        if !digit.is_ascii_digit() {
+            return None;
+        }
+        value = value * 10 + u32::from(*digit - b'0');
+    }
+    Some(value)
+}

@@ -1,0 +1,130 @@
+//! Names in lines: making, renaming, connecting.
+
+ghost use Rattle.std.specs.Prelude.{◌≡◌, ℕ, [], ◌∷◌, Option, Some, IfOk, codes};
+ghost use Rattle.mud_key.specs.Reading.{names_in, name_in};
+ghost use Rattle.mud_rules.specs.Outcome.{IsLawful};
+ghost use Rattle.mud_rules.specs.Commands.{create, renaming, rename, connecting, connect};
+
+use crate::Verdict;
+use crate::matching::local_match;
+use crate::outcome::{does, outcome, unmatched};
+use mud_key::{Name, Names, NamesFault};
+use mud_world::{Change, Deed, Refusal, World};
+use std::alloc::{AllocError, Global};
+
+// The names of a text, where it is a names text.
+pub(crate) fn names_in(alloc: Global, text: &str) -> Result<Option<Names>, AllocError>
+    ensures { IfOk result (λ names. names ≡ names_in text.now) }
+{
+    match Names::read(alloc, text) {
+        Ok(names) => Ok(Some(names)),
+        Err(NamesFault::BadName) => Ok(None),
+        Err(NamesFault::OutOfMemory) => Err(AllocError),
+    }
+}
+
+// The name that a text is, where it is one.
+fn name_in(alloc: Global, text: &str) -> Result<Option<Name>, AllocError>
+    ensures { IfOk result (λ name. name ≡ name_in text.now) }
+{
+    match Name::read(alloc, text) {
+        Ok(name) => Ok(Some(name)),
+        Err(NamesFault::BadName) => Ok(None),
+        Err(NamesFault::OutOfMemory) => Err(AllocError),
+    }
+}
+
+// What stands in for names that can't be read.
+pub(crate) fn names_x(alloc: Global) -> Result<Names, AllocError>
+    ensures { IfOk result (λ names. names ≡ codes "x" ∷ []) }
+{
+    match names_in(alloc, "x")? {
+        Some(names) => Ok(names),
+        None => unreachable!(),
+    }
+}
+
+pub(crate) fn create(
+    alloc: Global,
+    world: &World,
+    player: u32,
+    text: &str,
+) -> Result<Verdict, AllocError>
+    ensures decision { IfOk result (λ v. v ≡ create world.now player text.now) }
+    ensures lawful { IfOk result (IsLawful world.now (Some player)) }
+{
+    match names_in(alloc, text)? {
+        Some(names) => Ok(does(world, player, None, Deed::Make(names))),
+        None => {
+            let names = names_x(alloc)?;
+            Ok(does(world, player, Some(Refusal::BadName), Deed::Make(names)))
+        }
+    }
+}
+
+fn rename_object(
+    alloc: Global,
+    world: &World,
+    player: u32,
+    object: u32,
+    names: &str,
+) -> Result<Verdict, AllocError>
+    ensures decision { IfOk result (λ v. v ≡ renaming world.now player object names.now) }
+    ensures lawful { IfOk result (IsLawful world.now (Some player)) }
+{
+    match names_in(alloc, names)? {
+        Some(names) => Ok(does(world, player, None, Deed::Rename { object, names })),
+        None => {
+            let names = names_x(alloc)?;
+            Ok(does(
+                world,
+                player,
+                Some(Refusal::BadName),
+                Deed::Rename { object, names },
+            ))
+        }
+    }
+}
+
+pub(crate) fn rename(
+    alloc: Global,
+    world: &World,
+    player: u32,
+    text: &str,
+    names: &str,
+) -> Result<Verdict, AllocError>
+    ensures decision { IfOk result (λ v. v ≡ rename world.now player text.now names.now) }
+    ensures lawful { IfOk result (IsLawful world.now (Some player)) }
+{
+    match local_match(world, player, text) {
+        Ok(object) => rename_object(alloc, world, player, object, names),
+        Err(fault) => Ok(Verdict::Refused(unmatched(fault))),
+    }
+}
+
+fn connect_named(world: &World, name: Name) -> Verdict
+    ensures decision { result ≡ connecting world.now name }
+    ensures lawful { (player : Option ℕ) → IsLawful world.now player result }
+{
+    match world.player_named(name.as_str()) {
+        Some(player) => Verdict::Become(player),
+        None => outcome(
+            world,
+            None,
+            Change {
+                actor: world.next_number(),
+                deed: Deed::Player(name),
+            },
+        ),
+    }
+}
+
+pub(crate) fn connect(alloc: Global, world: &World, text: &str) -> Result<Verdict, AllocError>
+    ensures decision { IfOk result (λ v. v ≡ connect world.now text.now) }
+    ensures lawful { (player : Option ℕ) → IfOk result (IsLawful world.now player) }
+{
+    match name_in(alloc, text)? {
+        Some(name) => Ok(connect_named(world, name)),
+        None => Ok(Verdict::Refused(Refusal::BadName)),
+    }
+}

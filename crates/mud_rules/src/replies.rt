@@ -1,0 +1,184 @@
+//! What is said of a line that is accepted or refused.
+
+ghost use Rattle.std.specs.Prelude.{◌≡◌, ◌++◌, ◌<◌, ◌^◌, IfOk, codes, decimal, unwrap_or, string_bytes};
+ghost use Rattle.mud_world.specs.State.{destination_of};
+ghost use Rattle.mud_rules.specs.Replies.{refusal_text, welcome_text, key_text, exits_text, dug_text, move_text, deed_text, reply_text};
+
+use mud_key::{Key, print};
+use mud_world::{Change, Deed, Doors, Refusal, Target, World};
+use std::alloc::{AllocError, Global};
+
+/// What is said of a refused line (docs/COMMANDS.md, "Refusals").
+pub fn refusal_text(refusal: Refusal) -> &'static str
+    ensures { result.now ≡ refusal_text refusal }
+{
+    match refusal {
+        Refusal::NotUnderstood => "I couldn't understand that.",
+        Refusal::NoSuch => "There is no such thing.",
+        Refusal::Ambiguous => "Which one do you mean?",
+        Refusal::WrongKind => "That is the wrong kind of thing.",
+        Refusal::NotHere => "That is not here.",
+        Refusal::Denied => "That is not yours.",
+        Refusal::BadName => "That text is not allowed.",
+        Refusal::NameTaken => "That name is taken.",
+        Refusal::BadKey => "That key is not understood.",
+        Refusal::KeyNesting => "That key nests too deep.",
+        Refusal::BadCost => "That cost is not allowed.",
+        Refusal::RecursiveMove => "It can't hold itself.",
+        Refusal::LockedExit => "That exit is locked.",
+        Refusal::LockedRoom => "That place is locked.",
+        Refusal::LockedThing => "That thing is locked.",
+        Refusal::InUse => "That is in use.",
+        Refusal::WorldFull => "The world is full.",
+        Refusal::PartyBad => "That party is not allowed.",
+    }
+}
+
+/// What is said of a change that is accepted (docs/COMMANDS.md, "What is answered"). The world is
+/// the one before the change, since the numbers of new objects are its next ones.
+pub fn reply_text(alloc: Global, world: &World, change: &Change) -> Result<String, AllocError>
+    ensures { IfOk result (λ text. string_bytes text ≡ reply_text world.now change.now) }
+{
+    match &change.deed {
+        Deed::Dig(target, doors) => dig_text(alloc, world, target, doors),
+        Deed::Make(_) => make_text(alloc, world),
+        Deed::Player(_) => welcome_text(alloc, change.actor),
+        Deed::Lock { object, key } => lock_text(alloc, *object, key),
+        Deed::Unlock { object } => about(alloc, "unlocked #", *object),
+        Deed::Move { thing, to } => move_text(alloc, world, change.actor, *thing, *to),
+        Deed::Walk { exit } => walk_text(alloc, world, *exit),
+        Deed::Cost { exit, cost } => cost_text(alloc, *exit, *cost),
+        Deed::Rename { object, .. } => about(alloc, "renamed #", *object),
+        Deed::Recycle { object } => about(alloc, "recycled #", *object),
+        Deed::Say(_) => String::from_str(alloc, "said"),
+        Deed::Emote(_) => String::from_str(alloc, "done"),
+    }
+}
+
+/// What is said to a player who comes in: of [`Verdict::Become`](crate::Verdict) as of the change
+/// that makes a new player.
+pub fn welcome_text(alloc: Global, player: u32) -> Result<String, AllocError>
+    ensures { IfOk result (λ text. string_bytes text ≡ welcome_text player) }
+{
+    format!(in alloc; "welcome #{player}")
+}
+
+// Words, and an object's number.
+fn about(alloc: Global, words: &str, number: u32) -> Result<String, AllocError>
+    ensures { IfOk result (λ text. string_bytes text ≡ words.now ++ decimal number) }
+{
+    Ok(format!(in alloc; "{words}{number}")?)
+}
+
+// An exit, and the exit back.
+fn two_exits_text(alloc: Global, out: u32, back: u32) -> Result<String, AllocError>
+    ensures { IfOk result (λ text. string_bytes text
+        ≡ codes "exit #" ++ decimal out ++ codes ", exit back #" ++ decimal back) }
+{
+    Ok(format!(in alloc; "exit #{out}, exit back #{back}")?)
+}
+
+fn exits_text(alloc: Global, number: u32, doors: &Doors) -> Result<String, AllocError>
+    requires { number < 2 ^ 31 }
+    ensures { IfOk result (λ text. string_bytes text ≡ exits_text number doors.now) }
+{
+    match &doors.back {
+        Some(_) => two_exits_text(alloc, number, number + 1),
+        None => format!(in alloc; "exit #{number}"),
+    }
+}
+
+// A new room, and its exits.
+fn room_and_text(alloc: Global, room: u32, exits: &str) -> Result<String, AllocError>
+    ensures { IfOk result (λ text. string_bytes text
+        ≡ codes "room #" ++ decimal room ++ codes ", " ++ exits.now) }
+{
+    Ok(format!(in alloc; "room #{room}, {exits}")?)
+}
+
+fn dug_text(
+    alloc: Global,
+    number: u32,
+    target: &Target,
+    doors: &Option<Doors>,
+) -> Result<String, AllocError>
+    requires { number < 2 ^ 30 }
+    ensures { IfOk result (λ text. string_bytes text ≡ dug_text number target.now doors.now) }
+{
+    match (target, doors) {
+        (Target::New(_), None) => format!(in alloc; "room #{number}"),
+        (Target::New(_), Some(doors)) => {
+            let exits = exits_text(alloc, number + 1, doors)?;
+            room_and_text(alloc, number, &exits)
+        }
+        (Target::Old(_), None) => Ok(String::new(alloc)),
+        (Target::Old(_), Some(doors)) => exits_text(alloc, number, doors),
+    }
+}
+
+fn dig_text(
+    alloc: Global,
+    world: &World,
+    target: &Target,
+    doors: &Option<Doors>,
+) -> Result<String, AllocError>
+    ensures { IfOk result (λ text. string_bytes text
+        ≡ codes "dug " ++ dug_text world.now.next target.now doors.now) }
+{
+    let dug = dug_text(alloc, world.next_number(), target, doors)?;
+    format!(in alloc; "dug {dug}")
+}
+
+fn make_text(alloc: Global, world: &World) -> Result<String, AllocError>
+    ensures { IfOk result (λ text. string_bytes text ≡ codes "made #" ++ decimal world.now.next) }
+{
+    about(alloc, "made #", world.next_number())
+}
+
+fn lock_text(alloc: Global, object: u32, key: &Key) -> Result<String, AllocError>
+    ensures { IfOk result (λ text. string_bytes text
+        ≡ codes "locked #" ++ decimal object ++ codes " with " ++ key_text key.now) }
+{
+    let mut text = format!(in alloc; "locked #{object} with ")?;
+    text.push_str(&print(alloc, key)?)?;
+    Ok(text)
+}
+
+fn move_text(
+    alloc: Global,
+    world: &World,
+    actor: u32,
+    thing: u32,
+    to: u32,
+) -> Result<String, AllocError>
+    ensures { IfOk result (λ text. string_bytes text ≡ move_text world.now actor thing to) }
+{
+    if to == actor {
+        format!(in alloc; "taken #{thing}")
+    } else if world.is_in(actor, to) {
+        format!(in alloc; "dropped #{thing}")
+    } else if world.is_thing(to) {
+        Ok(format!(in alloc; "put #{thing} in #{to}")?)
+    } else {
+        Ok(format!(in alloc; "gave #{thing} to #{to}")?)
+    }
+}
+
+fn walk_text(alloc: Global, world: &World, exit: u32) -> Result<String, AllocError>
+    ensures { IfOk result (λ text. string_bytes text
+        ≡ codes "went by #" ++ decimal exit ++ codes " to #"
+        ++ decimal (unwrap_or (destination_of world.now exit) 0)) }
+{
+    let room = match world.passage(exit) {
+        Some(passage) => passage.destination,
+        None => 0,
+    };
+    Ok(format!(in alloc; "went by #{exit} to #{room}")?)
+}
+
+fn cost_text(alloc: Global, exit: u32, cost: u32) -> Result<String, AllocError>
+    ensures { IfOk result (λ text. string_bytes text
+        ≡ codes "cost of #" ++ decimal exit ++ codes " is " ++ decimal cost) }
+{
+    Ok(format!(in alloc; "cost of #{exit} is {cost}")?)
+}

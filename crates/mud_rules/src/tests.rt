@@ -1,0 +1,6 @@
+mod commands;
+mod hearing;
+mod lines;
+mod playing;
+mod refusals;
+mod texts;

@@ -1,0 +1,108 @@
+//! The verbs of the table of commands.
+
+ghost use Rattle.std.specs.Prelude.{◌≡◌};
+ghost use Rattle.mud_rules.specs.Table.{is_called, verb_named, asks};
+
+/// A verb of the table.
+#[derive(Clone, Copy)]
+pub(crate) enum Verb {
+    Connect,
+    Look,
+    Inventory,
+    Go,
+    Take,
+    Drop,
+    Put,
+    Give,
+    Say,
+    Emote,
+    Dig,
+    Create,
+    Lock,
+    Unlock,
+    Key,
+    Cost,
+    Rename,
+    Recycle,
+    Version,
+    Quit,
+}
+
+const VERBS: [Verb; 20] = [
+    Verb::Connect,
+    Verb::Look,
+    Verb::Inventory,
+    Verb::Go,
+    Verb::Take,
+    Verb::Drop,
+    Verb::Put,
+    Verb::Give,
+    Verb::Say,
+    Verb::Emote,
+    Verb::Dig,
+    Verb::Create,
+    Verb::Lock,
+    Verb::Unlock,
+    Verb::Key,
+    Verb::Cost,
+    Verb::Rename,
+    Verb::Recycle,
+    Verb::Version,
+    Verb::Quit,
+];
+
+impl Verb {
+    fn is_called(self, text: &str) -> bool
+        ensures { result ≡ is_called text.now self }
+    {
+        match self {
+            Verb::Connect => text.eq_ignore_ascii_case("connect"),
+            Verb::Look => text.eq_ignore_ascii_case("look") || text.eq_ignore_ascii_case("l"),
+            Verb::Inventory => {
+                text.eq_ignore_ascii_case("inventory")
+                    || text.eq_ignore_ascii_case("inv")
+                    || text.eq_ignore_ascii_case("i")
+            }
+            Verb::Go => text.eq_ignore_ascii_case("go"),
+            Verb::Take => text.eq_ignore_ascii_case("take") || text.eq_ignore_ascii_case("get"),
+            Verb::Drop => text.eq_ignore_ascii_case("drop"),
+            Verb::Put => text.eq_ignore_ascii_case("put"),
+            Verb::Give => text.eq_ignore_ascii_case("give"),
+            Verb::Say => text.eq_ignore_ascii_case("say"),
+            Verb::Emote => text.eq_ignore_ascii_case("emote"),
+            Verb::Dig => text.eq_ignore_ascii_case("@dig"),
+            Verb::Create => text.eq_ignore_ascii_case("@create"),
+            Verb::Lock => text.eq_ignore_ascii_case("@lock"),
+            Verb::Unlock => text.eq_ignore_ascii_case("@unlock"),
+            Verb::Key => text.eq_ignore_ascii_case("@key"),
+            Verb::Cost => text.eq_ignore_ascii_case("@cost"),
+            Verb::Rename => text.eq_ignore_ascii_case("@rename"),
+            Verb::Recycle => text.eq_ignore_ascii_case("@recycle"),
+            Verb::Version => text.eq_ignore_ascii_case("@version"),
+            Verb::Quit => text.eq_ignore_ascii_case("quit"),
+        }
+    }
+
+    /// Whether it is the verb of a question.
+    pub(crate) fn asks(self) -> bool
+        ensures { result ≡ asks self }
+    {
+        match self {
+            Verb::Look | Verb::Inventory | Verb::Key | Verb::Version | Verb::Quit => true,
+            _ => false,
+        }
+    }
+
+    /// The verb that a word names, if the table has it.
+    #[tactic(auto, unfolding(crate::specs::Table::verb_named))]
+    pub(crate) fn named(text: &str) -> Option<Verb>
+        ensures { result ≡ verb_named text.now }
+    {
+        for verb in &VERBS {
+            if verb.is_called(text) {
+                return Some(*verb);
+            }
+        }
+        None
+    }
+}

@@ -1,0 +1,6 @@
+pub mod Fresh
+pub mod TurnLemmas
+pub mod TalkLemmas
+pub mod TurnsOf
+pub mod ServeLemmas
+pub mod ScriptLemmas

@@ -1,0 +1,13 @@
+use Rattle.std.proofs.Common.{take, length, arith}
+use Rattle.std.proofs.lemmas.List.{length-drop, take_rest}
+use Rattle.std.proofs.Math.Seq.{take-add}
+use Rattle.std.proofs.KnownBytes.{Appends-trans}
+use Rattle.mud_serve.proofs.script.write_whole.Goals as goal
+
+pub loop-at-preserved : goal.loop-at-preserved
+loop-at-preserved g c =
+    let text = c.args.text.now in
+    record {
+      within = omega (arith, c.in-Ok.ensures.bound, length-drop c.loop-at.at text);
+      written = rw take-add (Appends-trans _ _ _ (take c.loop-at.at text) _ c.loop-at.invariant.written (rw take_rest at c.in-Ok.ensures.bytes));
+    }

@@ -1,0 +1,19 @@
+-- The world of a history.
+use Rattle.std.specs.Prelude.{List, [], ◌∷◌, is_none, if◌then◌else◌}
+use Rattle.mud_world.specs.State.{State}
+use Rattle.mud_world.specs.Opening.{opening_state}
+use Rattle.mud_world.specs.Legal.{refusal, after}
+use Rattle.mud_world.specs.declared.change.Change.{Change}
+
+-- the world after a change, which changes nothing where it is not legal
+abbrev pub stepped : State → Change → State
+stepped w e = if is_none (refusal w e) then after w e else w
+
+-- a world with these changes one after the other
+abbrev pub world_from : State → List Change → State
+world_from w [] = w
+world_from w (e ∷ changes) = world_from (stepped w e) changes
+
+-- the world of a history: the opening with the changes in order
+abbrev pub world_of : List Change → State
+world_of changes = world_from opening_state changes

@@ -1,0 +1,59 @@
+-- Laws of the definitions: what they say together.
+use Rattle.std.specs.Prelude.{◌≡◌, ℕ, ◌≤◌, ◌↔◌, false, nat_eq, true, Some, None, IsTrue}
+use Rattle.std.proofs.Common.{suc}
+use Rattle.std.specs.Option.{option_map_or}
+use Rattle.std.specs.List.{list_any}
+use Rattle.mud_key.specs.Tree.{Tree}
+use Rattle.mud_world.specs.declared.change.Change.{Change}
+use Rattle.mud_world.specs.declared.refusal.Refusal.{Refusal}
+use Rattle.mud_world.specs.Truth.{key_true}
+use Rattle.mud_world.specs.Numbers.{IsRisingFrom}
+use Rattle.mud_world.specs.State.{State, has, place_of, contents_of, within, source_of, leaving_of, key_of, nests, unlocked}
+use Rattle.mud_world.specs.Sound.{IsSound}
+use Rattle.mud_world.specs.Nesting.{Questions}
+use Rattle.mud_world.specs.Refusals.{number}
+use Rattle.mud_world.specs.Legal.{fails, refusal, after}
+
+-- in a sound world an object is in the contents of c exactly where its place is c, and contents rise
+abbrev pub AreContents : Type 0
+AreContents =
+    (w : State) → IsSound w → (c : ℕ)
+    → ((n : ℕ) → IsTrue (list_any (nat_eq n) (contents_of w c)) ↔ (place_of w n ≡ Some c)) × IsRisingFrom 0 (contents_of w c)
+
+-- in a sound world an exit leaves c exactly where its source is c, and the exits that leave c rise
+abbrev pub AreLeaving : Type 0
+AreLeaving =
+    (w : State) → IsSound w → (c : ℕ)
+    → ((n : ℕ) → IsTrue (list_any (nat_eq n) (leaving_of w c)) ↔ (source_of w n ≡ Some c)) × IsRisingFrom 0 (leaving_of w c)
+
+-- in a sound world the levels of a key never run out: o is unlocked for c exactly where it exists and has no key, or its key is
+-- true, an object in it meaning that the object is within c, and `?x` that x is unlocked for c
+abbrev pub AreLevelsEnough : Type 0
+AreLevelsEnough =
+    (w : State) → IsSound w → (c o : ℕ)
+    → unlocked w c o ≡ has w o (λ r. option_map_or (key_true (λ a. within w a c) (unlocked w c)) r.key true)
+
+-- a key nests at most n exactly where no more than n questions, one after the other, lead on from its object
+abbrev pub IsNesting : Type 0
+IsNesting =
+    (w : State) (a : ℕ) (k : Tree ℕ) → key_of w a ≡ Some k
+    → (n : ℕ) → IsTrue (nests w n k) ↔ ((m b : ℕ) → Questions w m a b → m ≤ n)
+
+-- a key in a circle of questions nests more than any number of levels
+abbrev pub CirclesNestOn : Type 0
+CirclesNestOn = (w : State) (a m : ℕ) (k : Tree ℕ) → Questions w (suc m) a a → key_of w a ≡ Some k → (n : ℕ) → nests w n k ≡ false
+
+-- the refusal's condition holds of the change, and that of no refusal of lower number does
+pub record IsLeastRefusal (w : State) (e : Change) (f : Refusal) : Type 0 where
+  pub holds : IsTrue (fails w e f)
+  pub least : (g : Refusal) → IsTrue (fails w e g) → number f ≤ number g
+
+-- the refusal of a change is the one of least number whose condition holds, and there is none exactly where none holds
+abbrev pub AreRefusalsLeast : Type 0
+AreRefusalsLeast =
+    (w : State) (e : Change)
+    → ((f : Refusal) → (refusal w e ≡ Some f) ↔ IsLeastRefusal w e f) × ((refusal w e ≡ None) ↔ ((f : Refusal) → fails w e f ≡ false))
+
+-- the world after a legal change of a sound world is sound
+abbrev pub StaysSound : Type 0
+StaysSound = (w : State) (e : Change) → IsSound w → refusal w e ≡ None → IsSound (after w e)

@@ -1,0 +1,36 @@
+-- Refusals by number, and the lesser of two.
+use Rattle.std.specs.Prelude.{ℕ, Bool, true, false, nat_lt, Option, Some, None, if◌then◌else◌}
+use Rattle.mud_world.specs.declared.refusal.Refusal.{Refusal}
+use Rattle.mud_world.specs.declared.refusal.Refusal.TheVariants.{NotUnderstood, NoSuch, Ambiguous, WrongKind, NotHere, Denied, BadName, NameTaken, BadKey, KeyNesting, BadCost, RecursiveMove, LockedExit, LockedRoom, LockedThing, InUse, WorldFull, PartyBad}
+
+-- the number of a refusal
+abbrev pub number : Refusal → ℕ
+number NotUnderstood = 1
+number NoSuch = 2
+number Ambiguous = 3
+number WrongKind = 4
+number NotHere = 5
+number Denied = 6
+number BadName = 7
+number NameTaken = 8
+number BadKey = 9
+number KeyNesting = 10
+number BadCost = 11
+number RecursiveMove = 12
+number LockedExit = 13
+number LockedRoom = 14
+number LockedThing = 15
+number InUse = 16
+number WorldFull = 17
+number PartyBad = 18
+
+-- the one of lower number, where there is one
+abbrev pub lesser : Option Refusal → Option Refusal → Option Refusal
+lesser None g = g
+lesser (Some f) None = Some f
+lesser (Some f) (Some g) = if nat_lt (number g) (number f) then Some g else Some f
+
+-- the refusal, where its condition holds
+abbrev pub refused_if : Bool → Refusal → Option Refusal
+refused_if true f = Some f
+refused_if false f = None

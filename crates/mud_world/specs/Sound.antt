@@ -1,0 +1,41 @@
+-- What is true of every world.
+use Rattle.std.specs.Prelude.{◌≡◌, ◌≢◌, ℕ, ◌+◌, ◌≤◌, ◌≢◌, false, List, [], ◌∷◌, Some, None, IsTrue}
+use Rattle.std.proofs.Common.{suc}
+use Rattle.mud_world.specs.declared.record.Kind.{Kind}
+use Rattle.mud_world.specs.declared.record.Kind.TheVariants.{Room, Exit, Thing, Player}
+use Rattle.mud_world.specs.declared.record.Record.{Record}
+use Rattle.mud_world.specs.State.{State, record_at, follow, is_room, is_exit, exists, all_nest, shares, is_player_kind}
+
+-- the numbers rise from low on, and stay below high
+abbrev pub IsRising : ℕ → List (ℕ × Record) → ℕ → Type 0
+IsRising low [] high = low ≤ high
+IsRising low (e ∷ es) high = (low ≤ e.0) × IsRising (e.0 + 1) es high
+
+-- places and ends are of the kinds that are allowed
+abbrev pub IsPlacedWell : State → Kind → Type 0
+IsPlacedWell w Room = Unit {0}
+IsPlacedWell w (Exit p) = IsTrue (is_room w p.source) × IsTrue (is_room w p.destination) × (p.cost ≤ 10000)
+IsPlacedWell w (Thing place) = IsTrue (exists w place) × (is_exit w place ≡ false)
+IsPlacedWell w (Player place) = IsTrue (is_room w place)
+
+-- a player has no key
+abbrev pub IsKeyless : Record → Type 0
+IsKeyless r = (place : ℕ) → r.kind ≡ Player place → r.key ≡ None
+
+-- no two players share a name
+abbrev pub AreNamedApart : State → Type 0
+AreNamedApart w =
+    (a b : ℕ) (r s : Record) → record_at w a ≡ Some r → record_at w b ≡ Some s → a ≢ b
+    → IsTrue (is_player_kind r.kind) → IsTrue (is_player_kind s.kind) → shares r.names s.names ≡ false
+
+-- what is true of every world, and stays true in every legal change
+pub record IsSound (w : State) : Type 0 where
+  pub rising : IsRising 0 w.objects w.next
+  pub limit : w.next ≤ 8192
+  pub placed : (n : ℕ) (r : Record) → record_at w n ≡ Some r → IsPlacedWell w r.kind
+  pub no_circle : (n k : ℕ) → follow w (suc k) n ≢ Some n
+  pub keyless : (n : ℕ) (r : Record) → record_at w n ≡ Some r → IsKeyless r
+  pub nesting : IsTrue (all_nest w)
+  pub named : AreNamedApart w
+  -- where new players stand
+  pub hall : IsTrue (is_room w 0)

@@ -1,0 +1,189 @@
+//! What a change does.
+
+ghost use Rattle.std.specs.Prelude.{◌≡◌, None, OnOk, OnErr};
+ghost use Rattle.mud_world.specs.Sound.{IsSound};
+ghost use Rattle.mud_world.specs.Legal.{refusal, moved, after, keyed, renamed};
+ghost use Rattle.mud_world.specs.Going.{CanGo, CanKey, CanName};
+
+use crate::slots::{Slot, add_slot, forget, relocate_in, set_cost, set_key, set_names};
+use crate::world::World;
+use crate::{Change, Deed, Doors, Kind, Passage, Record, Target};
+use mud_key::{Key, Name, Names};
+use std::alloc::AllocError;
+
+impl World {
+    // Gives an object another place.
+    fn relocate(&mut self, object: u32, from: u32, to: u32) -> Result<(), AllocError>
+        requires { CanGo self.old object from to }
+        ensures ok { OnOk result (self.new ≡ moved self.old object to) }
+        ensures err { OnErr result (self.new ≡ self.old) }
+    {
+        relocate_in(&mut self.slots, object, from, to)
+    }
+
+    // The actor goes to where the exit leads.
+    #[tactic(auto, unfolding(crate::specs::Legal::refusal))]
+    fn walk(&mut self, actor: u32, exit: u32) -> Result<(), AllocError>
+        requires { refusal self.old (record { actor = actor; deed = Deed.Walk exit }) ≡ None }
+        ensures ok { OnOk result (self.new ≡ after self.old (record { actor = actor; deed = Deed.Walk exit })) }
+        ensures err { OnErr result (self.new ≡ self.old) }
+    {
+        self.is_sound();
+        match (self.place(actor), self.passage(exit)) {
+            (Some(from), Some(passage)) => {
+                if from == passage.destination {
+                    Ok(())
+                } else {
+                    self.relocate(actor, from, passage.destination)
+                }
+            }
+            _ => Ok(()),
+        }
+    }
+
+    // The thing goes to another place.
+    fn carry(&mut self, actor: u32, thing: u32, to: u32) -> Result<(), AllocError>
+        requires { refusal self.old (record { actor = actor; deed = Deed.Move thing to }) ≡ None }
+        ensures ok { OnOk result (self.new ≡ after self.old (record { actor = actor; deed = Deed.Move thing to })) }
+        ensures err { OnErr result (self.new ≡ self.old) }
+    {
+        self.is_sound();
+        match self.place(thing) {
+            Some(from) => self.relocate(thing, from, to),
+            None => Ok(()),
+        }
+    }
+
+    // A thing in the actor.
+    fn make(&mut self, actor: u32, names: &Names) -> Result<(), AllocError>
+        requires { refusal self.old (record { actor = actor; deed = Deed.Make names.now }) ≡ None }
+        ensures ok { OnOk result (self.new ≡ after self.old (record { actor = actor; deed = Deed.Make names.now })) }
+        ensures err { OnErr result (self.new ≡ self.old) }
+    {
+        let thing = Record {
+            names: names.copy(self.alloc)?,
+            owner: actor,
+            kind: Kind::Thing { place: actor },
+            key: None,
+        };
+        self.add(thing)
+    }
+
+    // Gives an object another key, or none.
+    fn set_key(&mut self, object: u32, key: Option<Key>)
+        requires { CanKey self.old object key }
+        ensures { self.new ≡ keyed self.old object key }
+    {
+        set_key(&mut self.slots, object, key);
+    }
+
+    // The object gets a copy of the key.
+    #[tactic(auto, unfolding(crate::specs::Legal::refusal))]
+    fn lock(&mut self, actor: u32, object: u32, key: &Key) -> Result<(), AllocError>
+        requires { refusal self.old (record { actor = actor; deed = Deed.Lock object key.now }) ≡ None }
+        ensures ok { OnOk result (self.new ≡ after self.old (record { actor = actor; deed = Deed.Lock object key.now })) }
+        ensures err { OnErr result (self.new ≡ self.old) }
+    {
+        let key = key.copy(self.alloc)?;
+        self.set_key(object, Some(key));
+        Ok(())
+    }
+
+    // The object has no key from then on.
+    fn unlock(&mut self, actor: u32, object: u32)
+        requires { refusal self.old (record { actor = actor; deed = Deed.Unlock object }) ≡ None }
+        ensures { self.new ≡ after self.old (record { actor = actor; deed = Deed.Unlock object }) }
+    {
+        self.is_sound();
+        self.set_key(object, None);
+    }
+
+    // The exit costs so much.
+    fn set_cost(&mut self, actor: u32, exit: u32, cost: u32)
+        requires { refusal self.old (record { actor = actor; deed = Deed.Cost exit cost }) ≡ None }
+        ensures { self.new ≡ after self.old (record { actor = actor; deed = Deed.Cost exit cost }) }
+    {
+        set_cost(&mut self.slots, exit, cost);
+    }
+
+    // A player in the hall, who owns himself.
+    fn add_player(&mut self, actor: u32, name: &Name) -> Result<(), AllocError>
+        requires { refusal self.old (record { actor = actor; deed = Deed.Player name.now }) ≡ None }
+        ensures ok { OnOk result (self.new ≡ after self.old (record { actor = actor; deed = Deed.Player name.now })) }
+        ensures err { OnErr result (self.new ≡ self.old) }
+    {
+        self.is_sound();
+        let names = Names::of(self.alloc, name.copy(self.alloc)?)?;
+        let player = Record {
+            names,
+            owner: actor,
+            kind: Kind::Player { place: 0 },
+            key: None,
+        };
+        self.add(player)
+    }
+
+    // Gives an object other names.
+    fn set_names(&mut self, object: u32, names: Names)
+        requires { CanName self.old object names }
+        ensures { self.new ≡ renamed self.old object names }
+    {
+        set_names(&mut self.slots, object, names);
+    }
+
+    // The object gets a copy of the names.
+    #[tactic(auto, unfolding(crate::specs::Legal::refusal))]
+    fn rename(&mut self, actor: u32, object: u32, names: &Names) -> Result<(), AllocError>
+        requires { refusal self.old (record { actor = actor; deed = Deed.Rename object names.now }) ≡ None }
+        ensures ok { OnOk result (self.new ≡ after self.old (record { actor = actor; deed = Deed.Rename object names.now })) }
+        ensures err { OnErr result (self.new ≡ self.old) }
+    {
+        let names = names.copy(self.alloc)?;
+        self.set_names(object, names);
+        Ok(())
+    }
+
+    // The object is gone.
+    fn recycle(&mut self, actor: u32, object: u32)
+        requires { refusal self.old (record { actor = actor; deed = Deed.Recycle object }) ≡ None }
+        ensures { self.new ≡ after self.old (record { actor = actor; deed = Deed.Recycle object }) }
+    {
+        forget(&mut self.slots, object);
+    }
+
+    /// Makes the world after a legal change (`after`). The only error is want of memory, and then
+    /// the world is the one that was. New objects get the next numbers, in the order room, exit,
+    /// exit back; a number is never given again (LambdaMOO Programmer's Manual, "Objects").
+    pub fn apply(&mut self, change: &Change) -> Result<(), AllocError>
+        requires { refusal self.old change.now ≡ None }
+        ensures ok { OnOk result (self.new ≡ after self.old change.now) }
+        ensures err { OnErr result (self.new ≡ self.old) }
+        ensures sound { IsSound self.new }
+    {
+        let actor = change.actor;
+        let done = match &change.deed {
+            Deed::Dig(target, doors) => self.dig(actor, target, doors),
+            Deed::Make(names) => self.make(actor, names),
+            Deed::Lock { object, key } => self.lock(actor, *object, key),
+            Deed::Unlock { object } => {
+                self.unlock(actor, *object);
+                Ok(())
+            }
+            Deed::Move { thing, to } => self.carry(actor, *thing, *to),
+            Deed::Walk { exit } => self.walk(actor, *exit),
+            Deed::Cost { exit, cost } => {
+                self.set_cost(actor, *exit, *cost);
+                Ok(())
+            }
+            Deed::Player(name) => self.add_player(actor, name),
+            Deed::Rename { object, names } => self.rename(actor, *object, names),
+            Deed::Recycle { object } => {
+                self.recycle(actor, *object);
+                Ok(())
+            }
+            Deed::Say(_) | Deed::Emote(_) => Ok(()),
+        };
+        self.is_sound();
+        done
+    }
+}

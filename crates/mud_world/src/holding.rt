@@ -1,0 +1,127 @@
+//! What an object carries, as a set of numbers, and what is unlocked for it.
+
+ghost use Rattle.std.specs.Prelude.{◌≡◌, ℕ, List, IfOk, OnOk, IsTrue, ◌↔◌, nat_eq};
+ghost use Rattle.mud_world.specs.State.{IsHolding, unlocked, Within, opens, holds_for};
+ghost use Rattle.mud_key.specs.Node.{key_of as tree_of};
+ghost use Rattle.std.specs.List.{list_any};
+ghost use Rattle.indexmap.specs.IndexSet.{insert_key, insert_all};
+
+use crate::world::World;
+use indexmap::IndexSet;
+use mud_key::{Node, Operator};
+use std::alloc::AllocError;
+use std::marker::Model;
+
+/// The numbers of an object and of all that it contains at any depth: those that are true in a key
+/// that it meets. It is of the world that it was made from, and does not follow later changes. A
+/// contract sees the list of the numbers.
+#[derive(Drop)]
+pub struct Holding {
+    members: IndexSet<u32>,
+}
+
+impl Model for Holding {
+    ghost use Rattle.std.specs.Prelude.{ℕ, List};
+
+    ghost Value = { List ℕ };
+
+    ghost view = { λ a. a.members.keys };
+}
+
+impl Holding {
+    /// Whether the object is the one whose holding this is, or lies within it.
+    pub fn has(&self, object: u32) -> bool
+        ensures { result ≡ list_any (nat_eq object) self.now }
+    {
+        self.members.contains(&object)
+    }
+}
+
+// Adds a number, where it isn't there yet.
+fn add_number(members: &mut IndexSet<u32>, number: u32) -> Result<(), AllocError>
+    ensures { OnOk result (members.new.keys ≡ insert_key nat_eq members.old.keys number) }
+{
+    match members.insert(number) {
+        Ok(_) => Ok(()),
+        Err(_) => Err(AllocError),
+    }
+}
+
+// Adds each number that isn't there yet.
+fn add_numbers(members: &mut IndexSet<u32>, numbers: &[u32]) -> Result<(), AllocError>
+    ensures { OnOk result (members.new.keys ≡ insert_all nat_eq members.old.keys numbers.now) }
+{
+    for number in numbers {
+        add_number(members, *number)?;
+    }
+    Ok(())
+}
+
+impl World {
+    /// What an object carries at any depth, itself included; nothing, where it doesn't exist. It
+    /// goes downwards through contents, each object once (LambdaMOO Programmer's Manual,
+    /// "Fundamental Object Attributes": contents). Only want of memory is an error.
+    pub fn carried(&self, candidate: u32) -> Result<Holding, AllocError>
+        ensures holding { IfOk result (IsHolding self.now candidate) }
+        ensures members { IfOk result (λ held. (o : ℕ) → IsTrue (list_any (nat_eq o) held) ↔ Within self.now o candidate) }
+    {
+        let next = self.next_number();
+        let mut members = IndexSet::new(self.alloc);
+        if self.exists(candidate) {
+            add_number(&mut members, candidate)?;
+        }
+        for i in 0..next {
+            match members.get_index(i as usize) {
+                None => return Ok(Holding { members }),
+                Some(at) => {
+                    let inner = self.contents(*at);
+                    add_numbers(&mut members, inner)?;
+                }
+            }
+        }
+        let _len = members.len();
+        Ok(Holding { members })
+    }
+
+    // Whether the object exists, and has no key or one that is true with a level less.
+    #[cycle(carried_locks)]
+    fn opens_for(&self, holding: &Holding, object: u32, levels: u32) -> bool
+        ensures { result ≡ opens self.now levels (λ a. list_any (nat_eq a) holding.now) object }
+    {
+        match self.get(object) {
+            None => false,
+            Some(record) => match &record.key {
+                None => true,
+                Some(key) => levels > 0 && self.is_true_for(holding, key.node(), levels - 1),
+            },
+        }
+    }
+
+    // Whether the key is true for the one whose holding it is.
+    #[cycle(carried_locks)]
+    fn is_true_for(&self, holding: &Holding, node: &Node<u32>, levels: u32) -> bool
+        ensures { result ≡ holds_for self.now (λ a. list_any (nat_eq a) holding.now) (tree_of node.now) levels }
+    {
+        match node {
+            Node::Has(object) => holding.has(*object),
+            Node::Asks(object) => self.opens_for(holding, *object, levels),
+            Node::Not(key) => !self.is_true_for(holding, key, levels),
+            Node::Join(Operator::And, left, right) => {
+                self.is_true_for(holding, left, levels) && self.is_true_for(holding, right, levels)
+            }
+            Node::Join(Operator::Or, left, right) => {
+                self.is_true_for(holding, left, levels) || self.is_true_for(holding, right, levels)
+            }
+        }
+    }
+
+    /// Whether an object is unlocked for the one whose holding it is: it exists and has no key, or
+    /// its key is true. In a key an object is true where the holding has it, and `?x` where x is
+    /// unlocked in turn; a recycled object is false in both forms, and nobody passes by rank (this
+    /// project's profile, in the manner of LambdaCore's keys). It takes no memory.
+    pub fn unlocked(&self, holding: &Holding, object: u32) -> bool
+        ensures { (c : ℕ) → IsHolding self.now c holding.now → result ≡ unlocked self.now c object }
+    {
+        self.opens_for(holding, object, 4)
+    }
+}

@@ -1,0 +1,41 @@
+//! What is known of the definitions alone: each contract is a law, and its function does nothing.
+
+ghost use Rattle.mud_world.specs.Laws.{AreContents, AreLeaving, AreLevelsEnough, IsNesting, CirclesNestOn, AreRefusalsLeast, StaysSound};
+
+/// In a sound world an object is in the contents of another exactly where that is its place.
+pub fn contents()
+    ensures { AreContents }
+{}
+
+/// In a sound world an exit leaves an object exactly where that is its source.
+pub fn leaving()
+    ensures { AreLeaving }
+{}
+
+/// In a sound world the levels of a key never run out: `?x` is true in a key exactly where x is
+/// unlocked.
+pub fn levels()
+    ensures { AreLevelsEnough }
+{}
+
+/// A key nests at most n exactly where no more than n questions, one after the other, lead on from
+/// its object.
+pub fn nesting()
+    ensures { IsNesting }
+{}
+
+/// A key in a circle of questions nests more than any number of levels.
+pub fn circles()
+    ensures { CirclesNestOn }
+{}
+
+/// The refusal of a change is the one of least number whose condition holds, and there is none
+/// exactly where none holds.
+pub fn refusals()
+    ensures { AreRefusalsLeast }
+{}
+
+/// The world after a legal change of a sound world is sound.
+pub fn soundness()
+    ensures { StaysSound }
+{}

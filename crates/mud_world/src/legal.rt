@@ -1,0 +1,274 @@
+//! What refuses a change.
+
+ghost use Rattle.std.specs.Prelude.{MatchResult, not, ◌≡◌, ℕ, ◌≤◌, [], ◌∷◌, Some, None, length};
+ghost use Rattle.mud_world.specs.State.{is_taken, State, exists};
+ghost use Rattle.mud_key.specs.Node.{key_of as tree_of};
+ghost use Rattle.mud_world.specs.Legal.{in_use, is_full, dug, actor_fails, deed_fails, refusal, fails};
+ghost use Rattle.mud_key.specs.Tree.{atoms_of};
+ghost use Rattle.std.specs.List.{list_any};
+
+use crate::slots::{is_name_taken, is_needed, is_taken};
+use crate::speech::is_speech;
+use crate::world::World;
+use crate::{Change, Deed, Doors, Refusal, Target};
+use mud_key::{Key, Name, Names, Node, Operator};
+
+// The refusals of changes by rising number.
+const REFUSALS: [Refusal; 15] = [
+    Refusal::NoSuch,
+    Refusal::WrongKind,
+    Refusal::NotHere,
+    Refusal::Denied,
+    Refusal::BadName,
+    Refusal::NameTaken,
+    Refusal::BadKey,
+    Refusal::KeyNesting,
+    Refusal::BadCost,
+    Refusal::RecursiveMove,
+    Refusal::LockedExit,
+    Refusal::LockedRoom,
+    Refusal::LockedThing,
+    Refusal::InUse,
+    Refusal::WorldFull,
+];
+
+impl World {
+    // Whether so many new objects would have a number above 8,191.
+    fn is_full(&self, count: u32) -> bool
+        requires { count ≤ 3 }
+        ensures { result ≡ is_full self.now count }
+    {
+        self.next + count > 8192
+    }
+
+    // How many objects are dug.
+    fn dug_count(target: &Target, doors: &Option<Doors>) -> u32
+        ensures count { (w : State) (actor : ℕ) → result ≡ length (dug w actor target.now doors.now) }
+        ensures few { result ≤ 3 }
+    {
+        let room = match target {
+            Target::New(_) => 1,
+            Target::Old(_) => 0,
+        };
+        let exits = match doors {
+            None => 0,
+            Some(doors) => match &doors.back {
+                None => 1,
+                Some(_) => 2,
+            },
+        };
+        room + exits
+    }
+
+    // Whether this refuses the actor, who is to be a player of the world.
+    fn actor_fails(&self, actor: u32, fault: Refusal) -> bool
+        ensures { result ≡ actor_fails self.now actor fault }
+    {
+        match fault {
+            Refusal::NoSuch => !self.exists(actor),
+            Refusal::WrongKind => !self.is_player(actor),
+            _ => false,
+        }
+    }
+
+    // Whether this refuses a walk through the exit.
+    fn walk_fails(&self, actor: u32, exit: u32, fault: Refusal) -> bool
+        ensures { result ≡ deed_fails self.now actor (Deed.Walk exit) fault }
+    {
+        match fault {
+            Refusal::NoSuch => !self.exists(exit),
+            Refusal::WrongKind => !self.is_exit(exit),
+            Refusal::NotHere => !self.leaves_from(actor, exit),
+            Refusal::LockedExit => !self.is_open(actor, exit),
+            Refusal::LockedRoom => match self.passage(exit) {
+                Some(passage) => !self.is_open(actor, passage.destination),
+                None => true,
+            },
+            _ => false,
+        }
+    }
+
+    // Whether this refuses a dig.
+    fn dig_fails(&self, actor: u32, target: &Target, doors: &Option<Doors>, fault: Refusal) -> bool
+        ensures { result ≡ deed_fails self.now actor (Deed.Dig target.now doors.now) fault }
+    {
+        match (fault, target) {
+            (Refusal::NoSuch, Target::Old(room)) => !self.exists(*room),
+            (Refusal::WrongKind, Target::Old(room)) => !self.is_room(*room) || doors.is_none(),
+            (Refusal::WorldFull, _) => self.is_full(Self::dug_count(target, doors)),
+            _ => false,
+        }
+    }
+
+    // Whether this refuses a move of the thing.
+    fn move_fails(&self, actor: u32, thing: u32, to: u32, fault: Refusal) -> bool
+        ensures { result ≡ deed_fails self.now actor (Deed.Move thing to) fault }
+    {
+        match fault {
+            Refusal::NoSuch => !self.exists(thing) || !self.exists(to),
+            Refusal::WrongKind => !self.is_thing(thing) || self.is_exit(to),
+            Refusal::NotHere => {
+                !self.in_reach(actor, thing) || self.is_in(thing, to) || !self.is_offered(actor, to)
+            }
+            Refusal::RecursiveMove => self.holds(thing, to),
+            Refusal::LockedRoom => !self.is_open(thing, to),
+            Refusal::LockedThing => !self.is_open(to, thing),
+            _ => false,
+        }
+    }
+
+    // Whether this refuses making it the key of the object.
+    fn lock_fails(&self, actor: u32, object: u32, key: &Key, fault: Refusal) -> bool
+        ensures { result ≡ deed_fails self.now actor (Deed.Lock object key.now) fault }
+    {
+        match fault {
+            Refusal::NoSuch => !self.exists(object),
+            Refusal::WrongKind => self.is_player(object),
+            Refusal::Denied => !self.owns(actor, object),
+            Refusal::BadKey => self.misses_atom(key.node()),
+            Refusal::KeyNesting => !self.all_nest_with(object, key),
+            _ => false,
+        }
+    }
+
+    // Whether this refuses taking the key of the object away.
+    fn unlock_fails(&self, actor: u32, object: u32, fault: Refusal) -> bool
+        ensures { result ≡ deed_fails self.now actor (Deed.Unlock object) fault }
+    {
+        match fault {
+            Refusal::NoSuch => !self.exists(object),
+            Refusal::WrongKind => self.is_player(object),
+            Refusal::Denied => !self.owns(actor, object),
+            _ => false,
+        }
+    }
+
+    // Whether this refuses this cost of the exit.
+    fn cost_fails(&self, actor: u32, exit: u32, cost: u32, fault: Refusal) -> bool
+        ensures { result ≡ deed_fails self.now actor (Deed.Cost exit cost) fault }
+    {
+        match fault {
+            Refusal::NoSuch => !self.exists(exit),
+            Refusal::WrongKind => !self.is_exit(exit),
+            Refusal::Denied => !self.owns(actor, exit),
+            Refusal::BadCost => cost > 10000,
+            _ => false,
+        }
+    }
+
+    // Whether it is the hall, or something lies in it or has an end at it.
+    fn in_use(&self, object: u32) -> bool
+        ensures { result ≡ in_use self.now object }
+    {
+        object == 0 || is_needed(&self.slots, object)
+    }
+
+    // Whether another player has one of the names.
+    fn is_taken(&self, number: u32, names: &Names) -> bool
+        ensures { result ≡ is_taken self.now number names.now }
+    {
+        is_taken(&self.slots, number, names)
+    }
+
+    // Whether another player has the name.
+    fn is_name_taken(&self, number: u32, name: &Name) -> bool
+        ensures { result ≡ is_taken self.now number (name.now ∷ []) }
+    {
+        is_name_taken(&self.slots, number, name)
+    }
+
+    // Whether this refuses a new player.
+    fn player_fails(&self, actor: u32, name: &Name, fault: Refusal) -> bool
+        ensures { result ≡ deed_fails self.now actor (Deed.Player name.now) fault }
+    {
+        match fault {
+            Refusal::NoSuch => actor != self.next,
+            Refusal::NameTaken => self.is_name_taken(actor, name),
+            Refusal::WorldFull => self.is_full(1),
+            _ => false,
+        }
+    }
+
+    // Whether this refuses these names of the object.
+    fn rename_fails(&self, actor: u32, object: u32, names: &Names, fault: Refusal) -> bool
+        ensures { result ≡ deed_fails self.now actor (Deed.Rename object names.now) fault }
+    {
+        match fault {
+            Refusal::NoSuch => !self.exists(object),
+            Refusal::Denied => !self.owns(actor, object),
+            Refusal::NameTaken => self.is_player(object) && self.is_taken(object, names),
+            _ => false,
+        }
+    }
+
+    // Whether this refuses recycling the object.
+    fn recycle_fails(&self, actor: u32, object: u32, fault: Refusal) -> bool
+        ensures { result ≡ deed_fails self.now actor (Deed.Recycle object) fault }
+    {
+        match fault {
+            Refusal::NoSuch => !self.exists(object),
+            Refusal::WrongKind => self.is_player(object),
+            Refusal::Denied => !self.owns(actor, object),
+            Refusal::InUse => self.in_use(object),
+            _ => false,
+        }
+    }
+
+    // Whether an object of the key is missing.
+    fn misses_atom(&self, node: &Node<u32>) -> bool
+        ensures { result ≡ list_any (λ o. not (exists self.now o)) (atoms_of (tree_of node.now)) }
+    {
+        match node {
+            Node::Has(object) | Node::Asks(object) => !self.exists(*object),
+            Node::Not(key) => self.misses_atom(key),
+            Node::Join(_, left, right) => { self.misses_atom(left) || self.misses_atom(right) }
+        }
+    }
+
+    // Whether the condition of the refusal holds of the change.
+    fn fails(&self, change: &Change, fault: Refusal) -> bool
+        ensures { result ≡ fails self.now change.now fault }
+    {
+        let actor = change.actor;
+        (!matches!(&change.deed, Deed::Player(_)) && self.actor_fails(actor, fault))
+            || match &change.deed {
+                Deed::Dig(target, doors) => self.dig_fails(actor, target, doors, fault),
+                Deed::Make(_) => fault == Refusal::WorldFull && self.is_full(1),
+                Deed::Lock { object, key } => self.lock_fails(actor, *object, key, fault),
+                Deed::Unlock { object } => self.unlock_fails(actor, *object, fault),
+                Deed::Move { thing, to } => self.move_fails(actor, *thing, *to, fault),
+                Deed::Walk { exit } => self.walk_fails(actor, *exit, fault),
+                Deed::Cost { exit, cost } => self.cost_fails(actor, *exit, *cost, fault),
+                Deed::Player(name) => self.player_fails(actor, name, fault),
+                Deed::Rename { object, names } => self.rename_fails(actor, *object, names, fault),
+                Deed::Recycle { object } => self.recycle_fails(actor, *object, fault),
+                Deed::Say(text) | Deed::Emote(text) => {
+                    fault == Refusal::BadName && !is_speech(text.as_str())
+                }
+            }
+    }
+
+    // The refusal of least number whose condition holds.
+    #[tactic(auto, unfolding(crate::specs::Legal::refusal))]
+    fn first_refusal(&self, change: &Change) -> Option<Refusal>
+        ensures { result ≡ refusal self.now change.now }
+    {
+        REFUSALS
+            .iter()
+            .copied()
+            .find(|fault| self.fails(change, *fault))
+    }
+
+    /// The refusal of least number whose condition holds of the change, or none: the change is legal.
+    /// All conditions are asked of the world before the change. docs/WORLD.md has them as a table
+    /// (this project's profile; RecursiveMove and Denied are the errors of that name of the
+    /// LambdaMOO Programmer's Manual, "Moving Objects" and "Object Ownership"). It takes no memory.
+    pub fn legal(&self, change: &Change) -> Result<(), Refusal>
+        ensures { MatchResult result (λ _. refusal self.now change.now ≡ None) (λ fault. refusal self.now change.now ≡ Some fault) }
+    {
+        match self.first_refusal(change) {
+            None => Ok(()),
+            Some(fault) => Err(fault),
+        }
+    }
+}

@@ -1,0 +1,87 @@
+//! Following places upwards: what lies within what, and what is in reach.
+
+ghost use Rattle.std.specs.Prelude.{◌≡◌, IsTrue, ◌↔◌};
+ghost use Rattle.mud_world.specs.State.{Within, within, comes_to};
+ghost use Rattle.mud_world.specs.Legal.{shares_room, in_reach, InReach, is_offered};
+
+use crate::world::World;
+
+impl World {
+    // Whether following places, from an object on, gives another.
+    fn comes_to(&self, from: u32, to: u32) -> bool
+        ensures { result ≡ comes_to self.now self.now.next from to }
+    {
+        let mut at = from;
+        for _step in 0..self.next {
+            if at == to {
+                return true;
+            }
+            match self.place(at) {
+                Some(place) => at = place,
+                None => return false,
+            }
+        }
+        false
+    }
+
+    /// Whether an object is the holder, or lies within it at any depth (LambdaMOO Programmer's
+    /// Manual, "Fundamental Object Attributes": contents). It takes a look-up for each place on
+    /// the way up.
+    pub fn holds(&self, holder: u32, object: u32) -> bool
+        ensures holds { result ≡ within self.now object holder }
+        ensures follows { IsTrue result ↔ Within self.now object holder }
+    {
+        self.is_sound();
+        self.exists(object) && self.comes_to(object, holder)
+    }
+
+    // Whether an object stands in the room of the actor.
+    fn shares_room(&self, actor: u32, object: u32) -> bool
+        ensures { result ≡ shares_room self.now actor object }
+    {
+        match self.place(actor) {
+            Some(room) => self.is_in(object, room),
+            None => false,
+        }
+    }
+
+    // The test of reach, by following places upwards.
+    fn arrives(&self, actor: u32, object: u32) -> bool
+        ensures { result ≡ in_reach self.now actor object }
+    {
+        let mut at = object;
+        for _step in 0..self.next {
+            let Some(place) = self.place(at) else {
+                return false;
+            };
+            if place == actor || self.is_in(actor, place) {
+                return true;
+            }
+            if !self.is_thing(place) {
+                return false;
+            }
+            at = place;
+        }
+        false
+    }
+
+    /// Whether following places from the object one arrives at the actor or at his room, passing
+    /// things alone (this project's profile). What another player carries is out of reach.
+    pub fn in_reach(&self, actor: u32, object: u32) -> bool
+        ensures reach { result ≡ in_reach self.now actor object }
+        ensures reaches { IsTrue result ↔ InReach self.now actor object }
+    {
+        self.is_sound();
+        self.arrives(actor, object)
+    }
+
+    // Whether the actor can put something into it.
+    pub(crate) fn is_offered(&self, actor: u32, to: u32) -> bool
+        ensures { result ≡ is_offered self.now actor to }
+    {
+        to == actor
+            || self.is_in(actor, to)
+            || self.is_thing(to) && self.in_reach(actor, to)
+            || self.is_player(to) && self.shares_room(actor, to)
+    }
+}

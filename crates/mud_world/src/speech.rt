@@ -1,0 +1,89 @@
+//! What players say.
+
+ghost use Rattle.std.specs.Prelude.{◌≡◌, ℕ, IfOk, IsTrue, option_copied, MatchOption, true};
+ghost use Rattle.mud_world.specs.Speech.{is_printable, is_trimmed, is_speech};
+ghost use Rattle.std.specs.Option.{option_map_or};
+ghost use Rattle.std.specs.Prelude.{nat_eq, false};
+
+use std::alloc::{AllocError, Global};
+use std::marker::Model;
+
+/// What a player says or emotes: 1 to 900 bytes from 32 to 126 without a space at an end (this
+/// project's profile). A contract sees its bytes.
+#[derive(Drop)]
+pub struct Speech {
+    text: String,
+}
+
+impl Model for Speech {
+    ghost use Rattle.std.specs.Prelude.{ℕ, List, IsTrue, string_bytes};
+    ghost use Rattle.mud_world.specs.Speech.{is_speech};
+
+    ghost Value = { List ℕ };
+
+    ghost view = { λ a. string_bytes a.text };
+
+    ghost invariant = { λ a. IsTrue (is_speech (string_bytes a.text)) };
+}
+
+impl Speech {
+    /// The text as what is said, where it can be said.
+    pub fn read(alloc: Global, text: &str) -> Result<Option<Speech>, AllocError>
+        ensures { IfOk result (λ found. MatchOption found (is_speech text.now ≡ false) (λ speech. (speech ≡ text.now) × (is_speech text.now ≡ true))) }
+    {
+        if is_speech(text) {
+            Ok(Some(Speech {
+                text: String::from_str(alloc, text)?,
+            }))
+        } else {
+            Ok(None)
+        }
+    }
+
+    /// The text.
+    pub fn as_str(&self) -> &str
+        ensures text { result.now ≡ self.now }
+        ensures speech { IsTrue (is_speech self.now) }
+    {
+        &self.text
+    }
+
+    /// The same speech.
+    pub fn copy(&self, alloc: Global) -> Result<Speech, AllocError>
+        ensures { IfOk result (λ speech. speech ≡ self.now) }
+    {
+        let _ = &self.text;
+        Ok(Speech {
+            text: self.text.clone()?,
+        })
+    }
+}
+
+fn is_printable(text: &[u8]) -> bool
+    ensures { result ≡ is_printable text.now }
+{
+    text.iter().all(|byte| 32 <= *byte && *byte <= 126)
+}
+
+fn is_space(byte: Option<&u8>) -> bool
+    ensures { result ≡ option_map_or (nat_eq 32) (option_copied byte.entry) false }
+{
+    match byte {
+        Some(byte) => 32 == *byte,
+        None => false,
+    }
+}
+
+fn is_trimmed(text: &[u8]) -> bool
+    ensures { result ≡ is_trimmed text.now }
+{
+    !is_space(text.first()) && !is_space(text.last())
+}
+
+// Whether a text can be said.
+pub(crate) fn is_speech(text: &str) -> bool
+    ensures { result ≡ is_speech text.now }
+{
+    let bytes = text.as_bytes();
+    !bytes.is_empty() && bytes.len() <= 900 && is_printable(bytes) && is_trimmed(bytes)
+}

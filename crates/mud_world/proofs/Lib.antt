@@ -30,3 +30,5 @@ pub mod Nested
 pub mod Least
 pub mod Sounding
 pub mod Histories
+pub mod Halving
+pub mod Players

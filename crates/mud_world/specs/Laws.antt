@@ -1,14 +1,15 @@
 -- Laws of the definitions: what they say together.
-use Rattle.std.specs.Prelude.{◌≡◌, ℕ, ◌≤◌, ◌↔◌, false, nat_eq, true, Some, None, IsTrue}
+use Rattle.std.specs.Prelude.{◌≡◌, ℕ, ◌≤◌, ◌↔◌, List, false, nat_eq, true, Some, None, IsTrue}
 use Rattle.std.proofs.Common.{suc}
 use Rattle.std.specs.Option.{option_map_or}
 use Rattle.std.specs.List.{list_any}
 use Rattle.mud_key.specs.Tree.{Tree}
 use Rattle.mud_world.specs.declared.change.Change.{Change}
+use Rattle.mud_world.specs.declared.change.Deed.TheVariants.{Player}
 use Rattle.mud_world.specs.declared.refusal.Refusal.{Refusal}
 use Rattle.mud_world.specs.Truth.{key_true}
 use Rattle.mud_world.specs.Numbers.{IsRisingFrom}
-use Rattle.mud_world.specs.State.{State, has, place_of, contents_of, within, source_of, leaving_of, key_of, nests, unlocked}
+use Rattle.mud_world.specs.State.{State, has, is_player, place_of, contents_of, within, source_of, leaving_of, key_of, nests, unlocked}
 use Rattle.mud_world.specs.Sound.{IsSound}
 use Rattle.mud_world.specs.Nesting.{Questions}
 use Rattle.mud_world.specs.Refusals.{number}
@@ -57,3 +58,12 @@ AreRefusalsLeast =
 -- the world after a legal change of a sound world is sound
 abbrev pub StaysSound : Type 0
 StaysSound = (w : State) (e : Change) → IsSound w → refusal w e ≡ None → IsSound (after w e)
+
+-- who is a player stays one in each legal change
+abbrev pub PlayersStay : Type 0
+PlayersStay = (w : State) (e : Change) → IsSound w → refusal w e ≡ None → (p : ℕ) → IsTrue (is_player w p) → IsTrue (is_player (after w e) p)
+
+-- who comes as a new player is one
+abbrev pub NewPlayersArePlayers : Type 0
+NewPlayersArePlayers =
+    (w : State) (name : List ℕ) → IsSound w → IsTrue (is_player (after w (record { actor = w.next; deed = Player name })) w.next)

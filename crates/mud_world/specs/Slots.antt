@@ -9,6 +9,7 @@ use Rattle.mud_world.specs.declared.slots.Slot.{Slot}
 use Rattle.mud_key.specs.Tree.{Tree}
 use Rattle.mud_world.specs.Kinds.{kind_at, kind_costing}
 use Rattle.mud_world.specs.Numbers.{inserted, without}
+use Rattle.mud_world.specs.Sound.{IsRising}
 
 -- the number and the record of a slot
 abbrev pub entry_of : Slot → ℕ × Record
@@ -23,6 +24,10 @@ abbrev pub IsAt : List Slot → ℕ → ℕ → Type 0
 IsAt [] number i = ⊥
 IsAt (s ∷ slots) number zero = s.number ≡ number
 IsAt (s ∷ slots) number (suc i) = (s.number ≢ number) × IsAt slots number i
+
+-- the slots stand by rising number
+abbrev pub StandRising : List Slot → Type 0
+StandRising slots = (high : ℕ) × IsRising 0 (entries_of slots) high
 
 -- what a slot says, without how its lists are stored
 pub record Shape : Type 0 where

@@ -34,8 +34,8 @@ pub enum Deed {
     Lock { object: u32, key: Key },
     /// The object has no key from then on.
     Unlock { object: u32 },
-    /// The thing goes to a room, a player or a thing (LambdaMOO Programmer's Manual, "Moving
-    /// Objects").
+    /// The thing goes to a room, a player or a thing (LambdaMOO Programmer's Manual, "Object
+    /// Movement").
     Move { thing: u32, to: u32 },
     /// The actor goes to the destination of the exit, which leaves his room.
     Walk { exit: u32 },
@@ -45,7 +45,8 @@ pub enum Deed {
     Player(Name),
     /// The object gets these names.
     Rename { object: u32, names: Names },
-    /// The object is gone (LambdaMOO Programmer's Manual, "Objects": `recycle`).
+    /// The object is gone (LambdaMOO Programmer's Manual, "Fundamental Operations on Objects":
+    /// `recycle`).
     Recycle { object: u32 },
     /// The actor says a text. The world stays.
     Say(Speech),

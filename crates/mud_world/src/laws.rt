@@ -1,6 +1,6 @@
 //! What is known of the definitions alone: each contract is a law, and its function does nothing.
 
-ghost use Rattle.mud_world.specs.Laws.{AreContents, AreLeaving, AreLevelsEnough, IsNesting, CirclesNestOn, AreRefusalsLeast, StaysSound};
+ghost use Rattle.mud_world.specs.Laws.{AreContents, AreLeaving, AreLevelsEnough, IsNesting, CirclesNestOn, AreRefusalsLeast, StaysSound, PlayersStay, NewPlayersArePlayers};
 
 /// In a sound world an object is in the contents of another exactly where that is its place.
 pub fn contents()
@@ -38,4 +38,14 @@ pub fn refusals()
 /// The world after a legal change of a sound world is sound.
 pub fn soundness()
     ensures { StaysSound }
+{}
+
+/// Who is a player stays one in each legal change.
+pub fn players_stay()
+    ensures { PlayersStay }
+{}
+
+/// Who comes as a new player is one.
+pub fn new_players()
+    ensures { NewPlayersArePlayers }
 {}

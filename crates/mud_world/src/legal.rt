@@ -262,7 +262,8 @@ impl World {
     /// The refusal of least number whose condition holds of the change, or none: the change is legal.
     /// All conditions are asked of the world before the change. docs/WORLD.md has them as a table
     /// (this project's profile; RecursiveMove and Denied are the errors of that name of the
-    /// LambdaMOO Programmer's Manual, "Moving Objects" and "Object Ownership"). It takes no memory.
+    /// LambdaMOO Programmer's Manual, "Object Movement" and "Fundamental Object Attributes": owner). It
+    /// takes no memory.
     pub fn legal(&self, change: &Change) -> Result<(), Refusal>
         ensures { MatchResult result (λ _. refusal self.now change.now ≡ None) (λ fault. refusal self.now change.now ≡ Some fault) }
     {

@@ -9,7 +9,8 @@ use crate::world::World;
 
 impl World {
     /// Whether an object has this number. A number that was never given names nothing, nor does
-    /// that of a recycled object (LambdaMOO Programmer's Manual, "Objects": `valid`).
+    /// that of a recycled object (LambdaMOO Programmer's Manual, "Fundamental Operations on
+    /// Objects": `valid`).
     pub fn exists(&self, number: u32) -> bool
         ensures { result ≡ exists self.now number }
     {
@@ -46,8 +47,8 @@ impl World {
         }
     }
 
-    /// Whether the object exists and is a player (LambdaMOO Programmer's Manual, "Objects":
-    /// `is_player`).
+    /// Whether the object exists and is a player (LambdaMOO Programmer's Manual, "Fundamental
+    /// Operations on Objects": `is_player`).
     pub fn is_player(&self, number: u32) -> bool
         ensures { result ≡ is_player self.now number }
     {

@@ -9,7 +9,7 @@ ghost use Rattle.mud_world.specs.State.{shares};
 ghost use Rattle.std.specs.Prelude.{◌&&◌, find};
 ghost use Rattle.std.specs.Option.{option_map};
 ghost use Rattle.std.specs.Str.{str_eq_ignore_ascii_case};
-ghost use Rattle.mud_world.specs.Slots.{IsAt, entries_of, shapes_of, at_number, with_content, with_leaving, without_content, placed_at, linked, shape_of, without_leaving, with_key, with_cost, with_names, unlinked, without_slot};
+ghost use Rattle.mud_world.specs.Slots.{IsAt, StandRising, entries_of, shapes_of, at_number, with_content, with_leaving, without_content, placed_at, linked, shape_of, without_leaving, with_key, with_cost, with_names, unlinked, without_slot};
 
 use crate::numbers::{insert_number, remove_number};
 use crate::{Kind, Record};
@@ -36,6 +36,19 @@ pub(crate) fn slot_of(slots: &[Slot], number: u32) -> Option<usize>
         }
     }
     None
+}
+
+// The same by halving, where the slots stand by rising number.
+pub(crate) fn find_slot(slots: &[Slot], number: u32) -> Option<usize>
+    requires { StandRising slots.now }
+    ensures in_range { IfSome result (λ i. i < length slots.now) }
+    ensures found { IfSome result (IsAt slots.now number) }
+    ensures missing { IfNone result (lookup (nat_eq number) (entries_of slots.now) ≡ None) }
+{
+    match slots.binary_search_by_key(&number, |slot| slot.number) {
+        Ok(at) => Some(at),
+        Err(_) => None,
+    }
 }
 
 // Puts an object into the contents of its holder.

@@ -4,7 +4,7 @@ ghost use Rattle.std.specs.Prelude.{codes, ◌≡◌, [], ◌∷◌, IfOk, optio
 ghost use Rattle.mud_world.specs.State.{named_player, State, record_at, contents_of, leaving_of};
 ghost use Rattle.mud_world.specs.Sound.{IsSound};
 
-use crate::slots::{Slot, copy_slots, named_player, slot_of};
+use crate::slots::{Slot, copy_slots, find_slot, named_player};
 use crate::{Kind, Passage, Record};
 use mud_key::{Names, NamesFault};
 use std::alloc::{AllocError, Global};
@@ -105,11 +105,12 @@ impl World {
     }
 
     /// What is kept of an object; nothing of a number that no object has. The number of a recycled
-    /// object is never given again (LambdaMOO Programmer's Manual, "Objects": `recycle`).
+    /// object is never given again (LambdaMOO Programmer's Manual, "Fundamental Operations on
+    /// Objects": `recycle`).
     pub fn get(&self, number: u32) -> Option<&Record>
         ensures { option_copied result ≡ record_at self.now number }
     {
-        let at = slot_of(&self.slots, number)?;
+        let at = find_slot(&self.slots, number)?;
         Some(&self.slots[at].object)
     }
 
@@ -133,7 +134,7 @@ impl World {
     pub fn contents(&self, number: u32) -> &[u32]
         ensures { result.now ≡ contents_of self.now number }
     {
-        match slot_of(&self.slots, number) {
+        match find_slot(&self.slots, number) {
             Some(at) => self.slots[at].contents.as_slice(),
             None => &[],
         }
@@ -143,7 +144,7 @@ impl World {
     pub fn leaving(&self, number: u32) -> &[u32]
         ensures { result.now ≡ leaving_of self.now number }
     {
-        match slot_of(&self.slots, number) {
+        match find_slot(&self.slots, number) {
             Some(at) => self.slots[at].leaving.as_slice(),
             None => &[],
         }

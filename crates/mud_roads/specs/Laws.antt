@@ -1,0 +1,65 @@
+-- Laws of the definitions: what they say together.
+use Rattle.std.specs.Prelude.{◌≡◌, ℕ, ◌<◌, ◌↔◌, List, [], ◌∷◌, Contains, Option, Some, None, IsTrue, AllPairs}
+use Rattle.mud_world.specs.declared.change.Deed.TheVariants.{Walk as WalkDeed}
+use Rattle.mud_world.specs.State.{State, is_player, place_of, passage_of}
+use Rattle.mud_world.specs.Sound.{IsSound}
+use Rattle.mud_world.specs.Legal.{refusal, after as world_after}
+use Rattle.mud_roads.specs.declared.label.Label.{Label}
+use Rattle.mud_roads.specs.declared.label.Step.{Step}
+use Rattle.mud_roads.specs.Walks.{Roads, Walk, total, IsLeast, NoWalk, Least, IsRoute, Goer, IsMeeting}
+use Rattle.mud_roads.specs.Labels.{AreValid}
+use Rattle.mud_roads.specs.Open.{passable, roads_of}
+
+-- a room has one least label
+abbrev pub LeastIsOne : Type 0
+LeastIsOne = (hop : ℕ) (roads : Roads) (from to : ℕ) (a b : Option Label) → Least hop roads from to a → Least hop roads from to b → a ≡ b
+
+-- the least cost is the same, whether exits count or not
+abbrev pub LeastCostIsOne : Type 0
+LeastCostIsOne = (hop hop' : ℕ) (roads : Roads) (from to : ℕ) (a b : Label) → IsLeast hop roads from to a → IsLeast hop' roads from to b → a.cost ≡ b.cost
+
+-- with valid labels a walk whose label is its end's is a least one, and no walk leads where there is no label
+abbrev pub ValidIsLeast : Type 0
+ValidIsLeast =
+    (hop : ℕ) (roads : Roads) (from : ℕ) (labels : ℕ → Option Label) → AreValid hop roads from labels
+    → ((to : ℕ) (ss : List Step) → Walk roads from ss to → labels to ≡ Some (total hop ss) → IsLeast hop roads from to (total hop ss))
+    × ((to : ℕ) → labels to ≡ None → NoWalk roads from to)
+
+-- least labels are valid
+abbrev pub LeastIsValid : Type 0
+LeastIsValid =
+    (hop : ℕ) (roads : Roads) (from : ℕ) (labels : ℕ → Option Label)
+    → ((room : ℕ) → Least hop roads from room (labels room)) → AreValid hop roads from labels
+
+-- the step is that of an exit which leaves the room and is open to p
+abbrev pub IsRoad : State → ℕ → ℕ → Step → Type 0
+IsRoad w p room s = (passage_of w s.exit ≡ Some (record { source = room; destination = s.to; cost = s.cost })) × IsTrue (passable w p s.exit)
+
+-- in a sound world p's roads are the steps of the open exits, by rising number
+abbrev pub AreRoads : Type 0
+AreRoads =
+    (w : State) → IsSound w → (p room : ℕ)
+    → ((s : Step) → Contains (roads_of w p room) s ↔ IsRoad w p room s) × AllPairs (λ a b. a.exit < b.exit) (roads_of w p room)
+
+-- p's walks through these exits, one after the other, are legal changes that lead to a room
+abbrev pub IsWalked : State → ℕ → List Step → ℕ → Type 0
+IsWalked w p [] to = place_of w p ≡ Some to
+IsWalked w p (s ∷ ss) to =
+    (refusal w (record { actor = p; deed = WalkDeed s.exit }) ≡ None)
+    × IsWalked (world_after w (record { actor = p; deed = WalkDeed s.exit })) p ss to
+
+-- a player's changes by the exits of his walk are each legal, and end where the walk leads
+abbrev pub WalksAreLegal : Type 0
+WalksAreLegal =
+    (w : State) → IsSound w → (p from to : ℕ) (ss : List Step) → IsTrue (is_player w p) → place_of w p ≡ Some from
+    → Walk (roads_of w p) from ss to → IsWalked w p ss to
+
+-- a room has one canonical route
+abbrev pub RouteIsOne : Type 0
+RouteIsOne =
+    (w : State) → IsSound w → (p from to : ℕ) (ss ts : List Step)
+    → IsRoute 1 (roads_of w p) from to ss → IsRoute 1 (roads_of w p) from to ts → ss ≡ ts
+
+-- a party has one meeting room, at one cost
+abbrev pub MeetingIsOne : Type 0
+MeetingIsOne = (hop : ℕ) (party : List Goer) (r c r' c' : ℕ) → IsMeeting hop party r c → IsMeeting hop party r' c' → (r ≡ r') × (c ≡ c')

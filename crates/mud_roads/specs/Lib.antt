@@ -1,0 +1,4 @@
+pub mod Walks
+pub mod Labels
+pub mod Open
+pub mod Laws

@@ -1,0 +1,76 @@
+-- Walks, least labels, routes and meetings, over any roads. Each exit of a walk counts as `hop`: 1 where the number of exits
+-- matters, 0 where only costs do.
+use Rattle.std.specs.Prelude.{◌≡◌, ℕ, ◌+◌, ◌<◌, ◌≤◌, ◌⊎◌, List, [], ◌∷◌, sum_by, reverse, Contains, All, Any, Option, None, Some}
+use Rattle.mud_roads.specs.declared.label.Label.{Label}
+use Rattle.mud_roads.specs.declared.label.Step.{Step}
+
+-- the steps that lead on from each room
+abbrev pub Roads : Type 0
+Roads = ℕ → List Step
+
+-- each step is one of the room where the last one led; the empty walk leads nowhere else
+abbrev pub Walk : Roads → ℕ → List Step → ℕ → Type 0
+Walk roads from [] to = from ≡ to
+Walk roads from (s ∷ ss) to = Contains (roads from) s × Walk roads s.to ss to
+
+-- what a walk costs, and how many exits it has
+abbrev pub total : ℕ → List Step → Label
+total hop ss = record { cost = sum_by (λ s. s.cost) ss; exits = sum_by (λ s. hop) ss }
+
+-- the label one step on
+abbrev pub after : ℕ → Label → Step → Label
+after hop l s = record { cost = l.cost + s.cost; exits = l.exits + hop }
+
+-- a lesser cost, or the same and no more exits
+abbrev pub AtMost : Label → Label → Type 0
+AtMost a b = (a.cost ≤ b.cost) × (a.cost ≡ b.cost → a.exits ≤ b.exits)
+
+-- some walk has this label, and no walk has a lesser one
+pub record IsLeast (hop : ℕ) (roads : Roads) (from to : ℕ) (l : Label) : Type 0 where
+  pub walked : (ss : List Step) × Walk roads from ss to × (total hop ss ≡ l)
+  pub least : (ss : List Step) → Walk roads from ss to → AtMost l (total hop ss)
+
+-- no walk leads there
+abbrev pub NoWalk : Roads → ℕ → ℕ → Type 0
+NoWalk roads from to = (ss : List Step) → Walk roads from ss to → ⊥
+
+-- the least label, or none where there is no walk
+abbrev pub Least : ℕ → Roads → ℕ → ℕ → Option Label → Type 0
+Least hop roads from to None = NoWalk roads from to
+Least hop roads from to (Some l) = IsLeast hop roads from to l
+
+-- the step out of the room `by` is the last one of a least walk
+pub record EndsLeast (hop : ℕ) (roads : Roads) (from to by : ℕ) (s : Step) : Type 0 where
+  pub step : Contains (roads by) s
+  pub leads : s.to ≡ to
+  pub least : (l : Label) × IsLeast hop roads from by l × IsLeast hop roads from to (after hop l s)
+
+-- the walk, read from its end, that goes back each time by the lowest exit that ends a least walk
+abbrev pub RouteBack : ℕ → Roads → ℕ → ℕ → List Step → Type 0
+RouteBack hop roads from to [] = from ≡ to
+RouteBack hop roads from to (s ∷ ss) =
+    (by : ℕ) × EndsLeast hop roads from to by s
+    × ((by' : ℕ) (s' : Step) → EndsLeast hop roads from to by' s' → s.exit ≤ s'.exit)
+    × RouteBack hop roads from by ss
+
+-- the canonical route: of the least walks the one that is built so from the target backwards
+abbrev pub IsRoute : ℕ → Roads → ℕ → ℕ → List Step → Type 0
+IsRoute hop roads from to ss = RouteBack hop roads from to (reverse ss)
+
+-- one who goes: his roads, and where he stands
+abbrev pub Goer : Type 0
+Goer = Roads × ℕ
+
+-- all come to the room, and the greatest of their least costs is this one
+pub record Gathers (hop : ℕ) (party : List Goer) (room cost : ℕ) : Type 0 where
+  pub all : All (λ p. (l : Label) × IsLeast hop p.0 p.1 room l × (l.cost ≤ cost)) party
+  pub one : Any (λ p. (l : Label) × IsLeast hop p.0 p.1 room l × (l.cost ≡ cost)) party
+
+-- of the rooms where all come, the one of least greatest cost, then of lowest number
+pub record IsMeeting (hop : ℕ) (party : List Goer) (room cost : ℕ) : Type 0 where
+  pub gathers : Gathers hop party room cost
+  pub best : (r c : ℕ) → Gathers hop party r c → (cost < c) ⊎ ((cost ≡ c) × (room ≤ r))
+
+-- there is no room where all come
+abbrev pub NoMeeting : ℕ → List Goer → Type 0
+NoMeeting hop party = (r c : ℕ) → Gathers hop party r c → ⊥

@@ -1,0 +1,187 @@
+-- The parts of a line: their bytes, and that each is found again.
+use Rattle.std.proofs.Common.{◌≡◌, ℕ, ◌+◌, ◌<◌, ◌≤◌, Bool, true, List, [], ◌∷◌, ◌++◌, length, Option, Some, None, Result, Ok, Err, refl, sym, ◌∙◌, ap, subst, arith, eqb, leb, ltb, cond, append_assoc, codes}
+use Rattle.std.specs.Prelude.{not, ◌&&◌, ◌^◌}
+use Rattle.std.specs.List.{AllByRecursion, list_all, flat_map}
+use Rattle.std.proofs.lemmas.Bool.{and_from, and_parts, ne_eqb, leb-true, le-ltb}
+use Rattle.std.proofs.lemmas.List.{append-nil}
+use Rattle.std.proofs.lemmas.List.Folds.{list_all-append}
+use Rattle.std.proofs.lemmas.List.Elements.{recursion_from_All}
+use Rattle.std.specs.Fmt.{decimal}
+use Rattle.mud_key.specs.Name.{IsName, IsNameByte}
+use Rattle.mud_key.specs.Names.{AreNames, SpellsName, SpellsNames, one, more}
+use Rattle.mud_key.specs.Reading.{names_in, name_in}
+use Rattle.mud_key.specs.Tree.{Tree, Has, Asks, Not, Join, objects_of, nots_of, AllObjects, IsWithinLimits, IsKey}
+use Rattle.mud_key.specs.KeyText.{sign}
+use Rattle.mud_key.specs.Printed.{number_text, by_text, enclosed, printed, ReadsBack}
+use Rattle.mud_key.specs.Namer.{result_map, joined_result, resolved}
+use Rattle.mud_key.specs.declared.namer.Miss.{Miss}
+use Rattle.mud_key.specs.declared.operator.Operator.{Operator}
+use Rattle.mud_key.specs.declared.operator.Operator.TheVariants.{And, Or}
+use Rattle.mud_key.proofs.Found.{names_law, name_law, key_law}
+use Rattle.mud_key.proofs.LeastParentheses.{reads_back}
+use Rattle.mud_world.specs.Speech.{is_printable, is_trimmed, is_speech}
+use Rattle.mud_chron.specs.Text.{listed, quoted}
+use Rattle.mud_chron.specs.Fields.{◌>>=◌, is_digit, cut, object_in, or_miss, without_miss, number_key_in, speech_in}
+use Rattle.mud_chron.specs.Guess.{names_before, quoted_in, quoted_name_in}
+use Rattle.mud_chron.proofs.Cutting.{lacks, cut_again, implied, tested}
+use Rattle.mud_chron.proofs.Digits.{digits, object_again}
+
+-- ---- bytes
+
+-- a byte from 32 to 126
+abbrev pub plain : ℕ → Bool
+plain b = not (ltb b 32) && not (ltb 126 b)
+
+pub plain_from : (b : ℕ) → 32 ≤ b → b ≤ 126 → plain b ≡ true
+plain_from b lo hi = and_from (not (ltb b 32)) (not (ltb 126 b)) (ap not (le-ltb b 32 lo)) (ap not (le-ltb 126 b hi))
+
+pub both : (p : ℕ → Bool) (x y : List ℕ) → list_all p x ≡ true → list_all p y ≡ true → list_all p (x ++ y) ≡ true
+both p x y h k = list_all-append p x y ∙ and_from (list_all p x) (list_all p y) h k
+
+pub plain_decimal : (n : ℕ) → n < 2 ^ 64 → list_all plain (decimal n) ≡ true
+plain_decimal n fits = implied is_digit plain (λ b e. let p = and_parts (leb 48 b) (leb b 57) e in plain_from b (omega (arith, leb-true 48 b p.0)) (omega (arith, leb-true b 57 p.1))) (decimal n) (digits n fits)
+
+-- ---- names
+
+-- each name passes the test
+all_names : (p : ℕ → Bool) → ((b : ℕ) → IsNameByte b → p b ≡ true) → (name : List ℕ) → IsName name → list_all p name ≡ true
+all_names p f name is = tested IsNameByte p f name (recursion_from_All IsNameByte name is.text.bytes)
+
+others_pass : (p : ℕ → Bool) → ((b : ℕ) → IsNameByte b → p b ≡ true) → p 44 ≡ true → (names : List (List ℕ)) → AllByRecursion IsName names → list_all p (flat_map (λ other. codes "," ++ other) names) ≡ true
+others_pass p f comma [] h = refl
+others_pass p f comma (name ∷ names) h = both p (codes "," ++ name) (flat_map (λ other. codes "," ++ other) names) (and_from (p 44) (list_all p name) comma (all_names p f name h.0)) (others_pass p f comma names h.1)
+
+pub listed_pass : (p : ℕ → Bool) → ((b : ℕ) → IsNameByte b → p b ≡ true) → p 44 ≡ true → (names : List (List ℕ)) → AllByRecursion IsName names → list_all p (listed names) ≡ true
+listed_pass p f comma [] h = refl
+listed_pass p f comma (name ∷ names) h = both p name (flat_map (λ other. codes "," ++ other) names) (all_names p f name h.0) (others_pass p f comma names h.1)
+
+plain_byte : (b : ℕ) → IsNameByte b → plain b ≡ true
+plain_byte b h = plain_from b h.from h.to
+
+no_quote : (b : ℕ) → IsNameByte b → not (eqb b 34) ≡ true
+no_quote b h = ap not (ne_eqb b 34 h.plain.0)
+
+listed_lacks : (names : List (List ℕ)) → AllByRecursion IsName names → lacks 34 (listed names) ≡ true
+listed_lacks names h = listed_pass (λ b. not (eqb b 34)) no_quote refl names h
+
+pub plain_quoted : (names : List (List ℕ)) → AllByRecursion IsName names → list_all plain (quoted names) ≡ true
+plain_quoted names h = both plain (listed names) (codes "\"") (listed_pass plain plain_byte refl names h) refl
+
+each_of : (names : List (List ℕ)) → AreNames names → AllByRecursion IsName names
+each_of names h = recursion_from_All IsName names h.each
+
+pub plain_names : (names : List (List ℕ)) → AreNames names → list_all plain (quoted names) ≡ true
+plain_names names h = plain_quoted names (each_of names h)
+
+alone : (name : List ℕ) → IsName name → SpellsName name name
+alone name is = record { before = 0; behind = 0; spaces = sym (append-nil name); is_name = is }
+
+spells : (name : List ℕ) (names : List (List ℕ)) → AllByRecursion IsName (name ∷ names) → SpellsNames (listed (name ∷ names)) (name ∷ names)
+spells name [] h = subst (λ x. SpellsNames x (name ∷ [])) (sym (append-nil name)) (one (alone name h.0))
+spells name (next ∷ names) h =
+    let same : name ++ codes "," ++ listed (next ∷ names) ≡ listed (name ∷ next ∷ names) = append_assoc name (codes ",") (listed (next ∷ names)) in
+    subst (λ x. SpellsNames x (name ∷ next ∷ names)) same (more (alone name h.0) (spells next names h.1))
+
+pub names_again : (names : List (List ℕ)) → AreNames names → names_in (listed names) ≡ Some names
+names_again [] h = absurd (omega (arith, h.some))
+names_again (name ∷ names) h = (names_law (listed (name ∷ names)) (name ∷ names)).1 (record { spells = spells name names (each_of (name ∷ names) h); few = h.few })
+
+pub names_before_again : (names : List (List ℕ)) (rest : List ℕ) → AreNames names → names_before ((listed names ++ codes "\"") ++ rest) ≡ Some (names, rest)
+unfolding names_before
+names_before_again names rest h =
+    ap (λ (o : Option (List ℕ × List ℕ)). o >>= (λ p. names_in p.0 >>= (λ names. Some (names, p.1)))) (ap (cut 34) (append_assoc (listed names) (codes "\"") rest) ∙ cut_again 34 (listed names) rest (listed_lacks names (each_of names h)))
+    ∙ ap (λ (o : Option (List (List ℕ))). o >>= (λ names. Some (names, rest))) (names_again names h)
+
+pub quoted_again : (names : List (List ℕ)) (rest : List ℕ) → AreNames names → quoted_in (quoted names ++ rest) ≡ Some (names, rest)
+unfolding quoted_in
+quoted_again names rest h = names_before_again names rest h
+
+pub quoted_end : (names : List (List ℕ)) → AreNames names → quoted_in (quoted names) ≡ Some (names, [])
+quoted_end names h = ap quoted_in (sym (append-nil (quoted names))) ∙ quoted_again names [] h
+
+pub name_again : (name : List ℕ) → IsName name → quoted_name_in (quoted (name ∷ [])) ≡ Some name
+unfolding quoted_name_in
+name_again name is =
+    ap (λ (o : Option (List ℕ × List ℕ)). o >>= (λ q. name_in q.0)) (cut_again 34 (listed (name ∷ [])) [] (listed_lacks (name ∷ []) (is, tt)))
+    ∙ ap name_in (append-nil name) ∙ (name_law name name).1 (refl, is)
+
+-- ---- keys
+
+plain_sign : (op : Operator) → list_all plain (sign op) ≡ true
+plain_sign And = refl
+plain_sign Or = refl
+
+plain_enclosed : (k : Tree (List ℕ)) (text : List ℕ) → list_all plain text ≡ true → list_all plain (enclosed k text) ≡ true
+plain_enclosed (Has o) text h = h
+plain_enclosed (Asks o) text h = h
+plain_enclosed (Not k) text h = h
+plain_enclosed (Join op a b) text h = both plain text (codes ")") h refl
+
+plain_number : (n : ℕ) → n ≤ 8191 → list_all plain (number_text n) ≡ true
+plain_number n h = plain_decimal n (omega arith)
+
+pub plain_key : (k : Tree ℕ) → AllObjects (λ n. n ≤ 8191) k → list_all plain (printed (by_text k)) ≡ true
+plain_key (Has n) h = plain_number n h
+plain_key (Asks n) h = plain_number n h
+plain_key (Not k) h = plain_enclosed (by_text k) (printed (by_text k)) (plain_key k h)
+plain_key (Join op a b) h =
+    let left : List ℕ = printed (by_text a) in
+    let right : List ℕ = enclosed (by_text b) (printed (by_text b)) in
+    both plain (left ++ codes " " ++ sign op ++ codes " ") right
+    (both plain (left ++ codes " " ++ sign op) (codes " ") (both plain (left ++ codes " ") (sign op) (both plain left (codes " ") (plain_key a h.0) refl) (plain_sign op)) refl)
+    (plain_enclosed (by_text b) (printed (by_text b)) (plain_key b h.1))
+
+abbrev CountsAs : ℕ → ℕ → Result (Tree ℕ) Miss → Type 0
+CountsAs objects nots (Ok k) = (objects_of k ≡ objects) × (nots_of k ≡ nots)
+CountsAs objects nots (Err e) = Unit {0}
+
+has_counts : (r : Result ℕ Miss) → CountsAs 1 0 (result_map Has r)
+has_counts (Ok n) = (refl, refl)
+has_counts (Err e) = tt
+
+asks_counts : (r : Result ℕ Miss) → CountsAs 1 0 (result_map Asks r)
+asks_counts (Ok n) = (refl, refl)
+asks_counts (Err e) = tt
+
+not_counts : (o n : ℕ) (r : Result (Tree ℕ) Miss) → CountsAs o n r → CountsAs o (n + 1) (result_map Not r)
+not_counts o n (Ok k) h = (h.0, omega (arith, h.1))
+not_counts o n (Err e) h = tt
+
+join_counts : (op : Operator) (o n p m : ℕ) (r s : Result (Tree ℕ) Miss) → CountsAs o n r → CountsAs p m s → CountsAs (o + p) (n + m) (joined_result op r s)
+join_counts op o n p m (Ok a) (Ok b) h i = (omega (arith, h.0, i.0), omega (arith, h.1, i.1))
+join_counts op o n p m (Ok a) (Err e) h i = tt
+join_counts op o n p m (Err e) s h i = tt
+
+resolved_counts : (meaning : List ℕ → Result ℕ Miss) (t : Tree (List ℕ)) → CountsAs (objects_of t) (nots_of t) (resolved meaning t)
+resolved_counts meaning (Has o) = has_counts (meaning o)
+resolved_counts meaning (Asks o) = asks_counts (meaning o)
+resolved_counts meaning (Not k) = not_counts (objects_of k) (nots_of k) (resolved meaning k) (resolved_counts meaning k)
+resolved_counts meaning (Join op a b) = join_counts op (objects_of a) (nots_of a) (objects_of b) (nots_of b) (resolved meaning a) (resolved meaning b) (resolved_counts meaning a) (resolved_counts meaning b)
+
+-- a key counts what its text counts
+counted : (t : Tree (List ℕ)) (k : Tree ℕ) → CountsAs (objects_of t) (nots_of t) (Ok k) → IsKey k → IsWithinLimits t
+counted t k c is = record { objects = omega (arith, c.0, is.limits.objects); nots = omega (arith, c.1, is.limits.nots) }
+
+pub key_again : (key : Tree ℕ) → IsKey key → number_key_in (printed (by_text key)) ≡ Some key
+unfolding number_key_in
+key_again key is =
+    let text : List ℕ = printed (by_text key) in
+    let back : ReadsBack text key = reads_back key text is refl in
+    let meaning : List ℕ → Result ℕ Miss = λ o. or_miss (object_in o) in
+    let read : Tree (List ℕ) = back.is_key_text.0 in
+    let same : resolved meaning read ≡ Ok key = back.again read back.is_key_text.1 meaning (λ n le. ap or_miss (object_again n le)) in
+    let limits : IsWithinLimits read = counted read key (subst (λ r. CountsAs (objects_of read) (nots_of read) r) same (resolved_counts meaning read)) is in
+    ap (λ (o : Option (Tree (List ℕ))). o >>= (λ k. without_miss (resolved meaning k))) ((key_law text read).1 (back.is_key_text.1, limits))
+    ∙ ap without_miss same
+
+-- ---- speech
+
+pub speech_again : (text : List ℕ) → is_speech text ≡ true → speech_in text ≡ Some text
+unfolding speech_in
+speech_again text h = ap (λ b. cond b (Some text) None) h
+
+pub plain_speech : (text : List ℕ) → is_speech text ≡ true → list_all plain text ≡ true
+plain_speech text h =
+    let some : Bool = not (eqb (length text) 0) in
+    let few : Bool = not (ltb 900 (length text)) in
+    (and_parts (some && few) (is_printable text) (and_parts (some && few && is_printable text) (is_trimmed text) h).0).1

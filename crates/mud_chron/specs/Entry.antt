@@ -1,0 +1,80 @@
+-- Entries of a history, and which there are.
+use Rattle.std.specs.Prelude.{ℕ, ◌≤◌, List, Option, Some, None, IsTrue}
+use Rattle.mud_key.specs.Name.{IsName}
+use Rattle.mud_key.specs.Names.{AreNames}
+use Rattle.mud_key.specs.Tree.{IsKey}
+use Rattle.mud_world.specs.Speech.{is_speech}
+use Rattle.mud_world.specs.declared.change.Change.{Change}
+use Rattle.mud_world.specs.declared.change.Doors.{Doors}
+use Rattle.mud_world.specs.declared.change.Target.{Target}
+use Rattle.mud_world.specs.declared.change.Target.TheVariants.{New, Old}
+use Rattle.mud_world.specs.declared.change.Deed.{Deed}
+use Rattle.mud_world.specs.declared.change.Deed.TheVariants.{Dig, Make, Lock, Unlock, Move, Walk, Cost, Player, Rename, Recycle, Say, Emote}
+
+-- an accepted change, and the number of the desk that made it
+pub record Accepted : Type 0 where
+  pub desk : ℕ
+  pub change : Change
+
+-- the number of an object
+abbrev pub IsNumber : ℕ → Type 0
+IsNumber n = n ≤ 8191
+
+-- the numbers of a deed are in their ranges, and a way to an old room has an exit
+abbrev pub IsInRange : Deed → Type 0
+IsInRange (Dig (New names) doors) = Unit {0}
+IsInRange (Dig (Old room) (Some doors)) = IsNumber room
+IsInRange (Dig (Old room) None) = ⊥
+IsInRange (Make names) = Unit {0}
+IsInRange (Player name) = Unit {0}
+IsInRange (Lock object key) = IsNumber object
+IsInRange (Unlock object) = IsNumber object
+IsInRange (Move thing to) = IsNumber thing × IsNumber to
+IsInRange (Walk exit) = IsNumber exit
+IsInRange (Cost exit cost) = IsNumber exit × (cost ≤ 10000)
+IsInRange (Rename object names) = IsNumber object
+IsInRange (Recycle object) = IsNumber object
+IsInRange (Say text) = Unit {0}
+IsInRange (Emote text) = Unit {0}
+
+-- what a text can spell: the desk is 1 to 64, and all other numbers are in their ranges
+pub record IsSpellable (desk : ℕ) (change : Change) : Type 0 where
+  pub desk_from : 1 ≤ desk
+  pub desk_to : desk ≤ 64
+  pub actor : IsNumber change.actor
+  pub deed : IsInRange change.deed
+
+-- the names of an exit back, where there is one
+abbrev pub AreBackNames : Option (List (List ℕ)) → Type 0
+AreBackNames None = Unit {0}
+AreBackNames (Some names) = AreNames names
+
+-- the names of the exits of a dig
+abbrev pub AreDoors : Option Doors → Type 0
+AreDoors None = Unit {0}
+AreDoors (Some doors) = AreNames doors.out × AreBackNames doors.back
+
+-- the names of a new room
+abbrev pub IsTarget : Target → Type 0
+IsTarget (New names) = AreNames names
+IsTarget (Old room) = Unit {0}
+
+-- names, keys and texts of a deed are such; their types keep it of every change that is built
+abbrev pub HasParts : Deed → Type 0
+HasParts (Dig target doors) = IsTarget target × AreDoors doors
+HasParts (Make names) = AreNames names
+HasParts (Player name) = IsName name
+HasParts (Lock object key) = IsKey key
+HasParts (Unlock object) = Unit {0}
+HasParts (Move thing to) = Unit {0}
+HasParts (Walk exit) = Unit {0}
+HasParts (Cost exit cost) = Unit {0}
+HasParts (Rename object names) = AreNames names
+HasParts (Recycle object) = Unit {0}
+HasParts (Say text) = IsTrue (is_speech text)
+HasParts (Emote text) = IsTrue (is_speech text)
+
+-- what is true of every entry
+pub record IsEntry (e : Accepted) : Type 0 where
+  pub spellable : IsSpellable e.desk e.change
+  pub parts : HasParts e.change.deed

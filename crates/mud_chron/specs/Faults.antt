@@ -1,0 +1,74 @@
+-- The faults of bytes that are no text of a history.
+use Rattle.std.specs.Prelude.{◌≡◌, ◌≢◌, ◌⊎◌, ℕ, ◌+◌, List, [], ◌++◌, length}
+use Rattle.std.specs.List.{AllByRecursion}
+use Rattle.mud_chron.specs.declared.fault.ChronFault.{ChronFault}
+use Rattle.mud_chron.specs.declared.fault.ChronFault.TheVariants.{OutOfMemory, NotHistory, BadLine, BadChange, TooLong, NoEnd}
+use Rattle.mud_chron.specs.declared.format.Format.{Format}
+use Rattle.mud_chron.specs.Entry.{Accepted}
+use Rattle.mud_chron.specs.Text.{line_feed, head_line, entry_line, end_line, begun_text}
+use Rattle.mud_chron.specs.History.{IsEntryOf, AreEntriesOf}
+
+-- bytes without a line feed
+abbrev pub HasNoLineFeed : List ℕ → Type 0
+HasNoLineFeed bytes = AllByRecursion (λ b. b ≢ 10) bytes
+
+-- the bytes begin with no first line
+abbrev pub IsNoHistory : List ℕ → Type 0
+IsNoHistory bytes = (format : Format) (rest : List ℕ) → bytes ≢ head_line format ++ line_feed ++ rest
+
+-- the bytes are a first line, the lines of these entries, and this rest
+pub record Begins (format : Format) (entries : List Accepted) (bytes rest : List ℕ) : Type 0 where
+  pub allowed : AreEntriesOf format entries
+  pub spelled : bytes ≡ begun_text format entries rest
+
+-- the line is that of no entry which makes this version, and isn't the last line before it
+pub record IsBad (format : Format) (count : ℕ) (line : List ℕ) : Type 0 where
+  pub no_entry : (e : Accepted) → IsEntryOf format e → line ≢ entry_line (count + 1) e
+  pub no_end : line ≢ end_line count
+
+-- behind some entries stands a bad line, line n
+pub record HasBadLine (bytes : List ℕ) (n : ℕ) : Type 0 where
+  pub format : Format
+  pub entries : List Accepted
+  pub line : List ℕ
+  pub rest : List ℕ
+  pub begins : Begins format entries bytes (line ++ line_feed ++ rest)
+  pub whole : HasNoLineFeed line
+  pub bad : IsBad format (length entries) line
+  pub number : n ≡ length entries + 2
+
+-- behind a whole text stands at least one byte more, in line n
+pub record HasMore (bytes : List ℕ) (n : ℕ) : Type 0 where
+  pub format : Format
+  pub entries : List Accepted
+  pub rest : List ℕ
+  pub begins : Begins format entries bytes (end_line (length entries) ++ line_feed ++ rest)
+  pub more : rest ≢ []
+  pub number : n ≡ length entries + 3
+
+-- behind 65,536 entries stands the line of one more
+pub record IsTooLong (bytes : List ℕ) : Type 0 where
+  pub format : Format
+  pub entries : List Accepted
+  pub next : Accepted
+  pub rest : List ℕ
+  pub begins : Begins format entries bytes (entry_line 65537 next ++ line_feed ++ rest)
+  pub full : length entries ≡ 65536
+  pub has_line : IsEntryOf format next
+
+-- behind some entries stands no further line feed
+pub record HasNoEnd (bytes : List ℕ) : Type 0 where
+  pub format : Format
+  pub entries : List Accepted
+  pub rest : List ℕ
+  pub begins : Begins format entries bytes rest
+  pub unended : HasNoLineFeed rest
+
+-- the fault of the bytes; want of memory is none of theirs, and bad changes are found by `replay` alone
+abbrev pub HasFault : List ℕ → ChronFault → Type 0
+HasFault bytes OutOfMemory = ⊥
+HasFault bytes NotHistory = IsNoHistory bytes
+HasFault bytes (BadLine n) = HasBadLine bytes n ⊎ HasMore bytes n
+HasFault bytes (BadChange n) = ⊥
+HasFault bytes TooLong = IsTooLong bytes
+HasFault bytes NoEnd = HasNoEnd bytes

@@ -1,0 +1,192 @@
+-- How an entry is found in its line. Clauses of private parts alone cite this file, as `Fields`.
+use Rattle.std.specs.Prelude.{ℕ, nat_le, List, codes, if◌then◌else◌, Option, None, Some}
+use Rattle.std.specs.Str.{bytes_eq}
+use Rattle.mud_key.specs.Reading.{names_in, name_in}
+use Rattle.mud_world.specs.declared.change.Change.{Change}
+use Rattle.mud_world.specs.declared.change.Doors.{Doors}
+use Rattle.mud_world.specs.declared.change.Target.TheVariants.{New, Old}
+use Rattle.mud_world.specs.declared.change.Deed.{Deed}
+use Rattle.mud_world.specs.declared.change.Deed.TheVariants as deed
+use Rattle.mud_chron.specs.declared.verb.Verb.{Verb}
+use Rattle.mud_chron.specs.declared.verb.Verb.TheVariants.{Dig, Make, Lock, Unlock, Move, Walk, Cost, Player, Rename, Recycle, Say, Emote}
+use Rattle.mud_chron.specs.Entry.{Accepted}
+use Rattle.mud_chron.specs.Fields.{◌>>=◌, cut, number_up_to, object_in, object_before, speech_in, number_key_in}
+
+-- the names up to a quote, and what stands behind it
+unfoldable pub names_before : List ℕ → Option (List (List ℕ) × List ℕ)
+names_before text = do
+  p ← cut 34 text
+  names ← names_in p.0
+  Some (names, p.1)
+
+-- the names between the first two quotes, and what stands behind them
+unfoldable pub quoted_in : List ℕ → Option (List (List ℕ) × List ℕ)
+quoted_in text = do
+  p ← cut 34 text
+  names_before p.1
+
+-- the name between the first two quotes
+unfoldable pub quoted_name_in : List ℕ → Option (List ℕ)
+quoted_name_in text = do
+  p ← cut 34 text
+  q ← cut 34 p.1
+  name_in q.0
+
+-- the names of the exit back; none where no quote stands
+abbrev pub back_behind : Option (List ℕ × List ℕ) → Option (Option (List (List ℕ)))
+back_behind None = Some None
+back_behind (Some p) = do
+  names ← names_before p.1
+  Some (Some names.0)
+
+unfoldable pub back_in : List ℕ → Option (Option (List (List ℕ)))
+back_in text = back_behind (cut 34 text)
+
+-- the exits of a dig; none where no quote stands
+abbrev pub doors_behind : Option (List ℕ × List ℕ) → Option (Option Doors)
+doors_behind None = Some None
+doors_behind (Some p) = do
+  out ← names_before p.1
+  back ← back_in out.1
+  Some (Some (record { out = out.0; back = back }))
+
+unfoldable pub doors_in : List ℕ → Option (Option Doors)
+doors_in text = doors_behind (cut 34 text)
+
+-- a dig of a new room
+unfoldable pub new_in : List ℕ → Option Deed
+new_in text = do
+  names ← quoted_in text
+  doors ← doors_in names.1
+  Some (deed.Dig (New names.0) doors)
+
+-- a way to an old room, where it has an exit
+abbrev pub way_to : ℕ → Option Doors → Option Deed
+way_to room None = None
+way_to room (Some doors) = Some (deed.Dig (Old room) (Some doors))
+
+unfoldable pub old_in : List ℕ → Option Deed
+old_in text = do
+  room ← object_before text
+  doors ← doors_in room.1
+  way_to room.0 doors
+
+unfoldable pub dig_in : List ℕ → Option Deed
+dig_in text = do
+  p ← cut 32 text
+  if bytes_eq p.0 (codes "new") then new_in p.1 else old_in p.1
+
+unfoldable pub make_in : List ℕ → Option Deed
+make_in text = do
+  names ← quoted_in text
+  Some (deed.Make names.0)
+
+unfoldable pub player_in : List ℕ → Option Deed
+player_in text = do
+  name ← quoted_name_in text
+  Some (deed.Player name)
+
+unfoldable pub lock_in : List ℕ → Option Deed
+lock_in text = do
+  object ← object_before text
+  key ← number_key_in object.1
+  Some (deed.Lock object.0 key)
+
+unfoldable pub unlock_in : List ℕ → Option Deed
+unlock_in text = do
+  object ← object_in text
+  Some (deed.Unlock object)
+
+unfoldable pub move_in : List ℕ → Option Deed
+move_in text = do
+  thing ← object_before text
+  to ← object_in thing.1
+  Some (deed.Move thing.0 to)
+
+unfoldable pub walk_in : List ℕ → Option Deed
+walk_in text = do
+  exit ← object_in text
+  Some (deed.Walk exit)
+
+unfoldable pub cost_in : List ℕ → Option Deed
+cost_in text = do
+  exit ← object_before text
+  cost ← number_up_to 10000 exit.1
+  Some (deed.Cost exit.0 cost)
+
+unfoldable pub rename_in : List ℕ → Option Deed
+rename_in text = do
+  object ← object_before text
+  names ← quoted_in object.1
+  Some (deed.Rename object.0 names.0)
+
+unfoldable pub recycle_in : List ℕ → Option Deed
+recycle_in text = do
+  object ← object_in text
+  Some (deed.Recycle object)
+
+unfoldable pub say_in : List ℕ → Option Deed
+say_in text = do
+  speech ← speech_in text
+  Some (deed.Say speech)
+
+unfoldable pub emote_in : List ℕ → Option Deed
+emote_in text = do
+  speech ← speech_in text
+  Some (deed.Emote speech)
+
+-- the deed that stands behind a verb
+unfoldable pub deed_in : Verb → List ℕ → Option Deed
+deed_in Dig text = dig_in text
+deed_in Make text = make_in text
+deed_in Player text = player_in text
+deed_in Lock text = lock_in text
+deed_in Unlock text = unlock_in text
+deed_in Move text = move_in text
+deed_in Walk text = walk_in text
+deed_in Cost text = cost_in text
+deed_in Rename text = rename_in text
+deed_in Recycle text = recycle_in text
+deed_in Say text = say_in text
+deed_in Emote text = emote_in text
+
+-- the verb of a word
+unfoldable pub verb_in : List ℕ → Option Verb
+verb_in word =
+    if bytes_eq word (codes "dig") then Some Dig
+    else if bytes_eq word (codes "make") then Some Make
+    else if bytes_eq word (codes "player") then Some Player
+    else if bytes_eq word (codes "lock") then Some Lock
+    else if bytes_eq word (codes "unlock") then Some Unlock
+    else if bytes_eq word (codes "move") then Some Move
+    else if bytes_eq word (codes "walk") then Some Walk
+    else if bytes_eq word (codes "cost") then Some Cost
+    else if bytes_eq word (codes "rename") then Some Rename
+    else if bytes_eq word (codes "recycle") then Some Recycle
+    else if bytes_eq word (codes "say") then Some Say
+    else if bytes_eq word (codes "emote") then Some Emote
+    else None
+
+-- the change of a text
+unfoldable pub change_in : List ℕ → Option Change
+change_in text = do
+  word ← cut 32 text
+  verb ← verb_in word.0
+  actor ← object_before word.1
+  deed ← deed_in verb actor.1
+  Some (record { actor = actor.0; deed = deed })
+
+-- a desk
+unfoldable pub desk_in : List ℕ → Option ℕ
+desk_in text = do
+  desk ← number_up_to 64 text
+  if nat_le 1 desk then Some desk else None
+
+-- the entry of a line, whatever version it makes
+unfoldable pub entry_in : List ℕ → Option Accepted
+entry_in line = do
+  version ← cut 32 line
+  p ← cut 32 version.1
+  desk ← desk_in p.0
+  change ← change_in p.1
+  Some (record { desk = desk; change = change })

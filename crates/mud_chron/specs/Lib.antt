@@ -1,0 +1,9 @@
+pub mod Entry
+pub mod Text
+pub mod History
+pub mod Faults
+pub mod Replay
+pub mod Laws
+pub mod Fields
+pub mod Guess
+pub mod Lines

@@ -1,0 +1,95 @@
+-- The text of a history: each value has one spelling, line by line.
+use Rattle.std.specs.Prelude.{ℕ, ◌+◌, List, [], ◌∷◌, ◌++◌, length, codes, Option, Some, None}
+use Rattle.std.specs.List.{flat_map}
+use Rattle.std.specs.Fmt.{decimal}
+use Rattle.mud_key.specs.Printed.{number_text, by_text, printed}
+use Rattle.mud_world.specs.declared.change.Change.{Change}
+use Rattle.mud_world.specs.declared.change.Doors.{Doors}
+use Rattle.mud_world.specs.declared.change.Target.{Target}
+use Rattle.mud_world.specs.declared.change.Target.TheVariants.{New, Old}
+use Rattle.mud_world.specs.declared.change.Deed.{Deed}
+use Rattle.mud_world.specs.declared.change.Deed.TheVariants.{Dig, Make, Lock, Unlock, Move, Walk, Cost, Player, Rename, Recycle, Say, Emote}
+use Rattle.mud_chron.specs.declared.format.Format.{Format}
+use Rattle.mud_chron.specs.declared.format.Format.TheVariants.{One, Two}
+use Rattle.mud_chron.specs.Entry.{Accepted}
+
+-- the end of a line
+abbrev pub line_feed : List ℕ
+line_feed = codes "\n"
+
+-- the names with a comma between each two
+abbrev pub listed : List (List ℕ) → List ℕ
+listed [] = []
+listed (name ∷ names) = name ++ flat_map (λ other. codes "," ++ other) names
+
+-- the names in double quotes
+abbrev pub quoted : List (List ℕ) → List ℕ
+quoted names = codes "\"" ++ listed names ++ codes "\""
+
+-- where a dig leads: to a new room, or to an old one
+abbrev pub target_text : Target → List ℕ
+target_text (New names) = codes "new " ++ quoted names
+target_text (Old room) = codes "old " ++ number_text room
+
+-- the exit back of a dig, where there is one
+abbrev pub back_text : Option (List (List ℕ)) → List ℕ
+back_text None = []
+back_text (Some names) = codes " back " ++ quoted names
+
+-- the exits of a dig, where there are any
+abbrev pub doors_text : Option Doors → List ℕ
+doors_text None = []
+doors_text (Some doors) = codes " out " ++ quoted doors.out ++ back_text doors.back
+
+-- a deed of an actor, who is spelled first
+abbrev pub deed_text : List ℕ → Deed → List ℕ
+deed_text actor (Dig target doors) = codes "dig " ++ actor ++ codes " " ++ target_text target ++ doors_text doors
+deed_text actor (Make names) = codes "make " ++ actor ++ codes " " ++ quoted names
+deed_text actor (Player name) = codes "player " ++ actor ++ codes " " ++ quoted (name ∷ [])
+deed_text actor (Lock object key) = codes "lock " ++ actor ++ codes " " ++ number_text object ++ codes " " ++ printed (by_text key)
+deed_text actor (Unlock object) = codes "unlock " ++ actor ++ codes " " ++ number_text object
+deed_text actor (Move thing to) = codes "move " ++ actor ++ codes " " ++ number_text thing ++ codes " " ++ number_text to
+deed_text actor (Walk exit) = codes "walk " ++ actor ++ codes " " ++ number_text exit
+deed_text actor (Cost exit cost) = codes "cost " ++ actor ++ codes " " ++ number_text exit ++ codes " " ++ decimal cost
+deed_text actor (Rename object names) = codes "rename " ++ actor ++ codes " " ++ number_text object ++ codes " " ++ quoted names
+deed_text actor (Recycle object) = codes "recycle " ++ actor ++ codes " " ++ number_text object
+deed_text actor (Say text) = codes "say " ++ actor ++ codes " " ++ text
+deed_text actor (Emote text) = codes "emote " ++ actor ++ codes " " ++ text
+
+-- a change, without a line's end
+abbrev pub change_text : Change → List ℕ
+change_text change = deed_text (number_text change.actor) change.deed
+
+-- the line of an entry, without its end: the version that it makes, the desk, and the change
+unfoldable pub entry_line : ℕ → Accepted → List ℕ
+entry_line version e = decimal version ++ codes " " ++ decimal e.desk ++ codes " " ++ change_text e.change
+
+-- the line of an entry, with its end
+abbrev pub entry_text : ℕ → Accepted → List ℕ
+entry_text version e = entry_line version e ++ line_feed
+
+-- the lines of entries, the first of which makes this version
+abbrev pub entries_text : ℕ → List Accepted → List ℕ
+entries_text version [] = []
+entries_text version (e ∷ entries) = entry_text version e ++ entries_text (version + 1) entries
+
+-- the first line, without its end
+abbrev pub head_line : Format → List ℕ
+head_line One = codes "mud history 1"
+head_line Two = codes "mud history 2"
+
+-- the last line behind so many entries, without its end
+unfoldable pub end_line : ℕ → List ℕ
+end_line count = codes "end " ++ decimal count
+
+-- the first line, the lines of the entries, and what stands behind them
+abbrev pub begun_text : Format → List Accepted → List ℕ → List ℕ
+begun_text format entries rest = head_line format ++ line_feed ++ entries_text 1 entries ++ rest
+
+-- the text of a history
+abbrev pub history_text : Format → List Accepted → List ℕ
+history_text format entries = begun_text format entries (end_line (length entries) ++ line_feed)
+
+-- the text as it is written, in format 2
+abbrev pub written_text : List Accepted → List ℕ
+written_text entries = history_text Two entries

@@ -1,0 +1,72 @@
+//! An entry of a history.
+
+ghost use Rattle.std.specs.Prelude.{◌≡◌, IfOk};
+ghost use Rattle.mud_chron.specs.Entry.{Accepted, IsSpellable, IsEntry, HasParts};
+
+use crate::copying::copy_change;
+use crate::parts::has_parts;
+use mud_world::Change;
+use std::alloc::{AllocError, Global};
+use std::marker::Model;
+
+/// One accepted change, and the desk that made it. The desk is 1 to 64, the numbers of objects are
+/// 0 to 8,191, a cost is 0 to 10,000, and a way to an old room has an exit (`IsEntry`): the text
+/// can spell it. A contract sees the desk and the change.
+#[derive(Drop)]
+pub struct Entry {
+    desk: u32,
+    change: Change,
+}
+
+impl Model for Entry {
+    ghost use Rattle.mud_chron.specs.Entry.{Accepted, IsEntry};
+    ghost use Rattle.mud_key.specs.TreeCode.{coded_number_tree};
+    ghost use Rattle.std.specs.Coded.{codes};
+
+    ghost Value = { Accepted };
+
+    ghost coded = { Prim.hlevel (codes, coded_number_tree) };
+
+    ghost view = { λ a. record { desk = a.desk; change = a.change } };
+
+    ghost invariant = { λ a. IsEntry (record { desk = a.desk; change = a.change }) };
+}
+
+impl Entry {
+    /// The entry of a change that the desk made. A change that is legal in a world is spellable
+    /// for a desk from 1 to 64 (`legal_is_spellable` in proofs/Spellable.antt).
+    pub fn new(desk: u32, change: Change) -> Entry
+        requires { IsSpellable desk change }
+        ensures { result ≡ record { desk = desk; change = change } }
+    {
+        has_parts(&change);
+        Entry { desk, change }
+    }
+
+    /// The number of the desk, 1 to 64.
+    pub fn desk(&self) -> u32
+        ensures desk { result ≡ self.now.desk }
+        ensures entry { IsEntry self.now }
+    {
+        self.desk
+    }
+
+    /// The change.
+    pub fn change(&self) -> &Change
+        ensures change { result.now ≡ self.now.change }
+        ensures entry { IsEntry self.now }
+    {
+        &self.change
+    }
+
+    /// An equal entry. Only want of memory is an error.
+    pub fn copy(&self, alloc: Global) -> Result<Entry, AllocError>
+        ensures { IfOk result (λ e. e ≡ self.now) }
+    {
+        let change = copy_change(alloc, &self.change)?;
+        Ok(Entry {
+            desk: self.desk,
+            change,
+        })
+    }
+}

@@ -1,0 +1,42 @@
+//! History texts: a world's accepted changes as a text, one line each.
+//!
+//! An [`Entry`] is one accepted change and the desk that made it. docs/HISTORY.md has the text in
+//! plain words, and specs/Text.antt as one spelling for each value.
+//!
+//! | Calls | Answer |
+//! |---|---|
+//! | `write_entry`, `write_history` | append the line of an entry, or the text of a history |
+//! | `read_history` | the entries of a text, or the fault of bytes that are none |
+//! | `replay` | the world of the entries, or the first whose change isn't legal |
+//!
+//! ```text
+//! let entries = read_history(alloc, bytes)?;
+//! let world = replay(alloc, &entries)?;
+//! ```
+//!
+//! Proved is that what is written is the text, that exactly the texts are read, that the fault
+//! answered is that of the bytes, and that the world is that of the history. That bytes have one
+//! reading alone, or one fault, are the contracts of [`laws`].
+#![tactic(auto)]
+
+mod copying;
+mod entry;
+mod fault;
+mod fields;
+mod format;
+mod guess;
+pub mod laws;
+mod line;
+mod parts;
+mod reading;
+mod replaying;
+#[cfg(test)]
+mod tests;
+mod verb;
+mod writing;
+
+pub use entry::Entry;
+pub use fault::ChronFault;
+pub use reading::read_history;
+pub use replaying::replay;
+pub use writing::{write_entry, write_history};

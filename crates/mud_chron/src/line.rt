@@ -1,0 +1,106 @@
+//! One line of a history.
+
+ghost use Rattle.std.specs.Prelude.{◌≡◌, ◌≤◌, ◌+◌, ◌↔◌, true, IfOk, MatchOption, MatchBool};
+ghost use Rattle.mud_chron.specs.Text.{entry_line, end_line};
+ghost use Rattle.mud_chron.specs.History.{HasLine, IsEntryOf};
+ghost use Rattle.mud_chron.specs.Lines.{IsNoEntryLine, Finds, IsLine};
+
+use crate::entry::Entry;
+use crate::fields::Unread;
+use crate::format::Format;
+use crate::guess::guess;
+use crate::writing::{push_end, push_line};
+use mud_world::Deed;
+use std::alloc::{AllocError, Global};
+
+/// What a line is behind some entries.
+#[derive(Drop)]
+pub(crate) enum Line {
+    /// That of the next entry.
+    Entry(Entry),
+    /// The last line.
+    End,
+    /// Neither.
+    Bad,
+}
+
+// Whether the deed has a line in the format.
+fn has_line(format: Format, deed: &Deed) -> bool
+    ensures { MatchBool result (HasLine format deed.now) (¬ HasLine format deed.now) }
+{
+    match (format, deed) {
+        (Format::One, Deed::Cost { cost, .. }) => 1 <= *cost,
+        _ => true,
+    }
+}
+
+// The entry that may have the line, whatever is spelled there.
+fn candidate(alloc: Global, line: &[u8]) -> Result<Entry, Unread>
+    ensures { Finds line.now result }
+{
+    match str::from_utf8(line) {
+        Ok(text) => guess(alloc, text),
+        Err(_) => Err(Unread::NoEntry),
+    }
+}
+
+// Whether the entry has this line.
+fn is_line_of(alloc: Global, version: u32, entry: &Entry, line: &[u8]) -> Result<bool, AllocError>
+    ensures { IfOk result (λ b. (b ≡ true) ↔ (line.now ≡ entry_line version entry.now)) }
+{
+    let mut text = String::new(alloc);
+    push_line(alloc, version, entry, &mut text)?;
+    Ok(text.as_bytes() == line)
+}
+
+// The entry of the line, where it is that of one which makes the version.
+fn entry_of(
+    alloc: Global,
+    format: Format,
+    version: u32,
+    line: &[u8],
+) -> Result<Option<Entry>, AllocError>
+    ensures { IfOk result (λ found. MatchOption found (IsNoEntryLine format version line.now)
+        (λ e. IsEntryOf format e × (line.now ≡ entry_line version e))) }
+{
+    let entry = match candidate(alloc, line) {
+        Ok(entry) => entry,
+        Err(Unread::NoEntry) => return Ok(None),
+        Err(Unread::OutOfMemory) => return Err(AllocError),
+    };
+    let is_allowed = has_line(format, &entry.change().deed);
+    if is_allowed && is_line_of(alloc, version, &entry, line)? {
+        Ok(Some(entry))
+    } else {
+        Ok(None)
+    }
+}
+
+// Whether it is the last line behind so many entries.
+fn is_end(alloc: Global, count: usize, line: &[u8]) -> Result<bool, AllocError>
+    requires { count ≤ 65536 }
+    ensures { IfOk result (λ b. (b ≡ true) ↔ (line.now ≡ end_line count)) }
+{
+    let mut text = String::new(alloc);
+    push_end(&mut text, count)?;
+    Ok(text.as_bytes() == line)
+}
+
+// What the line is behind so many entries.
+pub(crate) fn line_of(
+    alloc: Global,
+    format: Format,
+    count: usize,
+    line: &[u8],
+) -> Result<Line, AllocError>
+    requires { count ≤ 65536 }
+    ensures { IfOk result (IsLine format count line.now) }
+{
+    if is_end(alloc, count, line)? {
+        return Ok(Line::End);
+    }
+    match entry_of(alloc, format, count as u32 + 1, line)? {
+        Some(entry) => Ok(Line::Entry(entry)),
+        None => Ok(Line::Bad),
+    }
+}

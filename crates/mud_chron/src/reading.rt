@@ -1,0 +1,75 @@
+//! The entries of a history's text.
+
+ghost use Rattle.std.specs.Prelude.{◌≡◌, ◌≢◌, ◌++◌, IfOk, IfErr, MatchOption};
+ghost use Rattle.mud_chron.specs.Text.{line_feed, head_line};
+ghost use Rattle.mud_chron.specs.History.{SpellsHistory};
+ghost use Rattle.mud_chron.specs.Faults.{HasNoLineFeed, IsNoHistory, HasFault};
+
+use crate::entry::Entry;
+use crate::fault::ChronFault;
+use crate::format::Format;
+use crate::line::{Line, line_of};
+use std::alloc::Global;
+
+// The most entries of a history.
+const MOST_ENTRIES: usize = 65_536;
+
+// The first line without its end, and what stands behind it.
+fn cut_line(bytes: &[u8]) -> Option<(&[u8], &[u8])>
+    ensures { MatchOption result (HasNoLineFeed bytes.now)
+        (λ p. HasNoLineFeed p.0.now × (bytes.now ≡ p.0.now ++ line_feed ++ p.1.now)) }
+{
+    for (i, byte) in bytes.iter().enumerate() {
+        if *byte == b'\n' {
+            return Some((&bytes[..i], &bytes[i + 1..]));
+        }
+    }
+    None
+}
+
+// The format by the first line, and what stands behind it.
+fn format_of(bytes: &[u8]) -> Option<(Format, &[u8])>
+    ensures { MatchOption result (IsNoHistory bytes.now)
+        (λ p. bytes.now ≡ head_line p.0 ++ line_feed ++ p.1.now) }
+{
+    if let Some(rest) = bytes.strip_prefix(b"mud history 2\n".as_slice()) {
+        return Some((Format::Two, rest));
+    }
+    match bytes.strip_prefix(b"mud history 1\n".as_slice()) {
+        Some(rest) => Some((Format::One, rest)),
+        None => None,
+    }
+}
+
+/// The entries of a history's text, in either format (docs/HISTORY.md). Exactly the texts of
+/// histories are read. Any other bytes have one fault, which is answered; only want of memory
+/// comes beside it. Its time is linear in the bytes.
+pub fn read_history(alloc: Global, bytes: &[u8]) -> Result<Vec<Entry>, ChronFault>
+    ensures ok { IfOk result (λ entries. SpellsHistory bytes.now entries.items) }
+    ensures err { IfErr result (λ fault. fault ≢ ChronFault.OutOfMemory → HasFault bytes.now fault) }
+{
+    let (format, mut rest) = match format_of(bytes) {
+        Some(found) => found,
+        None => return Err(ChronFault::NotHistory),
+    };
+    let mut entries = Vec::new(alloc);
+    while let Some((line, more)) = cut_line(rest) {
+        match line_of(alloc, format, entries.len(), line)? {
+            Line::Entry(entry) => {
+                if entries.len() == MOST_ENTRIES {
+                    return Err(ChronFault::TooLong);
+                }
+                entries.push(entry)?;
+                rest = more;
+            }
+            Line::End => {
+                if more.is_empty() {
+                    return Ok(entries);
+                }
+                return Err(ChronFault::BadLine(entries.len() + 3));
+            }
+            Line::Bad => return Err(ChronFault::BadLine(entries.len() + 2)),
+        }
+    }
+    Err(ChronFault::NoEnd)
+}

@@ -1,0 +1,259 @@
+//! The text of entries, and of a history.
+
+ghost use Rattle.std.specs.Prelude.{◌≡◌, ◌≤◌, ◌+◌, ◌^◌, ◌<◌, ◌++◌, [], ◌∷◌, List, codes, drop, length, map, IfOk, OnOk, OnErr, string_bytes};
+ghost use Rattle.std.specs.Fmt.{decimal};
+ghost use Rattle.std.specs.List.{flat_map};
+ghost use Rattle.mud_key.specs.Printed.{number_text, by_text, printed};
+ghost use Rattle.mud_chron.specs.declared.format.Format.TheVariants.{Two};
+ghost use Rattle.mud_chron.specs.Text.{listed, quoted, target_text, back_text, doors_text, deed_text, change_text, entry_line, entry_text, entries_text, end_line, history_text};
+
+use crate::entry::Entry;
+use itoa::Buffer;
+use mud_key::{Key, Name, Names, print};
+use mud_world::{Change, Deed, Doors, Target};
+use std::alloc::{AllocError, Global};
+
+fn push_decimal(out: &mut String, number: u32) -> Result<(), AllocError>
+    ensures { OnOk result (string_bytes out.new ≡ string_bytes out.old ++ decimal number) }
+{
+    out.push_str(Buffer::new().format(number))
+}
+
+fn push_number(out: &mut String, number: u32) -> Result<(), AllocError>
+    ensures { OnOk result (string_bytes out.new ≡ string_bytes out.old ++ number_text number) }
+{
+    out.push_str("#")?;
+    push_decimal(out, number)
+}
+
+fn push_object(out: &mut String, word: &str, actor: u32, object: u32) -> Result<(), AllocError>
+    ensures { OnOk result (string_bytes out.new
+        ≡ string_bytes out.old ++ word.now ++ number_text actor ++ codes " " ++ number_text object) }
+{
+    out.push_str(word)?;
+    push_number(out, actor)?;
+    out.push_str(" ")?;
+    push_number(out, object)
+}
+
+fn push_others(out: &mut String, names: &[String]) -> Result<(), AllocError>
+    ensures { OnOk result (string_bytes out.new
+        ≡ string_bytes out.old ++ flat_map (λ name. codes "," ++ name) (map string_bytes names.now)) }
+{
+    for name in names {
+        out.push_str(",")?;
+        out.push_str(name.as_str())?;
+    }
+    Ok(())
+}
+
+fn push_listed(out: &mut String, names: &[String]) -> Result<(), AllocError>
+    ensures { OnOk result (string_bytes out.new ≡ string_bytes out.old ++ listed (map string_bytes names.now)) }
+{
+    match names {
+        [first, others @ ..] => {
+            out.push_str(first.as_str())?;
+            push_others(out, others)
+        }
+        [] => Ok(()),
+    }
+}
+
+fn push_names(out: &mut String, names: &Names) -> Result<(), AllocError>
+    ensures { OnOk result (string_bytes out.new ≡ string_bytes out.old ++ quoted names.now) }
+{
+    out.push_str("\"")?;
+    push_listed(out, names.list())?;
+    out.push_str("\"")
+}
+
+fn push_name(out: &mut String, name: &Name) -> Result<(), AllocError>
+    ensures { OnOk result (string_bytes out.new ≡ string_bytes out.old ++ quoted (name.now ∷ [])) }
+{
+    out.push_str("\"")?;
+    out.push_str(name.as_str())?;
+    out.push_str("\"")
+}
+
+fn push_target(out: &mut String, target: &Target) -> Result<(), AllocError>
+    ensures { OnOk result (string_bytes out.new ≡ string_bytes out.old ++ target_text target.now) }
+{
+    match target {
+        Target::New(names) => {
+            out.push_str("new ")?;
+            push_names(out, names)
+        }
+        Target::Old(room) => {
+            out.push_str("old ")?;
+            push_number(out, *room)
+        }
+    }
+}
+
+fn push_back(out: &mut String, back: &Option<Names>) -> Result<(), AllocError>
+    ensures { OnOk result (string_bytes out.new ≡ string_bytes out.old ++ back_text back.now) }
+{
+    match back {
+        Some(names) => {
+            out.push_str(" back ")?;
+            push_names(out, names)
+        }
+        None => Ok(()),
+    }
+}
+
+fn push_doors(out: &mut String, doors: &Option<Doors>) -> Result<(), AllocError>
+    ensures { OnOk result (string_bytes out.new ≡ string_bytes out.old ++ doors_text doors.now) }
+{
+    match doors {
+        Some(doors) => {
+            out.push_str(" out ")?;
+            push_names(out, &doors.out)?;
+            push_back(out, &doors.back)
+        }
+        None => Ok(()),
+    }
+}
+
+fn push_key(alloc: Global, out: &mut String, key: &Key) -> Result<(), AllocError>
+    ensures { OnOk result (string_bytes out.new ≡ string_bytes out.old ++ printed (by_text key.now)) }
+{
+    let text = print(alloc, key)?;
+    out.push_str(text.as_str())
+}
+
+fn push_word(out: &mut String, word: &str, actor: u32) -> Result<(), AllocError>
+    ensures { OnOk result (string_bytes out.new ≡ string_bytes out.old ++ word.now ++ number_text actor ++ codes " ") }
+{
+    out.push_str(word)?;
+    push_number(out, actor)?;
+    out.push_str(" ")
+}
+
+fn push_deed(alloc: Global, out: &mut String, actor: u32, deed: &Deed) -> Result<(), AllocError>
+    ensures { OnOk result (string_bytes out.new ≡ string_bytes out.old ++ deed_text (number_text actor) deed.now) }
+{
+    match deed {
+        Deed::Dig(target, doors) => {
+            push_word(out, "dig ", actor)?;
+            push_target(out, target)?;
+            push_doors(out, doors)
+        }
+        Deed::Make(names) => {
+            push_word(out, "make ", actor)?;
+            push_names(out, names)
+        }
+        Deed::Player(name) => {
+            push_word(out, "player ", actor)?;
+            push_name(out, name)
+        }
+        Deed::Lock { object, key } => {
+            push_object(out, "lock ", actor, *object)?;
+            out.push_str(" ")?;
+            push_key(alloc, out, key)
+        }
+        Deed::Unlock { object } => push_object(out, "unlock ", actor, *object),
+        Deed::Move { thing, to } => {
+            push_object(out, "move ", actor, *thing)?;
+            out.push_str(" ")?;
+            push_number(out, *to)
+        }
+        Deed::Walk { exit } => push_object(out, "walk ", actor, *exit),
+        Deed::Cost { exit, cost } => {
+            push_object(out, "cost ", actor, *exit)?;
+            out.push_str(" ")?;
+            push_decimal(out, *cost)
+        }
+        Deed::Rename { object, names } => {
+            push_object(out, "rename ", actor, *object)?;
+            out.push_str(" ")?;
+            push_names(out, names)
+        }
+        Deed::Recycle { object } => push_object(out, "recycle ", actor, *object),
+        Deed::Say(text) => {
+            push_word(out, "say ", actor)?;
+            out.push_str(text.as_str())
+        }
+        Deed::Emote(text) => {
+            push_word(out, "emote ", actor)?;
+            out.push_str(text.as_str())
+        }
+    }
+}
+
+// The line of the entry, without its end.
+#[tactic(auto, unfolding(crate::specs::Text::entry_line))]
+pub(crate) fn push_line(
+    alloc: Global,
+    version: u32,
+    entry: &Entry,
+    out: &mut String,
+) -> Result<(), AllocError>
+    ensures { OnOk result (string_bytes out.new ≡ string_bytes out.old ++ entry_line version entry.now) }
+{
+    push_decimal(out, version)?;
+    out.push_str(" ")?;
+    push_decimal(out, entry.desk())?;
+    out.push_str(" ")?;
+    let change = entry.change();
+    push_deed(alloc, out, change.actor, &change.deed)
+}
+
+/// Appends the line of the entry, with its end: the version that its change makes, 1 to 65,536,
+/// the desk, and the change (docs/HISTORY.md, "Entries"). Only want of memory is an error, and
+/// then the text is the one that was.
+pub fn write_entry(
+    alloc: Global,
+    version: u32,
+    entry: &Entry,
+    out: &mut String,
+) -> Result<(), AllocError>
+    requires from { 1 ≤ version }
+    requires to { version ≤ 65536 }
+    ensures ok { OnOk result (string_bytes out.new ≡ string_bytes out.old ++ entry_text version entry.now) }
+    ensures err { OnErr result (string_bytes out.new ≡ string_bytes out.old) }
+{
+    let mut text = String::new(alloc);
+    push_line(alloc, version, entry, &mut text)?;
+    text.push_str("\n")?;
+    out.push_str(text.as_str())
+}
+
+// The lines of entries, the first of which makes version 1.
+fn push_entries(alloc: Global, entries: &[Entry], out: &mut String) -> Result<(), AllocError>
+    requires { length entries.now ≤ 65536 }
+    ensures { OnOk result (string_bytes out.new ≡ string_bytes out.old ++ entries_text 1 entries.now) }
+{
+    let mut version = 0;
+    for entry in entries {
+        version += 1;
+        push_line(alloc, version, entry, out)?;
+        out.push_str("\n")?;
+    }
+    Ok(())
+}
+
+// The last line behind so many entries, without its end.
+#[tactic(auto, unfolding(crate::specs::Text::end_line))]
+pub(crate) fn push_end(out: &mut String, count: usize) -> Result<(), AllocError>
+    requires { count ≤ 65536 }
+    ensures { OnOk result (string_bytes out.new ≡ string_bytes out.old ++ end_line count) }
+{
+    out.push_str("end ")?;
+    push_decimal(out, count as u32)
+}
+
+/// Appends the text of the history of these entries, at most 65,536, in format 2
+/// (docs/HISTORY.md). Only want of memory is an error, and then the text is the one that was.
+pub fn write_history(alloc: Global, entries: &[Entry], out: &mut String) -> Result<(), AllocError>
+    requires { length entries.now ≤ 65536 }
+    ensures ok { OnOk result (string_bytes out.new ≡ string_bytes out.old ++ history_text Two entries.now) }
+    ensures err { OnErr result (string_bytes out.new ≡ string_bytes out.old) }
+{
+    let mut text = String::from_str(alloc, "mud history 2\n")?;
+    push_entries(alloc, entries, &mut text)?;
+    push_end(&mut text, entries.len())?;
+    text.push_str("\n")?;
+    out.push_str(text.as_str())?;
+    Ok(())
+}

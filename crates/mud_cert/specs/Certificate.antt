@@ -1,0 +1,58 @@
+-- A certificate as contracts see it, and the limits that every certificate keeps.
+use Rattle.std.specs.Prelude.{◌≡◌, ℕ, ◌<◌, ◌≤◌, List, length, Option, Some, None, IfSome, All, AllPairs}
+use Rattle.mud_roads.specs.declared.label.Label.{Label}
+use Rattle.mud_cert.specs.declared.cert.Form.{Form}
+use Rattle.mud_cert.specs.declared.cert.Form.TheVariants.{One, Two}
+use Rattle.mud_cert.specs.declared.cert.Conclusion.{Conclusion}
+use Rattle.mud_cert.specs.declared.cert.Conclusion.TheVariants.{Route, Meet}
+
+-- what is claimed of a member: who he is, where he stands, the labels of rooms, and his walk, if one is given
+pub record Account : Type 0 where
+  pub player : ℕ
+  pub from : ℕ
+  pub labels : List (ℕ × Label)
+  pub walk : Option (List ℕ)
+
+-- a certificate: of which world it speaks, how its labels count, its members, and what it concludes
+pub record Certificate : Type 0 where
+  pub version : ℕ
+  pub form : Form
+  pub members : List Account
+  pub conclusion : Conclusion
+
+-- object numbers are 0 to 8,191
+abbrev pub IsNumber : ℕ → Type 0
+IsNumber n = n ≤ 8191
+
+-- versions, costs and counts of exits have at most 9 digits
+abbrev pub IsAmount : ℕ → Type 0
+IsAmount n = n < 1000000000
+
+-- a room and its label are within the limits
+abbrev pub IsEntry : ℕ × Label → Type 0
+IsEntry e = IsNumber e.0 × IsAmount e.1.cost × IsAmount e.1.exits
+
+-- labels rise by room, and every number is within the limits
+pub record IsAccount (a : Account) : Type 0 where
+  pub player : IsNumber a.player
+  pub from : IsNumber a.from
+  pub entries : All IsEntry a.labels
+  pub rising : AllPairs (λ d e. d.0 < e.0) a.labels
+  pub exits : IfSome a.walk (All IsNumber)
+
+-- in form one labels count no exits
+abbrev pub CountsBy : Form → Account → Type 0
+CountsBy One a = All (λ e. e.1.exits ≡ 0) a.labels
+CountsBy Two a = Unit {0}
+
+-- a route has one member, a meeting 2 to 8; the numbers are within the limits
+abbrev pub IsConclusion : ℕ → Conclusion → Type 0
+IsConclusion count (Route to cost) = (count ≡ 1) × IsNumber to × IfSome cost IsAmount
+IsConclusion count (Meet meeting) = (2 ≤ count) × (count ≤ 8) × IfSome meeting (λ m. IsNumber m.room × IsAmount m.cost)
+
+-- what every certificate keeps
+pub record IsCertificate (c : Certificate) : Type 0 where
+  pub version : IsAmount c.version
+  pub members : All IsAccount c.members
+  pub counts : All (CountsBy c.form) c.members
+  pub conclusion : IsConclusion (length c.members) c.conclusion

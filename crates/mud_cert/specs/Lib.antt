@@ -1,0 +1,16 @@
+pub mod Certificate
+pub mod Lookup
+pub mod Ways
+pub mod Agreement
+pub mod Doubts
+pub mod Valid
+pub mod Laws
+pub mod Text
+pub mod Faults
+pub mod TextLaws
+pub mod Reading
+pub mod Opening
+pub mod Stages
+pub mod Finding
+pub mod Verdict
+pub mod FindingLaws

@@ -1,0 +1,21 @@
+-- What the texts of certificates and their bad lines keep.
+use Rattle.std.specs.Prelude.{◌≡◌, ℕ, List, [], ◌∷◌, ◌++◌}
+use Rattle.mud_cert.specs.Certificate.{Certificate, IsCertificate}
+use Rattle.mud_cert.specs.Text.{cert_text}
+use Rattle.mud_cert.specs.Faults.{IsBadLine}
+
+-- a text is that of one certificate alone
+abbrev pub OneCertificate : Type 0
+OneCertificate = (c d : Certificate) → IsCertificate c → IsCertificate d → cert_text c ≡ cert_text d → c ≡ d
+
+-- a text has one bad line at most
+abbrev pub OneBadLine : Type 0
+OneBadLine = (bytes : List ℕ) (m n : ℕ) → IsBadLine bytes m → IsBadLine bytes n → m ≡ n
+
+-- the text of a certificate has no bad line
+abbrev pub NoBadLine : Type 0
+NoBadLine = (c : Certificate) (n : ℕ) → IsCertificate c → IsBadLine (cert_text c) n → ⊥
+
+-- the text of a certificate ends with LF
+abbrev pub EndsWithLf : Type 0
+EndsWithLf = (c : Certificate) → (front : List ℕ) × (cert_text c ≡ front ++ 10 ∷ [])

@@ -1,0 +1,232 @@
+//! The test of a certificate, which trusts nobody.
+
+ghost use Rattle.std.specs.Prelude.{◌≡◌, ◌≢◌, nat_eq, find, [], None, Some, option_map, IfOk, IfErr, IsOk};
+ghost use Rattle.std.specs.List.{list_any, list_all};
+ghost use Rattle.mud_roads.specs.Open.{IsTraveller};
+ghost use Rattle.mud_roads.specs.Walks.{total};
+ghost use Rattle.mud_world.specs.State.{is_room};
+ghost use Rattle.mud_world.specs.Sound.{IsSound};
+ghost use Rattle.mud_cert.specs.Certificate.{IsCertificate};
+ghost use Rattle.mud_cert.specs.declared.doubt.Doubt.TheVariants.{OutOfMemory, Arc};
+ghost use Rattle.mud_cert.specs.Lookup.{is_label};
+ghost use Rattle.mud_cert.specs.Doubts.{◌or◌, numbers, is_new, stands, is_started, breaks, walk_doubt, given_doubt, member_doubt, members_doubt, first_doubt};
+ghost use Rattle.mud_cert.specs.Valid.{IsValid, Optimal};
+
+use crate::agree::concludes;
+use crate::look::{is_after, label_at};
+use crate::steps::{broken, hop_of, locked, step_of, walked};
+use crate::{Cert, Doubt, Form, Member};
+use mud_roads::{Label, Traveller};
+use mud_world::World;
+use std::alloc::{AllocError, Global};
+
+// Whether an earlier member is this player.
+fn is_among(earlier: &[Member], player: u32) -> bool
+    ensures { result ≡ list_any (λ m. nat_eq m.player player) earlier.now }
+{
+    earlier.iter().any(|m| m.player() == player)
+}
+
+// Whether the member is a player of the world, and no earlier member.
+fn is_new(world: &World, earlier: &[Member], member: &Member) -> bool
+    ensures { result ≡ is_new world.now earlier.now member.now }
+{
+    world.is_player(member.player()) && !is_among(earlier, member.player())
+}
+
+// Whether the member stands where it is claimed.
+fn stands(world: &World, member: &Member) -> bool
+    ensures { result ≡ stands world.now member.now }
+{
+    world.is_in(member.player(), member.from())
+}
+
+// Whether each labelled number is a room.
+fn are_rooms(world: &World, labels: &[(u32, Label)]) -> bool
+    ensures { result ≡ list_all (λ e. is_room world.now e.0) labels.now }
+{
+    labels.iter().all(|entry| world.is_room(entry.0))
+}
+
+// Whether the member's start is labelled 0, and each labelled number is a room.
+fn is_started(world: &World, member: &Member) -> bool
+    ensures { result ≡ is_started world.now member.now }
+{
+    match label_at(member, member.from()) {
+        Some(label) => label.cost == 0 && label.exits == 0 && are_rooms(world, member.labels()),
+        None => false,
+    }
+}
+
+// Whether the exit is open to the traveller, leaves a labelled room, and leads to one that has no
+// label or one that is too great.
+fn breaks(world: &World, form: Form, traveller: &Traveller, member: &Member, exit: u32) -> bool
+    requires traveller { IsTraveller world.now traveller.now }
+    requires his { traveller.now.player ≡ member.now.player }
+    ensures { result ≡ breaks world.now form member.now exit }
+{
+    if !traveller.passes(world, exit) {
+        return false;
+    }
+    let Some(passage) = world.passage(exit) else {
+        return false;
+    };
+    let Some(before) = label_at(member, passage.source) else {
+        return false;
+    };
+    let step = step_of(world, exit);
+    match label_at(member, step.to) {
+        Some(label) => !is_after(label, before, hop_of(form), step),
+        None => true,
+    }
+}
+
+// The lowest exit that breaks the labels. Each number of the world is tried, so no label is
+// looked at but those of the ends of exits.
+fn first_breach(world: &World, form: Form, traveller: &Traveller, member: &Member) -> Option<u32>
+    requires traveller { IsTraveller world.now traveller.now }
+    requires his { traveller.now.player ≡ member.now.player }
+    ensures { result ≡ find (breaks world.now form member.now) (numbers world.now) }
+{
+    for number in 0..world.next_number() {
+        if breaks(world, form, traveller, member, number) {
+            return Some(number);
+        }
+    }
+    None
+}
+
+// Whether there is a label, of this cost and so many exits.
+fn is_labelled(label: Option<Label>, cost: u128, exits: usize) -> bool
+    ensures { result ≡ is_label label (record { cost = cost; exits = exits }) }
+{
+    match label {
+        Some(label) => u128::from(label.cost) == cost && label.exits as usize == exits,
+        None => false,
+    }
+}
+
+// The first doubt of the member's walk.
+fn walk_doubt(
+    world: &World,
+    form: Form,
+    traveller: &Traveller,
+    member: &Member,
+    walk: &[u32],
+) -> Option<Doubt>
+    requires traveller { IsTraveller world.now traveller.now }
+    requires his { traveller.now.player ≡ member.now.player }
+    ensures { result ≡ walk_doubt world.now form member.now walk.now }
+{
+    let player = member.player();
+    if let Some(at) = broken(world, member.from(), walk) {
+        return Some(Doubt::WalkBroken { player, at });
+    }
+    if let Some(at) = locked(world, traveller, walk) {
+        return Some(Doubt::WalkLocked { player, at });
+    }
+    let journey = walked(world, form, member.from(), walk);
+    if is_labelled(label_at(member, journey.end), journey.cost, journey.exits) {
+        None
+    } else {
+        Some(Doubt::WalkCost(player))
+    }
+}
+
+// The first doubt of the member's walk, if one is given.
+fn given_doubt(world: &World, form: Form, traveller: &Traveller, member: &Member) -> Option<Doubt>
+    requires traveller { IsTraveller world.now traveller.now }
+    requires his { traveller.now.player ≡ member.now.player }
+    ensures { result ≡ given_doubt world.now form member.now member.now.walk }
+{
+    match member.walk() {
+        Some(walk) => walk_doubt(world, form, traveller, member, walk),
+        None => None,
+    }
+}
+
+// The first doubt of a member who comes after these. Memory is wanted for what is open to him.
+fn member_doubt(
+    alloc: Global,
+    world: &World,
+    form: Form,
+    earlier: &[Member],
+    member: &Member,
+) -> Result<Option<Doubt>, AllocError>
+    ensures { IfOk result (λ doubt. doubt ≡ member_doubt world.now form earlier.now member.now) }
+{
+    let player = member.player();
+    if !is_new(world, earlier, member) {
+        return Ok(Some(Doubt::NoSuchPlayer(player)));
+    }
+    if !stands(world, member) {
+        return Ok(Some(Doubt::WrongStart(player)));
+    }
+    if !is_started(world, member) {
+        return Ok(Some(Doubt::StartLabel(player)));
+    }
+    let traveller = Traveller::of(alloc, world, player)?;
+    if let Some(exit) = first_breach(world, form, &traveller, member) {
+        return Ok(Some(Doubt::Arc { player, exit }));
+    }
+    Ok(given_doubt(world, form, &traveller, member))
+}
+
+// The first doubt of the members.
+fn members_doubt(
+    alloc: Global,
+    world: &World,
+    form: Form,
+    members: &[Member],
+) -> Result<Option<Doubt>, AllocError>
+    ensures { IfOk result (λ doubt. doubt ≡ members_doubt world.now form [] members.now) }
+{
+    for (i, member) in members.iter().enumerate() {
+        if let Some(doubt) = member_doubt(alloc, world, form, &members[..i], member)? {
+            return Ok(Some(doubt));
+        }
+    }
+    Ok(None)
+}
+
+// The first doubt of the certificate.
+fn first_doubt(alloc: Global, world: &World, cert: &Cert) -> Result<Option<Doubt>, AllocError>
+    ensures { IfOk result (λ doubt. doubt ≡ first_doubt world.now cert.now) }
+{
+    if let Some(doubt) = members_doubt(alloc, world, cert.form(), cert.members())? {
+        return Ok(Some(doubt));
+    }
+    if concludes(world, cert.members(), cert.conclusion()) {
+        Ok(None)
+    } else {
+        Ok(Some(Doubt::Conclusion))
+    }
+}
+
+// What is true of every world and of every certificate.
+fn are_kept(world: &World, cert: &Cert)
+    ensures world { IsSound world.now }
+    ensures certificate { IsCertificate cert.now }
+{
+    let _next = world.next_number();
+    let _ = &cert.members;
+}
+
+/// Tests the certificate in this world: member by member, then the conclusion. The first doubt is
+/// the answer ([`Doubt`] tells their order). A certificate without a doubt is valid, and what it
+/// concludes is the least: no walk costs less, none leads where it says that none does, and no
+/// room suits the party better. Nothing is believed of who made it. At `OutOfMemory` nothing is
+/// said. The time is that of a look-up for each exit of the world and of the walks, and for each
+/// label, member by member.
+pub fn check(alloc: Global, world: &World, cert: &Cert) -> Result<(), Doubt>
+    ensures accepts { IsOk result → first_doubt world.now cert.now ≡ None }
+    ensures refuses { IfErr result (λ doubt. doubt ≢ OutOfMemory → first_doubt world.now cert.now ≡ Some doubt) }
+    ensures valid { IsOk result → IsValid world.now cert.now }
+    ensures optimal { IsOk result → Optimal world.now cert.now }
+{
+    are_kept(world, cert);
+    match first_doubt(alloc, world, cert)? {
+        None => Ok(()),
+        Some(doubt) => Err(doubt),
+    }
+}

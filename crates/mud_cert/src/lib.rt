@@ -1,0 +1,50 @@
+//! Certificates of routes and meetings, and the test of them, which trusts nobody.
+//!
+//! | Call | Answer |
+//! |---|---|
+//! | [`Cert::new`], [`Member::new`] | a certificate, within its limits |
+//! | [`Cert::write`], [`read`] | its one text, and the certificate of a text |
+//! | [`check`] | whether it is valid in a world, or the first doubt of it |
+//! | [`Finding`], [`Status`] | what a checker finds of a history's text and a proof's, and how it ends |
+//!
+//! The guide writes a certificate with each answer; anyone can test it against the world, without
+//! the guide. docs/CERTIFICATES.md tells the rules in plain words.
+//!
+//! ```text
+//! match check(alloc, &world, &cert) {
+//!     Ok(()) => {} // what it concludes is the least
+//!     Err(doubt) => {} // the first doubt, or want of memory
+//! }
+//! ```
+//!
+//! Proved is that `check` accepts exactly the valid certificates but for want of memory, that the
+//! doubt is the first one, and that what a valid certificate concludes is optimal. The laws of the
+//! definitions alone are the contracts of [`laws`].
+#![tactic(auto)]
+
+mod agree;
+mod cert;
+mod doubt;
+mod fault;
+mod finding;
+mod judge;
+pub mod laws;
+mod lines;
+mod look;
+mod numbers;
+mod reading;
+mod stage;
+mod steps;
+#[cfg(test)]
+mod tests_check;
+#[cfg(test)]
+mod tests_text;
+pub mod text_laws;
+mod writing;
+
+pub use cert::{Cert, Conclusion, Form, Meeting, Member};
+pub use doubt::Doubt;
+pub use fault::CertFault;
+pub use finding::{Finding, Status};
+pub use judge::check;
+pub use reading::read;

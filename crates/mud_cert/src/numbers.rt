@@ -1,0 +1,74 @@
+//! Numbers at the front of bytes.
+
+ghost use Rattle.std.specs.Prelude.{◌≡◌, ◌<◌, option_map};
+ghost use Rattle.mud_cert.specs.Reading.{is_digit, small, digits_on, number_at, object_at};
+
+/// Whether the byte is a digit.
+fn is_digit(byte: u8) -> bool
+    ensures { result ≡ is_digit byte }
+{
+    48 <= byte && byte <= 57
+}
+
+/// The number and the rest, where it has at most nine digits.
+fn small(number: u64, rest: &[u8]) -> Option<(u32, &[u8])>
+    ensures { option_map (λ x. (x.0, x.1.now)) result ≡ small (number, rest.now) }
+{
+    if number < 1_000_000_000 {
+        Some((number as u32, rest))
+    } else {
+        None
+    }
+}
+
+/// The number that goes on with the digits at the front, where it has at most nine, and the bytes
+/// behind them.
+fn digits_on(start: u8, bytes: &[u8]) -> Option<(u32, &[u8])>
+    requires { start < 10 }
+    ensures { option_map (λ x. (x.0, x.1.now)) result ≡ small (digits_on start bytes.now) }
+{
+    let mut number = u64::from(start);
+    for (i, digit) in bytes.iter().enumerate() {
+        if !is_digit(*digit) {
+            return small(number, &bytes[i..]);
+        }
+        if number >= 1_000_000_000 {
+            return None;
+        }
+        number = number * 10 + u64::from(*digit - 48);
+    }
+    small(number, &bytes[bytes.len()..])
+}
+
+/// A number of at most nine digits, the first of which is 0 only in 0 itself, and the bytes behind
+/// it.
+#[tactic(auto, unfolding(crate::specs::Reading::number_at))]
+pub fn number_at(bytes: &[u8]) -> Option<(u32, &[u8])>
+    ensures { option_map (λ x. (x.0, x.1.now)) result ≡ number_at bytes.now }
+{
+    match bytes {
+        [] => None,
+        [first, rest @ ..] => {
+            if *first == 48 {
+                Some((0, rest))
+            } else if is_digit(*first) {
+                digits_on(*first - 48, rest)
+            } else {
+                None
+            }
+        }
+    }
+}
+
+/// The number of an object, and the bytes behind it.
+#[tactic(auto, unfolding(crate::specs::Reading::object_at))]
+pub fn object_at(bytes: &[u8]) -> Option<(u32, &[u8])>
+    ensures { option_map (λ x. (x.0, x.1.now)) result ≡ object_at bytes.now }
+{
+    let (number, rest) = number_at(bytes)?;
+    if number <= 8191 {
+        Some((number, rest))
+    } else {
+        None
+    }
+}

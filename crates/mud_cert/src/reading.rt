@@ -1,0 +1,54 @@
+//! The certificate that a text is of.
+
+ghost use Rattle.std.specs.Prelude.{◌≡◌, ◌++◌, ◌∷◌, IfOk, IfErr, IfSome, IfNone};
+ghost use Rattle.mud_cert.specs.Certificate.{IsCertificate};
+ghost use Rattle.mud_cert.specs.Text.{cert_text};
+ghost use Rattle.mud_cert.specs.Faults.{IsLine, IsFault};
+
+use crate::cert::Cert;
+use crate::fault::CertFault;
+use crate::stage::Stage;
+use std::alloc::Global;
+
+/// The first line, without its LF, and the bytes behind it.
+fn first_line(bytes: &[u8]) -> Option<(&[u8], &[u8])>
+    ensures found { IfSome result (λ s. IsLine s.0.now × (bytes.now ≡ s.0.now ++ 10 ∷ s.1.now)) }
+    ensures none { IfNone result (IsLine bytes.now) }
+{
+    for (i, byte) in bytes.iter().enumerate() {
+        if *byte == b'\n' {
+            return Some((&bytes[..i], &bytes[i + 1..]));
+        }
+    }
+    None
+}
+
+/// The certificate that the bytes are the text of, as [`Cert::write`] writes it; each certificate
+/// has one text, and each text is one certificate's at most. Otherwise the line from which on they
+/// are no certificate's. It reads each byte once.
+pub fn read(alloc: Global, bytes: &[u8]) -> Result<Cert, CertFault>
+    ensures found { IfOk result (λ c. IsCertificate c × (bytes.now ≡ cert_text c)) }
+    ensures fault { IfErr result (IsFault bytes.now) }
+{
+    let mut stage = Stage::Nothing;
+    let mut rest = bytes;
+    let mut number = 1;
+    while let Some((line, behind)) = first_line(rest) {
+        let Some(next) = stage.next(alloc, line)? else {
+            return Err(CertFault::BadLine(number));
+        };
+        stage = next;
+        rest = behind;
+        number += 1;
+    }
+    match stage {
+        Stage::Whole(cert) => {
+            if rest.is_empty() {
+                Ok(cert)
+            } else {
+                Err(CertFault::BadLine(number))
+            }
+        }
+        _ => Err(CertFault::BadLine(number)),
+    }
+}

@@ -1,0 +1,183 @@
+//! What the lines of a text say so far, and what one line more says.
+
+ghost use Rattle.std.specs.Prelude.{◌≡◌, ◌++◌, ◌∷◌, [], ◌<◌, IfOk, length};
+ghost use Rattle.mud_cert.specs.Certificate.{IsNumber, IsCertificate, IsAccount, CountsBy};
+ghost use Rattle.mud_cert.specs.Opening.{IsOpening};
+ghost use Rattle.mud_cert.specs.Reading.{member_at, conclusion_at};
+ghost use Rattle.mud_cert.specs.Stages.{IsStage, concluded, suits, conclude, join, next};
+
+use crate::cert::{Cert, Conclusion, Form, Member};
+use crate::lines::{conclusion_of, head_of, labels_of, member_of, says, version_of, walk_of};
+use std::alloc::{AllocError, Global};
+use std::marker::Model;
+
+/// A certificate as far as its members go.
+#[derive(Drop)]
+pub struct Party {
+    form: Form,
+    version: u32,
+    members: Vec<Member>,
+}
+
+impl Model for Party {
+    ghost use Rattle.mud_cert.specs.Opening.{Opening};
+
+    ghost Value = { Opening };
+
+    ghost view = { λ p. record { form = p.form; version = p.version; members = p.members.items } };
+}
+
+/// What the lines so far say.
+#[derive(Drop)]
+pub enum Stage {
+    /// There is no line yet.
+    Nothing,
+    /// The first line.
+    Headed(Form),
+    /// Two lines, and three for each member.
+    Open(Party),
+    /// Then a player and his place.
+    Placed(Party, u32, u32),
+    /// Then his labels, which stand in the member, without his walk.
+    Labelled(Party, Member),
+    /// All lines but the last.
+    Concluded(Cert),
+    /// All lines.
+    Whole(Cert),
+}
+
+/// Whether a conclusion is for so many members.
+fn suits(count: usize, conclusion: Conclusion) -> bool
+    ensures { result ≡ suits count conclusion }
+{
+    match conclusion {
+        Conclusion::Route { .. } => count == 1,
+        Conclusion::Meet(_) => 2 <= count && count <= 8,
+    }
+}
+
+impl Party {
+    /// Behind the line of a conclusion.
+    #[tactic(auto, unfolding(crate::specs::Stages::conclude))]
+    fn conclude(self, line: &[u8]) -> Option<Stage>
+        requires { IsOpening self }
+        ensures { result ≡ conclude self (conclusion_at line.now) }
+    {
+        let conclusion = conclusion_of(line)?;
+        if suits(self.members.len(), conclusion) {
+            Some(Stage::Concluded(Cert::new(self.version, self.form, self.members, conclusion)))
+        } else {
+            None
+        }
+    }
+
+    /// Behind a member's first line, or a conclusion.
+    #[tactic(auto, unfolding(crate::specs::Stages::join))]
+    fn join(self, line: &[u8]) -> Option<Stage>
+        requires { IsOpening self }
+        ensures { result ≡ join self (member_at line.now) line.now }
+    {
+        match member_of(line) {
+            None => self.conclude(line),
+            Some((player, from)) => {
+                if self.members.len() < 8 {
+                    Some(Stage::Placed(self, player, from))
+                } else {
+                    None
+                }
+            }
+        }
+    }
+
+    /// Behind a member's second line.
+    #[tactic(auto, unfolding(crate::specs::Stages::next))]
+    fn label(
+        self,
+        alloc: Global,
+        player: u32,
+        from: u32,
+        line: &[u8],
+    ) -> Result<Option<Stage>, AllocError>
+        requires { IsNumber player × IsNumber from }
+        ensures { IfOk result (λ s. s ≡ next (Stage.Placed self player from) line.now) }
+    {
+        match labels_of(alloc, self.form, line)? {
+            Some(labels) => {
+                let member = Member::new(player, from, labels, None);
+                Ok(Some(Stage::Labelled(self, member)))
+            }
+            None => Ok(None),
+        }
+    }
+
+    /// Behind a member's third line.
+    #[tactic(auto, unfolding(crate::specs::Stages::next))]
+    fn walk(self, alloc: Global, member: Member, line: &[u8]) -> Result<Option<Stage>, AllocError>
+        requires { IsAccount member }
+        ensures { IfOk result (λ s. s ≡ next (Stage.Labelled self member) line.now) }
+    {
+        let Some(walk) = walk_of(alloc, line)? else {
+            return Ok(None);
+        };
+        let mut members = self.members;
+        members.push(Member::new(member.player, member.from, member.labels, walk))?;
+        Ok(Some(Stage::Open(Party {
+            form: self.form,
+            version: self.version,
+            members,
+        })))
+    }
+}
+
+/// Behind the first line.
+#[tactic(auto, unfolding(crate::specs::Stages::next))]
+fn head(line: &[u8]) -> Option<Stage>
+    ensures { result ≡ next Stage.Nothing line.now }
+{
+    let form = head_of(line)?;
+    Some(Stage::Headed(form))
+}
+
+/// Behind the second line.
+#[tactic(auto, unfolding(crate::specs::Stages::next))]
+fn open(alloc: Global, form: Form, line: &[u8]) -> Option<Stage>
+    ensures { result ≡ next (Stage.Headed form) line.now }
+{
+    let version = version_of(line)?;
+    Some(Stage::Open(Party {
+        form,
+        version,
+        members: Vec::new(alloc),
+    }))
+}
+
+/// Behind the last line.
+#[tactic(auto, unfolding(crate::specs::Stages::next))]
+fn end(cert: Cert, line: &[u8]) -> Option<Stage>
+    ensures { result ≡ next (Stage.Concluded cert) line.now }
+{
+    if says(line, b"end") {
+        Some(Stage::Whole(cert))
+    } else {
+        None
+    }
+}
+
+impl Stage {
+    /// What is said with one line more; nothing where no certificate goes on so.
+    #[tactic(auto, unfolding(crate::specs::Stages::next, crate::specs::Stages::IsStage))]
+    pub fn next(self, alloc: Global, line: &[u8]) -> Result<Option<Stage>, AllocError>
+        requires { IsStage self }
+        ensures { IfOk result (λ s. s ≡ next self line.now) }
+    {
+        match self {
+            Stage::Nothing => Ok(head(line)),
+            Stage::Headed(form) => Ok(open(alloc, form, line)),
+            Stage::Open(party) => Ok(party.join(line)),
+            Stage::Placed(party, player, from) => party.label(alloc, player, from, line),
+            Stage::Labelled(party, member) => party.walk(alloc, member, line),
+            Stage::Concluded(cert) => Ok(end(cert, line)),
+            Stage::Whole(_) => Ok(None),
+        }
+    }
+}

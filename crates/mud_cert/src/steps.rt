@@ -1,0 +1,120 @@
+//! Walks that are given as numbers of exits.
+
+ghost use Rattle.std.specs.Prelude.{◌≡◌};
+ghost use Rattle.mud_roads.specs.Open.{IsTraveller};
+ghost use Rattle.mud_roads.specs.Walks.{total};
+ghost use Rattle.mud_cert.specs.Ways.{hop_of, leaves, step_of, steps_of, end_of, broken, locked, arrival_of};
+
+use crate::{Form, Member};
+use mud_roads::{Step, Traveller};
+use mud_world::World;
+
+/// Where a walk ends, what it costs and how many exits count. The sums are wider than the numbers
+/// of a label, so that no walk that fits memory makes them wrap.
+#[derive(Clone, Copy, Debug, PartialEq, Eq, Drop)]
+pub(crate) struct Journey {
+    pub(crate) end: u32,
+    pub(crate) cost: u128,
+    pub(crate) exits: usize,
+}
+
+// What an exit counts in a label.
+pub(crate) fn hop_of(form: Form) -> u32
+    ensures { result ≡ hop_of form }
+{
+    match form {
+        Form::One => 0,
+        Form::Two => 1,
+    }
+}
+
+// Whether the number is an exit's that leaves the room.
+pub(crate) fn leaves(world: &World, room: u32, exit: u32) -> bool
+    ensures { result ≡ leaves world.now room exit }
+{
+    match world.passage(exit) {
+        Some(passage) => passage.source == room,
+        None => false,
+    }
+}
+
+// The step that an exit makes; nothing is meant where the number is no exit's.
+pub(crate) fn step_of(world: &World, exit: u32) -> Step
+    ensures { result ≡ step_of world.now exit }
+{
+    match world.passage(exit) {
+        Some(passage) => Step {
+            exit,
+            to: passage.destination,
+            cost: passage.cost,
+        },
+        None => Step {
+            exit,
+            to: 0,
+            cost: 0,
+        },
+    }
+}
+
+// The place, counted from 1, of the first exit that doesn't leave where the walk stands.
+pub(crate) fn broken(world: &World, from: u32, walk: &[u32]) -> Option<usize>
+    ensures { result ≡ broken world.now from 1 walk.now }
+{
+    let mut at = from;
+    for (i, exit) in walk.iter().enumerate() {
+        if !leaves(world, at, *exit) {
+            return Some(i + 1);
+        }
+        at = step_of(world, *exit).to;
+    }
+    None
+}
+
+// The place, counted from 1, of the first exit that isn't open to the traveller.
+pub(crate) fn locked(world: &World, traveller: &Traveller, walk: &[u32]) -> Option<usize>
+    requires { IsTraveller world.now traveller.now }
+    ensures { result ≡ locked world.now traveller.now.player 1 walk.now }
+{
+    for (i, exit) in walk.iter().enumerate() {
+        if !traveller.passes(world, *exit) {
+            return Some(i + 1);
+        }
+    }
+    None
+}
+
+// Where the walk ends, and its label.
+pub(crate) fn walked(world: &World, form: Form, from: u32, walk: &[u32]) -> Journey
+    ensures end { result.end ≡ end_of from (steps_of world.now walk.now) }
+    ensures cost { result.cost ≡ (total (hop_of form) (steps_of world.now walk.now)).cost }
+    ensures exits { result.exits ≡ (total (hop_of form) (steps_of world.now walk.now)).exits }
+{
+    let hop = hop_of(form) as usize;
+    let mut all = Journey {
+        end: from,
+        cost: 0,
+        exits: 0,
+    };
+    for exit in walk {
+        let step = step_of(world, *exit);
+        all = Journey {
+            end: step.to,
+            cost: all.cost + u128::from(step.cost),
+            exits: all.exits + hop,
+        };
+    }
+    all
+}
+
+// Where the member's walk ends, if one is given, and what it costs.
+pub(crate) fn arrival_of(world: &World, member: &Member) -> Option<(u32, u128)>
+    ensures { result ≡ arrival_of world.now member.now }
+{
+    match member.walk() {
+        Some(walk) => {
+            let journey = walked(world, Form::One, member.from(), walk);
+            Some((journey.end, journey.cost))
+        }
+        None => None,
+    }
+}

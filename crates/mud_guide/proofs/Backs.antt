@@ -1,0 +1,70 @@
+-- The table leads back along the route.
+use Rattle.std.proofs.Common.{◌≡◌, ℕ, ◌<◌, ◌≤◌, inl, inr, List, [], ◌∷◌, ◌++◌, length, get_or, Option, None, Some, refl, sym, ◌∙◌, ap, subst, arith}
+use Rattle.std.specs.Prelude.{Contains, IsSome}
+use Rattle.std.proofs.lemmas.List.{get_or_default}
+use Rattle.std.proofs.lemmas.Bool.{cases_lt, false≢true}
+use Rattle.mud_roads.specs.declared.label.Label.{Label}
+use Rattle.mud_roads.specs.declared.label.Step.{Step}
+use Rattle.mud_roads.specs.Walks.{Roads, after, Least, EndsLeast, RouteBack}
+use Rattle.mud_roads.proofs.Routes.{route-goes-on, least-one}
+use Rattle.mud_guide.specs.declared.arrivals.Arrival.{Arrival}
+use Rattle.mud_guide.specs.Arrivals.{Ends, AreLast, Labelled}
+use Rattle.mud_guide.proofs.Lowest.{contains-none}
+
+-- the exits of a label
+abbrev pub exits_at : Option Label → ℕ
+exits_at None = 0
+exits_at (Some l) = l.exits
+
+module _ (roads : Roads) (from next : ℕ) (labels : ℕ → Option Label) (least : Labelled roads from labels) (past : (room : ℕ) → next ≤ room → roads room ≡ [])
+    (table : List (Option Arrival)) (last : AreLast roads labels next table) where
+  ends-least : (to by : ℕ) (s : Step) → Ends roads labels to by s → EndsLeast 1 roads from to by s
+  ends-least to by s d =
+      let P : ℕ → Option Label → Type 0 = λ r o. Least 1 roads from r o in
+      record { step = d.step; leads = d.leads; least = (d.before, subst (P by) d.comes (least by), subst (P to) d.is (least to)) }
+
+  least-ends : (to by : ℕ) (s : Step) → EndsLeast 1 roads from to by s → Ends roads labels to by s
+  least-ends to by s d = record {
+    step = d.step;
+    leads = d.leads;
+    before = d.least.0;
+    comes = least-one 1 roads from by (labels by) d.least.0 (least by) d.least.1;
+    is = least-one 1 roads from to (labels to) (after 1 d.least.0 s) (least to) d.least.2;
+  }
+
+  by-within : (to by : ℕ) (s : Step) → EndsLeast 1 roads from to by s → by < next
+  by-within to by s d =
+      let P : List Step → Type 0 = λ ss. Contains ss s in
+      elim (cases_lt by next) [
+        | inl inside ↦ inside
+        | inr beyond ↦ absurd (contains-none s (subst P (past by beyond) d.step))
+      ]
+
+  -- a step of the table goes on with the route
+  pub back-step : (to at : ℕ) (a : Arrival) → get_or table at None ≡ Some a → (front rest : List Step)
+      → ((more : List Step) → RouteBack 1 roads from at more → RouteBack 1 roads from to (front ++ more))
+      → RouteBack 1 roads from a.by rest → RouteBack 1 roads from to (front ++ a.step ∷ rest)
+  back-step to at a e front rest goes back =
+      goes (a.step ∷ rest) (a.by, ends-least at a.by a.step (last.ends at a e), (λ by s d. last.lowest at a e by s (by-within at by s d) (least-ends at by s d)), back)
+
+  -- where it has none the route begins
+  pub back-none : (at : ℕ) (l : Label) → at < next → labels at ≡ Some l → get_or table at None ≡ None → from ≡ at
+  back-none at l inside is e =
+      let P : Option Label → Type 0 = λ o. Least 1 roads from at o in
+      elim (route-goes-on roads from (λ room. (labels room, least room)) at l (subst P is (least at))) [
+        | inl same ↦ same
+        | inr more ↦ absurd (last.none at inside e more.by more.step (by-within at more.by more.step more.ends) (least-ends at more.by more.step more.ends))
+      ]
+
+  -- each step back has an exit less
+  pub back-less : (at : ℕ) (a : Arrival) → get_or table at None ≡ Some a → exits_at (labels a.by) < exits_at (labels at)
+  back-less at a e =
+      let d = last.ends at a e in
+      omega (arith, ap exits_at d.comes, ap exits_at d.is)
+
+pub read-at : {X : Type 0} (xs : List X) (i : ℕ) (x d : X) → i < length xs → x ≡ get_or xs i x → get_or xs i d ≡ x
+read-at xs i x d h e = get_or_default xs i d x h ∙ sym e
+
+pub reached-at : (o : Option Label) → IsSome o → (k : Label) × (o ≡ Some k)
+reached-at None h = absurd (false≢true h)
+reached-at (Some k) h = (k, refl)

@@ -1,0 +1,9 @@
+mod Lowest
+mod Backs
+mod Totals
+mod Gather
+mod Entries
+mod Shown
+mod Party
+mod Replies
+mod Single

@@ -1,0 +1,52 @@
+use Rattle.std.proofs.Common.{ℕ, List, [], ◌∷◌, Option, Some, refl, sym, ◌∙◌, ap, subst}
+use Rattle.std.specs.Prelude.{All, IfSome}
+use Rattle.mud_cert.specs.Certificate.{IsAmount}
+use Rattle.mud_cert.specs.declared.cert.Conclusion.{Conclusion}
+use Rattle.mud_cert.specs.declared.cert.Conclusion.TheVariants.{Route}
+use Rattle.mud_guide.specs.declared.journey.Journey.{Journey}
+use Rattle.mud_guide.specs.Accounts.{IsInside, AreListed}
+use Rattle.mud_guide.proofs.Shown.{journey-inside}
+use Rattle.mud_guide.proofs.Replies.{number-is, cost-limits, all-one, route-answer}
+use Rattle.mud_guide.proofs.answer.route_by.Goals as goal
+
+pub journey_to-requires-clause-least : goal.journey_to-requires-clause-least
+journey_to-requires-clause-least c room = c.requires.least 0 room c.args.traveller.now refl
+
+pub certify-requires-clause-inside : goal.certify-requires-clause-inside
+certify-requires-clause-inside c =
+    let w = c.args.world.now in
+    let sound = c.next_number-next.ensures.sound in
+    let j = c.in_ok-journey.journey in
+    let N : ℕ → Type 0 = λ n. All (IsInside n) c.from_ref.result.now in
+    let P : List Journey → Type 0 = λ js. All (IsInside w.next) js in
+    subst N (sym c.next_number-next.ensures.next)
+    (subst P (sym c.from_ref.ensures.value)
+    (all-one (IsInside w.next) j (journey-inside w sound c.args.traveller.now.player c.requires.traveller.player (Some c.args.room) j c.in_ok-journey.ensures)))
+
+pub certify-requires-clause-conclusion : goal.certify-requires-clause-conclusion
+certify-requires-clause-conclusion c =
+    let w = c.args.world.now in
+    let P : Option ℕ → Type 0 = λ o. IfSome o IsAmount in (
+      c.from_ref.ensures.len,
+      number-is w c.next_number-next.ensures.sound c.args.room c.requires.room,
+      subst P (sym c.cost_of.ensures) (cost-limits w c.args.traveller.now c.in_ok-journey.journey c.args.room c.args.labels.now c.requires.traveller c.in_ok-journey.ensures c.requires.least c.requires.bounded),
+    )
+
+pub returns : goal.returns
+returns c =
+    let w = c.args.world.now in
+    let j = c.in_ok-journey.journey in
+    let cert = c.in_ok-cert.cert in
+    let made = c.in_ok-cert.ensures in
+    let N : ℕ → Type 0 = λ n. AreListed c.args.labels.now n (j ∷ []) cert.members in
+    let J : List Journey → Type 0 = λ xs. AreListed c.args.labels.now c.next_number-next.result xs cert.members in
+    let says : Option ℕ → Conclusion = λ o. Route c.args.room o in
+    route-answer w c.next_number-next.ensures.sound c.args.version c.args.traveller.now c.args.labels.now c.args.room j cert _
+    c.requires.traveller c.requires.least c.requires.room c.in_ok-journey.ensures
+    (record {
+      version = made.version;
+      form = made.form;
+      members = subst N c.next_number-next.ensures.next (subst J c.from_ref.ensures.value made.members);
+      conclusion = made.conclusion ∙ ap says c.cost_of.ensures;
+    })
+    refl c.in_ok-text.ensures refl

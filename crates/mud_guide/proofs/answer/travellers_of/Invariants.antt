@@ -1,0 +1,10 @@
+use Rattle.std.proofs.Common.{◌≡◌, take, map}
+use Rattle.std.specs.Prelude.{All}
+use Rattle.mud_roads.specs.Open.{IsTraveller}
+use Rattle.mud_guide.proofs.answer.travellers_of.Given as goal
+
+abbrev pub invariant-loop-player : goal.invariant-loop-player
+invariant-loop-player l = record {
+  travellers : All (IsTraveller l.world) l.travellers.items;
+  players : map (λ t. t.player) l.travellers.items ≡ take l.player-index l.party;
+}

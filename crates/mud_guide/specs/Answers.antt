@@ -1,0 +1,45 @@
+-- The guide's answers.
+use Rattle.std.specs.Prelude.{◌≡◌, ℕ, List, [], ◌∷◌, Option, Some, string_bytes}
+use Rattle.std.specs.List.{AllZip}
+use Rattle.std.specs.Option.{option_map, IsSomeAnd}
+use Rattle.mud_world.specs.State.{State}
+use Rattle.mud_cert.specs.Certificate.{Certificate}
+use Rattle.mud_cert.specs.Valid.{IsValid}
+use Rattle.mud_cert.specs.declared.cert.Form.TheVariants.{Two}
+use Rattle.mud_cert.specs.declared.cert.Meeting.{Meeting}
+use Rattle.mud_cert.specs.declared.cert.Conclusion.{Conclusion}
+use Rattle.mud_cert.specs.declared.cert.Conclusion.TheVariants.{Route, Meet}
+use Rattle.mud_guide.specs.declared.answer.Answer.{Answer}
+use Rattle.mud_guide.specs.declared.journey.Journey.{Journey}
+use Rattle.mud_guide.specs.Ways.{cost_of}
+use Rattle.mud_guide.specs.Journeys.{IsJourney, goers_of}
+use Rattle.mud_guide.specs.Accounts.{IsAccountOf}
+use Rattle.mud_guide.specs.Meetings.{IsPlace}
+use Rattle.mud_guide.specs.Texts.{route_text, meet_text}
+
+-- the certificate of these journeys: its labels count costs and exits, it has an account of each, and concludes this
+pub record IsCertOf (w : State) (v : ℕ) (js : List Journey) (says : Conclusion) (c : Certificate) : Type 0 where
+  pub version : c.version ≡ v
+  pub form : c.form ≡ Two
+  pub members : AllZip (IsAccountOf w) js c.members
+  pub conclusion : c.conclusion ≡ says
+
+-- the text tells the player's journey to the room, and a valid certificate shows it to be best
+pub record IsRouteAnswer (w : State) (v p to : ℕ) (a : Answer) : Type 0 where
+  pub journey : Journey
+  pub goes : IsJourney w (Some to) p journey
+  pub version : a.version ≡ v
+  pub text : string_bytes a.text ≡ route_text to journey
+  pub cert : IsSomeAnd a.cert (IsCertOf w v (journey ∷ []) (Route to (option_map cost_of journey.way)))
+  pub valid : IsSomeAnd a.cert (IsValid w)
+
+-- the text tells where the party meets and each member's journey there, and a valid certificate shows it to be best
+pub record IsMeetAnswer (w : State) (v : ℕ) (party : List ℕ) (a : Answer) : Type 0 where
+  pub place : Option Meeting
+  pub journeys : List Journey
+  pub go : AllZip (IsJourney w (option_map (λ m. m.room) place)) party journeys
+  pub meet : IsPlace (goers_of w journeys) place
+  pub version : a.version ≡ v
+  pub text : string_bytes a.text ≡ meet_text place journeys
+  pub cert : IsSomeAnd a.cert (IsCertOf w v journeys (Meet place))
+  pub valid : IsSomeAnd a.cert (IsValid w)

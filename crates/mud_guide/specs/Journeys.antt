@@ -1,0 +1,17 @@
+-- Who goes which way.
+use Rattle.std.specs.Prelude.{◌≡◌, ℕ, List, map, Option, Some}
+use Rattle.mud_world.specs.State.{State, place_of}
+use Rattle.mud_roads.specs.Walks.{Goer}
+use Rattle.mud_roads.specs.Open.{roads_of}
+use Rattle.mud_guide.specs.declared.journey.Journey.{Journey}
+use Rattle.mud_guide.specs.Ways.{IsWayTo}
+
+-- the journey of player p: from his place, by his way to the room
+pub record IsJourney (w : State) (to : Option ℕ) (p : ℕ) (j : Journey) : Type 0 where
+  pub player : j.player ≡ p
+  pub from : place_of w p ≡ Some j.from
+  pub way : IsWayTo (roads_of w p) j.from to j.way
+
+-- those who go on these journeys
+abbrev pub goers_of : State → List Journey → List Goer
+goers_of w journeys = map (λ j. (roads_of w j.player, j.from)) journeys

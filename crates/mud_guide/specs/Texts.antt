@@ -1,0 +1,42 @@
+-- What the guide says; a line ends at the byte 10.
+use Rattle.std.specs.Prelude.{ℕ, List, [], ◌∷◌, ◌++◌, Option, None, Some, codes, decimal}
+use Rattle.std.specs.List.{flat_map}
+use Rattle.mud_roads.specs.declared.label.Step.{Step}
+use Rattle.mud_cert.specs.declared.cert.Meeting.{Meeting}
+use Rattle.mud_guide.specs.declared.journey.Journey.{Journey}
+use Rattle.mud_guide.specs.Ways.{cost_of}
+
+-- `#` and the number
+abbrev pub object : ℕ → List ℕ
+object n = codes "#" ++ decimal n
+
+-- a walk by its exits: `by #3 #5`, or `by nothing`
+abbrev pub walk_text : List Step → List ℕ
+walk_text [] = codes "by nothing"
+walk_text (s ∷ ss) = codes "by" ++ flat_map (λ x. codes " " ++ object x.exit) (s ∷ ss)
+
+-- ` cost 7 by #5 #6`
+abbrev pub cost_text : List Step → List ℕ
+cost_text steps = codes " cost " ++ (decimal (cost_of steps) ++ (codes " " ++ walk_text steps))
+
+-- ` cost 7 by #5 #6`, or ` no way`
+abbrev pub way_text : Option (List Step) → List ℕ
+way_text None = codes " no way"
+way_text (Some steps) = cost_text steps
+
+-- `route #0 to #2 cost 7 by #5 #6`, or `route #0 to #2 no way`
+abbrev pub route_text : ℕ → Journey → List ℕ
+route_text to j = codes "route " ++ (object j.from ++ (codes " to " ++ (object to ++ way_text j.way)))
+
+-- a line of its own for each member: `  #1 from #0 cost 3 by #5`
+abbrev pub member_text : Journey → List ℕ
+member_text j = 10 ∷ codes "  " ++ object j.player ++ codes " from " ++ object j.from ++ way_text j.way
+
+-- ` at #0 cost 3` and the lines of the members, or ` no meeting`
+abbrev pub place_text : Option Meeting → List Journey → List ℕ
+place_text None journeys = codes " no meeting"
+place_text (Some p) journeys = codes " at " ++ (object p.room ++ (codes " cost " ++ (decimal p.cost ++ flat_map member_text journeys)))
+
+-- `meet #1 #2 at #0 cost 3` and the lines of the members, or `meet #1 #2 no meeting`
+abbrev pub meet_text : Option Meeting → List Journey → List ℕ
+meet_text place journeys = codes "meet" ++ (flat_map (λ j. codes " " ++ object j.player) journeys ++ place_text place journeys)

@@ -1,0 +1,65 @@
+//! Where a party meets.
+
+ghost use Rattle.std.specs.Prelude.{◌≡◌, ◌<◌, ℕ, All, IfSome, IfNone, IsTrue, length, map};
+ghost use Rattle.mud_world.specs.State.{is_room};
+ghost use Rattle.mud_roads.specs.Open.{IsTraveller, goer};
+ghost use Rattle.mud_search.specs.Least.{label_in, AreLeast};
+ghost use Rattle.mud_guide.specs.Meetings.{IsGreatest, IsBest, NoneGather, lesser, IsPlace};
+
+use mud_cert::Meeting;
+use mud_roads::Traveller;
+use mud_search::Labels;
+use mud_world::World;
+
+// The greatest cost of the members at a room, if all reach it.
+fn greatest(labels: &Labels, members: usize, room: u32) -> Option<u32>
+    ensures some { IfSome result (λ cost. IsGreatest (λ m. label_in labels.now m room) members cost) }
+    ensures none { IfNone result ((cost : ℕ) → IsGreatest (λ m. label_in labels.now m room) members cost → ⊥) }
+{
+    let mut cost = 0;
+    for member in 0..members {
+        let Some(label) = labels.get(member, room) else {
+            return None;
+        };
+        if label.cost > cost {
+            cost = label.cost;
+        }
+    }
+    Some(cost)
+}
+
+// Of the rooms that all members reach the one of least greatest cost, then of lowest number.
+fn best(labels: &Labels, members: usize, next: u32) -> Option<Meeting>
+    ensures some { IfSome result (IsBest labels.now members next) }
+    ensures none { IfNone result (NoneGather labels.now members next) }
+{
+    let mut best: Option<Meeting> = None;
+    for room in 0..next {
+        if let Some(cost) = greatest(labels, members, room) {
+            best = lesser(best, room, cost);
+        }
+    }
+    best
+}
+
+// The place of lesser cost, the earlier where they are alike.
+fn lesser(best: Option<Meeting>, room: u32, cost: u32) -> Option<Meeting>
+    ensures { result ≡ lesser best room cost }
+{
+    match best {
+        Some(place) if place.cost <= cost => best,
+        _ => Some(Meeting { room, cost }),
+    }
+}
+
+/// The room where a party meets, from the least labels of its members.
+pub(crate) fn meeting_place(world: &World, party: &[Traveller], labels: &Labels) -> Option<Meeting>
+    requires travellers { All (IsTraveller world.now) party.now }
+    requires some { 0 < length party.now }
+    requires least { AreLeast world.now party.now labels.now }
+    ensures place { IsPlace (map (goer world.now) party.now) result }
+    ensures room { IfSome result (λ p. IsTrue (is_room world.now p.room)) }
+    ensures greatest { IfSome result (λ p. IsGreatest (λ m. label_in labels.now m p.room) (length party.now) p.cost) }
+{
+    best(labels, party.len(), world.next_number())
+}

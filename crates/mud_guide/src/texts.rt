@@ -1,0 +1,142 @@
+//! What the guide says.
+
+ghost use Rattle.std.specs.Prelude.{◌≡◌, ◌++◌, OnOk, IfOk, Some, string_bytes, codes};
+ghost use Rattle.std.specs.List.{flat_map};
+ghost use Rattle.mud_guide.specs.Texts.{object, walk_text, cost_text, way_text, member_text, place_text, route_text, meet_text};
+
+use crate::journey::Journey;
+use crate::way::Way;
+use mud_cert::Meeting;
+use mud_roads::Step;
+use std::alloc::{AllocError, Global};
+
+// Writes an object, with what stands before it.
+fn push_object(
+    alloc: Global,
+    text: &mut String,
+    before: &str,
+    number: u32,
+) -> Result<(), AllocError>
+    ensures { OnOk result (string_bytes text.new ≡ string_bytes text.old ++ (before.now ++ object number)) }
+{
+    let object = format!(in alloc; "#{number}")?;
+    text.push_str(before)?;
+    text.push_str(object.as_str())
+}
+
+// Writes the exits of a walk.
+fn push_exits(alloc: Global, text: &mut String, steps: &[Step]) -> Result<(), AllocError>
+    ensures { OnOk result (string_bytes text.new ≡ string_bytes text.old ++ flat_map (λ x. codes " " ++ object x.exit) steps.now) }
+{
+    for step in steps {
+        push_object(alloc, text, " ", step.exit)?;
+    }
+    Ok(())
+}
+
+// Writes a walk by its exits.
+fn push_walk(alloc: Global, text: &mut String, steps: &[Step]) -> Result<(), AllocError>
+    ensures { OnOk result (string_bytes text.new ≡ string_bytes text.old ++ walk_text steps.now) }
+{
+    if steps.is_empty() {
+        text.push_str("by nothing")
+    } else {
+        text.push_str("by")?;
+        push_exits(alloc, text, steps)
+    }
+}
+
+// Writes the cost of a walk, and the walk.
+fn push_cost(alloc: Global, text: &mut String, way: &Way) -> Result<(), AllocError>
+    ensures { OnOk result (string_bytes text.new ≡ string_bytes text.old ++ cost_text way.now) }
+{
+    let cost = way.cost();
+    let number = format!(in alloc; " cost {cost} ")?;
+    text.push_str(number.as_str())?;
+    push_walk(alloc, text, way.steps())
+}
+
+// Writes a way, or that there is none.
+fn push_way(alloc: Global, text: &mut String, way: &Option<Way>) -> Result<(), AllocError>
+    ensures { OnOk result (string_bytes text.new ≡ string_bytes text.old ++ way_text way.now) }
+{
+    match way {
+        Some(way) => push_cost(alloc, text, way),
+        None => text.push_str(" no way"),
+    }
+}
+
+/// What the guide says of a route to a room: `route #0 to #2 cost 7 by #5 #6`, or `route #0 to #2
+/// no way`.
+pub(crate) fn route_text(alloc: Global, to: u32, journey: &Journey) -> Result<String, AllocError>
+    ensures { IfOk result (λ text. string_bytes text ≡ route_text to journey.now) }
+{
+    let mut text = String::new(alloc);
+    push_object(alloc, &mut text, "route ", journey.from)?;
+    push_object(alloc, &mut text, " to ", to)?;
+    push_way(alloc, &mut text, &journey.way)?;
+    Ok(text)
+}
+
+// Writes the players of a party.
+fn push_players(alloc: Global, text: &mut String, journeys: &[Journey]) -> Result<(), AllocError>
+    ensures { OnOk result (string_bytes text.new ≡ string_bytes text.old ++ flat_map (λ j. codes " " ++ object j.player) journeys.now) }
+{
+    for journey in journeys {
+        push_object(alloc, text, " ", journey.player)?;
+    }
+    Ok(())
+}
+
+// Writes the line of a member.
+fn push_member(alloc: Global, text: &mut String, journey: &Journey) -> Result<(), AllocError>
+    ensures { OnOk result (string_bytes text.new ≡ string_bytes text.old ++ member_text journey.now) }
+{
+    push_object(alloc, text, "\n  ", journey.player)?;
+    push_object(alloc, text, " from ", journey.from)?;
+    push_way(alloc, text, &journey.way)
+}
+
+// Writes a line for each member.
+fn push_members(alloc: Global, text: &mut String, journeys: &[Journey]) -> Result<(), AllocError>
+    ensures { OnOk result (string_bytes text.new ≡ string_bytes text.old ++ flat_map member_text journeys.now) }
+{
+    for journey in journeys {
+        push_member(alloc, text, journey)?;
+    }
+    Ok(())
+}
+
+// Writes a place and its cost, and a line for each member.
+fn push_place(
+    alloc: Global,
+    text: &mut String,
+    place: Meeting,
+    journeys: &[Journey],
+) -> Result<(), AllocError>
+    ensures { OnOk result (string_bytes text.new ≡ string_bytes text.old ++ place_text (Some place) journeys.now) }
+{
+    let cost = place.cost;
+    let number = format!(in alloc; " cost {cost}")?;
+    push_object(alloc, text, " at ", place.room)?;
+    text.push_str(number.as_str())?;
+    push_members(alloc, text, journeys)
+}
+
+/// What the guide says of a meeting: `meet #1 #6 at #0 cost 3` and a line for each member, or `meet
+/// #1 #6 no meeting`.
+pub(crate) fn meet_text(
+    alloc: Global,
+    place: Option<Meeting>,
+    journeys: &[Journey],
+) -> Result<String, AllocError>
+    ensures { IfOk result (λ text. string_bytes text ≡ meet_text place journeys.now) }
+{
+    let mut text = String::from_str(alloc, "meet")?;
+    push_players(alloc, &mut text, journeys)?;
+    match place {
+        Some(place) => push_place(alloc, &mut text, place, journeys)?,
+        None => text.push_str(" no meeting")?,
+    }
+    Ok(text)
+}

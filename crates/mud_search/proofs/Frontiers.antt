@@ -1,0 +1,277 @@
+-- The facts of a frontier last.
+use Rattle.std.proofs.Common.{◌≡◌, ◌≢◌, ℕ, ◌+◌, ◌^◌, ◌<◌, ◌≤◌, ◌⊎◌, inl, inr, Bool, true, false, List, [], length, map, get_or, set, replicate, Option, None, Some, refl, sym, ◌∙◌, ap, subst, arith, get_or-set_same, get_or-set_other, length-set}
+use Rattle.std.specs.Bool.{OnTrue, OnFalse}
+use Rattle.std.proofs.Math.ListN.{get_or-map}
+use Rattle.std.proofs.lemmas.List.Sums.{get_or-le-sum_by}
+use Rattle.std.specs.Prelude.{Contains, sum_by, count_by, All, slice_get}
+use Rattle.std.proofs.lemmas.Bool.{cases_eq, cases_lt}
+use Rattle.std.proofs.lemmas.List.{get_or_past, get_or-replicate, length-replicate, length-map}
+use Rattle.std.proofs.lemmas.List.Elements.{Contains-get_or, All-get_or}
+use Rattle.std.proofs.lemmas.Option.{slice_get_within, get_or_from_slice_get, slice_get-get_or, slice_get-map}
+use Rattle.std.specs.Option.{option_map}
+use Rattle.mud_roads.specs.declared.label.Label.{Label}
+use Rattle.mud_roads.specs.declared.label.Step.{Step}
+use Rattle.mud_roads.specs.Walks.{AtMost, after, Least}
+use Rattle.mud_roads.specs.Labels.{start_label, Reaches}
+use Rattle.mud_world.specs.State.{State}
+use Rattle.mud_roads.specs.Open.{Knowledge, IsTraveller, roads_of}
+use Rattle.mud_world.specs.Sound.{IsSound}
+use Rattle.mud_search.proofs.Inside.{world-within, place-within}
+use Rattle.mud_search.specs.declared.slot.Slot.{Slot}
+use Rattle.mud_search.specs.declared.slot.Slot.TheVariants.{Unknown, Open, Held, Finished}
+use Rattle.mud_search.specs.Slots.{slot_at, label_at, label_of, settled, is_open, is_held, offers}
+use Rattle.mud_search.specs.Facts.{IsFaithful}
+use Rattle.mud_search.specs.Boards.{IsFrontier, board_of, slot_of, with_slot, begun_at, begun, potential, weight, labels_of, IsDone}
+use Rattle.mud_search.specs.Least.{AreLeast, AreBounded, label_in}
+use Rattle.mud_search.proofs.Trails.{Falls}
+use Rattle.mud_search.proofs.Faithful.{faithful-relabelled, faithful-settled, label-bound, rest-least, IsStill, still-from_rest, follows-offers, falls-set, some-inj, offers-slot}
+use Rattle.mud_search.proofs.Firsts.{open-member}
+use Rattle.mud_search.proofs.Potential.{weight-settled_left, potential-set_less}
+
+member-of : (ts : List Knowledge) (m : ℕ) → m < length ts → (t : Knowledge) × (slice_get ts m ≡ Some t)
+member-of ts m h = (get_or ts m (record { player = 0; place = 0; opened = [] }), slice_get-get_or ts m (record { player = 0; place = 0; opened = [] }) h)
+
+-- one member's slots may change to sound ones
+pub frontier-set : (w : State) (ts : List Knowledge) (boards : List (List Slot)) → IsFrontier w ts boards
+    → (m : ℕ) (b : List Slot) → m < length boards
+    → ((t : Knowledge) → slice_get ts m ≡ Some t → IsFaithful (roads_of w t.player) t.place w.next b)
+    → IsFrontier w ts (set boards m b)
+frontier-set w ts boards f m b h sound = record {
+  sound = f.sound;
+  count = length-set boards m b ∙ f.count;
+  few = f.few;
+  faithful = λ n t is.
+      elim (cases_eq n m) [
+        | inl same ↦
+            let P : List Slot → Type 0 = λ x. IsFaithful (roads_of w t.player) t.place w.next x in
+            let e : board_of (set boards m b) n ≡ b = ap (λ (k : ℕ). get_or (set boards m b) k []) same ∙ get_or-set_same boards m b [] h in
+            subst P (sym e) (sound t (ap (slice_get ts) (sym same) ∙ is))
+        | inr other ↦
+            let P : List Slot → Type 0 = λ x. IsFaithful (roads_of w t.player) t.place w.next x in
+            subst P (sym (get_or-set_other boards m n b [] other)) (f.faithful n t is)
+      ];
+}
+
+-- a labelled room is one of the rooms
+labelled-within : (slots : List Slot) (room : ℕ) (l : Label) → label_at slots room ≡ Some l → room < length slots
+labelled-within slots room l e =
+    elim (cases_lt room (length slots)) [
+      | inl h ↦ h
+      | inr h ↦
+          let none : label_at slots room ≡ None = ap label_of (get_or_past slots room Unknown h) in
+          let bad : Some l ≡ None = sym e ∙ none in
+          absurd (cc)
+    ]
+
+-- a room may change hands
+pub frontier-relabelled : (w : State) (ts : List Knowledge) (boards : List (List Slot)) → IsFrontier w ts boards
+    → (m room : ℕ) (v : Slot) (l : Label) → m < length boards → label_at (board_of boards m) room ≡ Some l → label_of v ≡ Some l → ((k : Label) → v ≢ Finished k)
+    → IsFrontier w ts (with_slot boards m room v)
+frontier-relabelled w ts boards f m room v l h was is not_done =
+    frontier-set w ts boards f m (set (board_of boards m) room v) h (λ t e.
+    let sound = f.faithful m t e in
+    let within : room < w.next = omega (arith, sound.whole, labelled-within (board_of boards m) room l was) in
+    faithful-relabelled (roads_of w t.player) t.place w.next (board_of boards m) sound room v l within was is (λ s d c. absurd (not_done l d)))
+
+-- at first the place alone is labelled
+pub begun-faithful : (w : State) (t : Knowledge) → t.place < w.next → IsFaithful (roads_of w t.player) t.place w.next (begun_at w.next t)
+begun-faithful w t h =
+    let slots : List Slot = begun_at w.next t in
+    let blank : List Slot = replicate w.next Unknown in
+    let within : t.place < length blank = rw length-replicate h in
+    let first : slot_at slots t.place ≡ Open start_label = get_or-set_same blank t.place (Open start_label) Unknown within in
+    let unknown : (room : ℕ) → room ≢ t.place → slot_at slots room ≡ Unknown = λ room other.
+    get_or-set_other blank t.place room (Open start_label) Unknown other ∙ blank-at w.next room in
+    record {
+      whole = length-set blank t.place (Open start_label) ∙ length-replicate w.next Unknown;
+      walked = λ room l e.
+          elim (cases_eq room t.place) [
+            | inl same ↦
+                let label : Some start_label ≡ Some l = sym (ap label_of first) ∙ ap (label_at slots) (sym same) ∙ e in
+                ([], sym same, some-inj start_label l label)
+            | inr other ↦
+                let bad : None ≡ Some l = sym (ap label_of (unknown room other)) ∙ e in
+                absurd (cc)
+          ];
+      start = ap label_of first;
+      finished = λ room l s e c.
+          elim (cases_eq room t.place) [
+            | inl same ↦
+                let bad : Open start_label ≡ Finished l = sym first ∙ ap (slot_at slots) (sym same) ∙ e in
+                absurd (cc)
+            | inr other ↦
+                let bad : Unknown ≡ Finished l = sym (unknown room other) ∙ e in
+                absurd (cc)
+          ];
+    }
+  where
+    some-inj : (a b : Label) → Some a ≡ Some b → a ≡ b
+    some-inj a b e = cc
+
+    blank-at : (n room : ℕ) → slot_at (replicate n Unknown) room ≡ Unknown
+    blank-at n room =
+        elim (cases_lt room n) [
+          | inl inside ↦ get_or-replicate n room Unknown Unknown inside
+          | inr past ↦ get_or_past (replicate n Unknown) room Unknown (rw length-replicate past)
+        ]
+
+-- what a settled room needs, and what it leaves
+module _ (w : State) (ts : List Knowledge) (boards : List (List Slot)) (f : IsFrontier w ts boards) (m room : ℕ) (h : m < length boards) (steps : List Step)
+    (are : (t : Knowledge) → slice_get ts m ≡ Some t → steps ≡ roads_of w t.player room) where
+  within-ts : m < length ts
+  within-ts = omega (arith, f.count)
+
+  abbrev who : Knowledge
+  who = get_or ts m (record { player = 0; place = 0; opened = [] })
+
+  is-who : slice_get ts m ≡ Some who
+  is-who = slice_get-get_or ts m (record { player = 0; place = 0; opened = [] }) within-ts
+
+  pub put-bound : (l : Label) → label_at (board_of boards m) room ≡ Some l → (l.cost + 10000 < 2 ^ 32) × (l.exits + 1 < 2 ^ 32)
+  put-bound l e =
+      let bound = label-bound (roads_of w who.player) who.place w.next (board_of boards m) (f.faithful m who is-who) (world-within w who f.sound) room l e in
+      let few : w.next ≤ 8192 = f.sound.limit in
+      (omega (arith, bound.0, bound.1), omega (arith, bound.0))
+
+  pub put-steps : All (λ s. (s.to < length (board_of boards m)) × (s.cost ≤ 10000)) steps
+  put-steps =
+      let P : List Step → Type 0 = λ ss. All (λ s. (s.to < length (board_of boards m)) × (s.cost ≤ 10000)) ss in
+      let Q : ℕ → Type 0 = λ n. All (λ s. (s.to < n) × (s.cost ≤ 10000)) (roads_of w who.player room) in
+      let R : Step → Type 0 = λ s. (s.to < w.next) × (s.cost ≤ 10000) in
+      let all : All R (roads_of w who.player room) = λ k d lt. world-within w who f.sound room (get_or (roads_of w who.player room) k d) (Contains-get_or (roads_of w who.player room) k d lt) in
+      subst P (sym (are who is-who)) (subst Q (sym (f.faithful m who is-who).whole) all)
+
+  pub put-kept : (l : Label) → label_at (board_of boards m) room ≡ Some l → IsFrontier w ts (set boards m (settled room l steps (board_of boards m)))
+  put-kept l e =
+      frontier-set w ts boards f m (settled room l steps (board_of boards m)) h (λ t is.
+      let sound = f.faithful m t is in
+      let within : room < w.next = omega (arith, sound.whole, labelled-within (board_of boards m) room l e) in
+      faithful-settled (roads_of w t.player) t.place w.next (world-within w t f.sound) room l steps (are t is) (board_of boards m) sound e within)
+
+  pub put-lighter : (l : Label) → (slot_of boards m room ≡ Open l) ⊎ (slot_of boards m room ≡ Held l)
+      → potential (set boards m (settled room l steps (board_of boards m))) < potential boards
+  put-lighter l left =
+      let sound = f.faithful m who is-who in
+      let was : label_at (board_of boards m) room ≡ Some l = elim left [ inl e ↦ ap label_of e | inr e ↦ ap label_of e ] in
+      let heavy : weight (Finished l) < weight (slot_of boards m room) =
+      elim left [ inl e ↦ omega (arith, ap weight e) | inr e ↦ omega (arith, ap weight e) ] in
+      let within : room < w.next = omega (arith, sound.whole, labelled-within (board_of boards m) room l was) in
+      potential-set_less boards m (settled room l steps (board_of boards m)) h
+      (weight-settled_left (roads_of w who.player) who.place w.next (world-within w who f.sound) f.sound.limit room l steps (are who is-who) (board_of boards m) sound was heavy within)
+
+  pub put-done : (l : Label) → label_at (board_of boards m) room ≡ Some l
+      → IsDone boards (set boards m (settled room l steps (board_of boards m))) (record { member = m; room = room; label = l }) steps
+  put-done l was =
+      let sound = f.faithful m who is-who in
+      let slots = board_of boards m in
+      let inside = world-within w who f.sound in
+      let P : Step → List Step → Type 0 = λ s ss. Contains ss s in
+      let those : (s : Step) → Contains steps s → Contains (roads_of w who.player room) s = λ s c. subst (P s) (are who is-who) c in
+      let all = follows-offers (roads_of w who.player) who.place w.next inside room l steps those slots sound was in
+      let within : room < length (offers l steps slots) = omega (arith, sound.whole, all.0.sound.whole, labelled-within slots room l was) in
+      let here : board_of (set boards m (settled room l steps slots)) m ≡ settled room l steps slots = get_or-set_same boards m (settled room l steps slots) [] h in
+      let down : Falls (label_at (offers l steps slots)) (label_at (settled room l steps slots)) =
+      falls-set (offers l steps slots) room (Finished l) l within refl (λ a r.
+      let Q : Label → Type 0 = λ j. AtMost j a in
+      subst Q (some-inj r.0 l (sym r.1 ∙ all.0.still)) r.2) in
+      let at : (r : ℕ) → slot_at (board_of (set boards m (settled room l steps slots)) m) r ≡ slot_at (settled room l steps slots) r = λ r. ap (λ b. slot_at b r) here in
+      let R : ℕ → Label → List Slot → Type 0 = λ r a b. Reaches (label_at b) r a in
+      record {
+        was = was;
+        finished = at room ∙ get_or-set_same (offers l steps slots) room (Finished l) Unknown within;
+        others = λ n r other. ap (λ b. slot_at b r) (get_or-set_other boards m n (settled room l steps slots) [] other);
+        fell = λ r other.
+            let e : slot_at (settled room l steps slots) r ≡ slot_at (offers l steps slots) r = get_or-set_other (offers l steps slots) room r (Finished l) Unknown other in
+            elim (offers-slot l steps slots (λ s c. omega (arith, sound.whole, (inside room s (those s c)).0)) r) [
+              | inl same ↦ inl (at r ∙ e ∙ same)
+              | inr f ↦ inr (f.step, f.among, f.leads, at r ∙ e ∙ f.now, f.less)
+            ];
+        reached = λ s c. subst (R s.to (after 1 l s)) (sym here) (down s.to (after 1 l s) (all.1 s c));
+        kept = λ r a q. subst (R r a) (sym here) (down r a (all.0.down r a q));
+      }
+
+-- at first all is sound
+pub frontier-begun : (w : State) (ts : List Knowledge) → IsSound w → All (IsTraveller w) ts → length ts ≤ 8 → IsFrontier w ts (begun w.next ts)
+frontier-begun w ts g these few = record {
+  sound = g;
+  count = length-map ts (begun_at w.next);
+  few = few;
+  faithful = λ m t is.
+      let P : List Slot → Type 0 = λ b. IsFaithful (roads_of w t.player) t.place w.next b in
+      let got : slice_get (map (begun_at w.next) ts) m ≡ Some (begun_at w.next t) = slice_get-map (begun_at w.next) ts m ∙ ap (option_map (begun_at w.next)) is in
+      let place : t.place < w.next = at-place t m is in
+      subst P (sym (get_or_from_slice_get (map (begun_at w.next) ts) m (begun_at w.next t) [] got)) (begun-faithful w t place);
+}
+  where
+    at-place : (t : Knowledge) (m : ℕ) → slice_get ts m ≡ Some t → t.place < w.next
+    at-place t m is =
+        let P : Knowledge → Type 0 = λ x. IsTraveller w x in
+        place-within w t g (subst P (get_or_from_slice_get ts m t t is) (All-get_or P ts m t (slice_get_within ts m t is) these))
+
+-- a room that is held may be opened again, and nothing else
+pub frontier-released : (w : State) (ts : List Knowledge) (boards : List (List Slot)) → IsFrontier w ts boards
+    → (m room : ℕ) (l : Label) (b : List Slot) → m < length boards → (done : Bool)
+    → OnTrue done ((slot_of boards m room ≡ Held l) × (b ≡ set (board_of boards m) room (Open l)))
+    → OnFalse done ((slot_of boards m room ≢ Held l) × (b ≡ board_of boards m))
+    → IsFrontier w ts (set boards m b)
+frontier-released w ts boards f m room l b h true t u =
+    let P : List Slot → Type 0 = λ x. IsFrontier w ts (set boards m x) in
+    subst P (sym t.1) (frontier-relabelled w ts boards f m room (Open l) l h (ap label_of t.0) refl (λ k e. cc))
+frontier-released w ts boards f m room l b h false t u =
+    let P : List Slot → Type 0 = λ x. IsFrontier w ts (set boards m x) in
+    subst P (sym u.1) (frontier-set w ts boards f m (board_of boards m) h (λ t e. f.faithful m t e))
+
+-- the labels of slots are the slots' labels
+label-of_boards : (boards : List (List Slot)) (m room : ℕ) → label_in (labels_of boards) m room ≡ label_at (board_of boards m) room
+label-of_boards boards m room = ap (λ b. get_or b room None) (get_or-map (map label_of) boards m []) ∙ get_or-map label_of (board_of boards m) room Unknown
+
+-- where no room is open or held the labels are the least
+pub frontier-still : (w : State) (ts : List Knowledge) (boards : List (List Slot)) → IsFrontier w ts boards
+    → ((m room : ℕ) (l : Label) → slot_of boards m room ≡ Open l → ⊥)
+    → ((m room : ℕ) (l : Label) → slot_of boards m room ≡ Held l → ⊥)
+    → AreLeast w ts (labels_of boards)
+frontier-still w ts boards f unopened unheld m room t is =
+    let P : Option Label → Type 0 = λ o. Least 1 (roads_of w t.player) t.place room o in
+    subst P (sym (label-of_boards boards m room)) (rest-least (roads_of w t.player) t.place w.next (board_of boards m) (f.faithful m t is) (record { unopened = unopened m; unheld = unheld m }) room)
+
+-- no label is too great
+pub frontier-bounded : (w : State) (ts : List Knowledge) (boards : List (List Slot)) → IsFrontier w ts boards → AreBounded (labels_of boards)
+frontier-bounded w ts boards f m room l e =
+    let was : label_at (board_of boards m) room ≡ Some l = sym (label-of_boards boards m room) ∙ e in
+    let h : m < length ts = omega (arith, f.count, labelled-member boards m room l was) in
+    let t = member-of ts m h in
+    let bound = label-bound (roads_of w t.0.player) t.0.place w.next (board_of boards m) (f.faithful m t.0 t.1) (world-within w t.0 f.sound) room l was in
+    let few : w.next ≤ 8192 = f.sound.limit in
+    (omega (arith, bound.0, bound.1), omega (arith, bound.0))
+  where
+    labelled-member : (boards : List (List Slot)) (m r : ℕ) (l : Label) → label_at (board_of boards m) r ≡ Some l → m < length boards
+    labelled-member boards m r l e =
+        elim (cases_lt m (length boards)) [
+          | inl h ↦ h
+          | inr past ↦
+              let bad : None ≡ Some l = sym (ap (λ (b : List Slot). label_at b r) (get_or_past boards m [] past)) ∙ e in
+              absurd (cc)
+        ]
+
+-- and so where the counts are 0
+pub frontier-rest : (w : State) (ts : List Knowledge) (boards : List (List Slot)) → IsFrontier w ts boards
+    → sum_by (count_by is_open) boards ≡ 0 → sum_by (count_by is_held) boards ≡ 0 → AreLeast w ts (labels_of boards)
+frontier-rest w ts boards f opened held =
+    frontier-still w ts boards f
+    (λ m room l e. (none m (open-member boards m room l e)).unopened room l e)
+    (λ m room l e. (none m (held-member boards m room l e)).unheld room l e)
+  where
+    none : (m : ℕ) → m < length boards → IsStill (board_of boards m)
+    none m h = still-from_rest (board_of boards m) (record {
+      opened = omega (arith, get_or-le-sum_by (count_by is_open) boards m [] h);
+      held = omega (arith, get_or-le-sum_by (count_by is_held) boards m [] h);
+    })
+
+    held-member : (boards : List (List Slot)) (m r : ℕ) (l : Label) → slot_of boards m r ≡ Held l → m < length boards
+    held-member boards m r l e =
+        elim (cases_lt m (length boards)) [
+          | inl h ↦ h
+          | inr past ↦
+              let bad : Unknown ≡ Held l = sym (ap (λ (b : List Slot). slot_at b r) (get_or_past boards m [] past)) ∙ e in
+              absurd (cc)
+        ]

@@ -1,0 +1,48 @@
+//! The least labels, by the caller's thread.
+
+ghost use Rattle.std.specs.Prelude.{◌≡◌, ◌≤◌, All, IfOk, length};
+ghost use Rattle.mud_roads.specs.Open.{IsTraveller};
+ghost use Rattle.mud_search.specs.Least.{AreLeast, AreBounded};
+
+use crate::found::Labels;
+use crate::frontier::Frontier;
+use crate::job::Job;
+use mud_roads::Traveller;
+use mud_world::World;
+use std::alloc::{AllocError, Global};
+use std::marker::Brand;
+
+/// The least labels of up to eight travellers of this world, by the caller's thread. No label
+/// costs more than 81,910,000 or has more than 8,191 exits. Only want of memory is an error.
+pub fn labels_alone(
+    alloc: Global,
+    world: &World,
+    travellers: &[Traveller],
+) -> Result<Labels, AllocError>
+    requires travellers { All (IsTraveller world.now) travellers.now }
+    requires few { length travellers.now ≤ 8 }
+    ensures members { IfOk result (λ labels. length labels ≡ length travellers.now) }
+    ensures least { IfOk result (AreLeast world.now travellers.now) }
+    ensures bounded { IfOk result AreBounded }
+{
+    alone_for::<Brand>(alloc, world, travellers)
+}
+
+// The least labels of the travellers of a job.
+fn alone_for<J: Job>(
+    alloc: Global,
+    world: &World,
+    travellers: &[Traveller],
+) -> Result<Labels, AllocError>
+    requires world { world.now ≡ J.world }
+    requires travellers { travellers.now ≡ J.travellers }
+    requires these { All (IsTraveller J.world) J.travellers }
+    requires few { length J.travellers ≤ 8 }
+    ensures members { IfOk result (λ labels. length labels ≡ length J.travellers) }
+    ensures least { IfOk result (AreLeast J.world J.travellers) }
+    ensures bounded { IfOk result AreBounded }
+{
+    let mut frontier = Frontier::<J>::new(alloc, world, travellers)?;
+    frontier.finish(alloc, world, travellers)?;
+    Ok(frontier.into_labels())
+}

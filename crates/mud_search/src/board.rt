@@ -1,0 +1,210 @@
+//! The rooms of one traveller.
+
+ghost use Rattle.std.specs.Prelude.{◌≡◌, ◌≢◌, ℕ, ◌+◌, All, ◌<◌, ◌≤◌, ◌^◌, IfOk, IfSome, IfNone, length, slice_get, slice_set, replicate, count_by};
+ghost use Rattle.std.specs.Bool.{OnTrue, OnFalse};
+ghost use Rattle.mud_roads.specs.declared.label.Label.{Label};
+ghost use Rattle.mud_roads.specs.Labels.{start_label};
+ghost use Rattle.mud_search.specs.Slots.{is_open, is_held, IsBefore, slot_at, label_at, falls, offered, offers, settled};
+
+use crate::slot::{Slot, Standing};
+use crate::tournament::Tournament;
+use mud_roads::{Label, Step};
+use std::alloc::{AllocError, Global};
+use std::marker::Model;
+
+// The slots of the rooms, with the open ones in order. A contract sees the slots.
+#[derive(Drop)]
+pub(crate) struct Board {
+    slots: Vec<Slot>,
+    order: Tournament<Standing>,
+    opened: usize,
+    held: usize,
+}
+
+impl Model for Board {
+    ghost use Rattle.std.specs.Prelude.{List};
+    ghost use Rattle.mud_search.specs.declared.slot.Slot.{Slot};
+    ghost use Rattle.mud_search.specs.Slots.{IsBoard};
+
+    ghost Value = { List Slot };
+
+    ghost view = { λ b. b.slots.items };
+
+    ghost invariant = { λ b. IsBoard b.slots.items b.order b.opened b.held };
+}
+
+impl Board {
+    // So many rooms, all unknown.
+    pub(crate) fn new(alloc: Global, rooms: usize) -> Result<Self, AllocError>
+        requires some { 0 < rooms }
+        requires few { rooms < 2 ^ 32 }
+        ensures { IfOk result (λ b. b ≡ replicate rooms Slot.Unknown) }
+    {
+        let slots = vec![in alloc; Slot::Unknown; rooms]?;
+        let order = Tournament::new(alloc, rooms, Standing::Shut)?;
+        Ok(Board {
+            slots,
+            order,
+            opened: 0,
+            held: 0,
+        })
+    }
+
+    // So many rooms, all unknown but the place, which is open.
+    pub(crate) fn start(alloc: Global, rooms: u32, place: u32) -> Result<Self, AllocError>
+        requires { place < rooms }
+        ensures { IfOk result (λ b. b ≡ slice_set (replicate rooms Slot.Unknown) place (Slot.Open start_label)) }
+    {
+        let mut board = Board::new(alloc, rooms as usize)?;
+        board.mark(place, Slot::Open(Label { cost: 0, exits: 0 }));
+        Ok(board)
+    }
+
+    // The slot of a room.
+    pub(crate) fn slot(&self, room: usize) -> Slot
+        requires { room < length self.now }
+        ensures { slice_get self.now room ≡ Some result }
+    {
+        self.slots[room]
+    }
+
+    // The open room of least label, of these the lowest.
+    pub(crate) fn least(&self) -> Option<(Label, u32)>
+        ensures some { IfSome result (λ t. slot_at self.now t.1 ≡ Slot.Open t.0) }
+        ensures least { IfSome result (λ t. (room : ℕ) (l : Label) → slot_at self.now room ≡ Slot.Open l → IsBefore t.0 t.1 l room) }
+        ensures none { IfNone result ((room : ℕ) (l : Label) → slot_at self.now room ≡ Slot.Open l → ⊥) }
+    {
+        match self.order.least() {
+            Standing::Open(label, room) => Some((label, room)),
+            Standing::Shut => None,
+        }
+    }
+
+    // Writes the slot of a room.
+    pub(crate) fn mark(&mut self, room: u32, slot: Slot)
+        requires { room < length self.old }
+        ensures { self.new ≡ slice_set self.old room slot }
+    {
+        let at = room as usize;
+        let before = self.slots[at];
+        self.opened -= usize::from(before.is_open());
+        self.held -= usize::from(before.is_held());
+        self.slots[at] = slot;
+        self.opened += usize::from(slot.is_open());
+        self.held += usize::from(slot.is_held());
+        if before.is_open() || slot.is_open() {
+            self.order.set(at, slot.standing(room));
+        }
+    }
+
+    // Writes the label one step on where it leads, if that has none or a greater one.
+    fn offer(&mut self, label: Label, step: &Step)
+        requires to { step.now.to < length self.old }
+        requires cost { label.cost + step.now.cost < 2 ^ 32 }
+        requires exits { label.exits + 1 < 2 ^ 32 }
+        ensures { self.new ≡ offered label step.now self.old }
+    {
+        let next = Label {
+            cost: label.cost + step.cost,
+            exits: label.exits + 1,
+        };
+        let before = self.slot(step.to as usize).label();
+        if falls(next, before) {
+            self.mark(step.to, Slot::Open(next));
+        }
+    }
+
+    // The label of a room; there is none past the last.
+    pub(crate) fn label(&self, room: u32) -> Option<Label>
+        ensures { result ≡ label_at self.now room }
+    {
+        let at = room as usize;
+        if at < self.slots.len() {
+            self.slots[at].label()
+        } else {
+            None
+        }
+    }
+
+    // Opens a room that is held with this label. Says whether it was.
+    pub(crate) fn release(&mut self, room: u32, label: Label) -> bool
+        ensures held { OnTrue result ((slot_at self.old room ≡ Slot.Held label) × (self.new ≡ slice_set self.old room (Slot.Open label))) }
+        ensures other { OnFalse result ((slot_at self.old room ≢ Slot.Held label) × (self.new ≡ self.old)) }
+    {
+        let at = room as usize;
+        if at < self.slots.len() && self.slots[at] == Slot::Held(label) {
+            self.mark(room, Slot::Open(label));
+            true
+        } else {
+            false
+        }
+    }
+
+    // A held room, if there is one.
+    pub(crate) fn first_held(&self) -> Option<(Label, u32)>
+        ensures some { IfSome result (λ t. slot_at self.now t.1 ≡ Slot.Held t.0) }
+        ensures none { IfNone result ((room : ℕ) (l : Label) → slot_at self.now room ≡ Slot.Held l → ⊥) }
+    {
+        for room in 0..self.slots.len() {
+            if let Slot::Held(label) = self.slots[room] {
+                return Some((label, room as u32));
+            }
+        }
+        None
+    }
+
+    // How many rooms are open.
+    pub(crate) fn opened(&self) -> usize
+        ensures open { result ≡ count_by is_open self.now }
+        ensures few { result < 2 ^ 32 }
+    {
+        self.opened
+    }
+
+    // How many rooms are held.
+    pub(crate) fn held(&self) -> usize
+        ensures held { result ≡ count_by is_held self.now }
+        ensures few { result < 2 ^ 32 }
+    {
+        self.held
+    }
+
+    // Follows all steps of a room with this label.
+    fn follow(&mut self, label: Label, steps: &[Step])
+        requires cost { label.cost + 10000 < 2 ^ 32 }
+        requires exits { label.exits + 1 < 2 ^ 32 }
+        requires steps { All (λ s. (s.to < length self.old) × (s.cost ≤ 10000)) steps.now }
+        ensures slots { self.new ≡ offers label steps.now self.old }
+        ensures whole { length self.new ≡ length self.old }
+    {
+        for step in steps {
+            self.offer(label, step);
+        }
+    }
+
+    // Follows all steps of a room that has this label, and finishes it. Says whether it has.
+    pub(crate) fn settle(&mut self, room: u32, label: Label, steps: &[Step]) -> bool
+        requires bound { (l : Label) → label_at self.old room ≡ Some l → (l.cost + 10000 < 2 ^ 32) × (l.exits + 1 < 2 ^ 32) }
+        requires steps { All (λ s. (s.to < length self.old) × (s.cost ≤ 10000)) steps.now }
+        ensures done { OnTrue result ((label_at self.old room ≡ Some label) × (self.new ≡ settled room label steps.now self.old)) }
+        ensures stale { OnFalse result ((label_at self.old room ≢ Some label) × (self.new ≡ self.old)) }
+    {
+        if self.label(room) == Some(label) {
+            self.follow(label, steps);
+            self.mark(room, Slot::Finished(label));
+            true
+        } else {
+            false
+        }
+    }
+}
+
+// Whether the label is new, or less than the one before.
+fn falls(next: Label, before: Option<Label>) -> bool
+    ensures { result ≡ falls next before }
+{
+    match before {
+        None => true,
+        Some(label) => next < label,
+    }
+}

@@ -1,0 +1,218 @@
+//! The rooms of all members.
+
+ghost use Rattle.std.specs.Prelude.{◌≡◌, ◌≢◌, ℕ, ◌<◌, ◌≤◌, All, IfOk, IfSome, IfNone, OnOk, length, slice_get, sum_by, count_by};
+ghost use Rattle.mud_roads.specs.declared.label.Label.{Label};
+ghost use Rattle.mud_roads.specs.Open.{Knowledge, IsTraveller, roads_of};
+ghost use Rattle.mud_search.specs.Slots.{is_open, is_held};
+ghost use Rattle.mud_search.specs.Least.{AreLeast, AreBounded};
+ghost use Rattle.mud_search.specs.Boards.{slot_of, with_slot, begun, IsFirst, Settles, potential, IsLeft, IsDone, IsFrontier, lesser, labels_of};
+
+use crate::board::Board;
+use crate::found::Labels;
+use crate::job::Job;
+use crate::slot::Slot;
+use crate::task::{Put, Rest, Task};
+use mud_roads::{Label, Step, Traveller};
+use mud_world::World;
+use std::alloc::{AllocError, Global};
+use std::marker::{Model, PhantomData};
+
+/// The rooms of all members of a party while a search goes on. A contract sees a list of slots, by
+/// room, for each member. Its facts hold after every call (`IsFrontier`): each label is that of a
+/// walk, a member's place has the label of no cost and no exits, and no step out of a finished room
+/// leads to a greater label than its own.
+#[derive(Drop)]
+pub struct Frontier<J: Job> {
+    boards: Vec<Board>,
+    of: PhantomData<J>,
+}
+
+impl<J: Job> Model for Frontier<J> {
+    ghost use Rattle.std.specs.Prelude.{List};
+    ghost use Rattle.mud_search.specs.declared.slot.Slot.{Slot};
+    ghost use Rattle.mud_search.specs.Boards.{IsFrontier};
+
+    ghost Value = { List (List Slot) };
+
+    ghost view = { λ f. f.boards.items };
+
+    ghost invariant = { λ f. IsFrontier J.world J.travellers f.boards.items };
+}
+
+impl<J: Job> Frontier<J> {
+    /// The beginning: of each member's rooms his place is open, with the label of no cost and no
+    /// exits, and no other is known. Takes all memory that later calls need. Only want of memory
+    /// is an error.
+    pub fn new(alloc: Global, world: &World, travellers: &[Traveller]) -> Result<Self, AllocError>
+        requires world { world.now ≡ J.world }
+        requires travellers { travellers.now ≡ J.travellers }
+        requires these { All (IsTraveller J.world) J.travellers }
+        requires few { length J.travellers ≤ 8 }
+        ensures { IfOk result (λ f. f ≡ begun J.world.next J.travellers) }
+    {
+        let mut boards = Vec::with_capacity(alloc, travellers.len())?;
+        let rooms = world.next_number();
+        for traveller in travellers {
+            boards.push(Board::start(alloc, rooms, traveller.place())?)?;
+        }
+        Ok(Frontier {
+            boards,
+            of: PhantomData,
+        })
+    }
+
+    // The open room of least label; of these the first member's, of these the lowest.
+    fn first(&self) -> Option<Task>
+        ensures some { IfSome result (λ t. IsFirst self.now t) }
+        ensures none { IfNone result ((m r : ℕ) (l : Label) → slot_of self.now m r ≡ Slot.Open l → ⊥) }
+    {
+        let mut best: Option<Task> = None;
+        for member in 0..self.boards.len() {
+            let found = self.boards[member].least();
+            best = lesser(best, member, found);
+        }
+        best
+    }
+
+    /// Takes the open room of least label, of these the first member's, of these the lowest; it is
+    /// held from then on. None where no room is open.
+    pub fn take(&mut self) -> Option<Task>
+        ensures some { IfSome result (λ t. IsFirst self.old t × (self.new ≡ with_slot self.old t.member t.room (Slot.Held t.label))) }
+        ensures none { IfNone result ((self.new ≡ self.old) × ((m r : ℕ) (l : Label) → slot_of self.old m r ≡ Slot.Open l → ⊥)) }
+        ensures member { IfSome result (λ t. t.member < length J.travellers) }
+    {
+        let task = self.first()?;
+        self.boards[task.member].mark(task.room, Slot::Held(task.label));
+        Some(task)
+    }
+
+    /// Gives a room back that was looked at, with the steps of all exits out of it that are open to
+    /// the member. Where it still has the task's label, each step offers the label one step on to
+    /// the room where it leads, which takes it if it has none or a greater one and is open then,
+    /// and the task's room is finished. Otherwise nothing changes.
+    pub fn put(&mut self, task: &Task, steps: &[Step]) -> Put
+        requires steps { (t : Knowledge) → slice_get J.travellers task.now.member ≡ Some t → steps.now ≡ roads_of J.world t.player task.now.room }
+        ensures settles { Settles self.old self.new task.now steps.now result }
+        ensures done { result ≡ Put.Done → IsDone self.old self.new task.now steps.now }
+        ensures less { IsLeft self.old task.now → potential self.new < potential self.old }
+    {
+        if task.member < self.boards.len()
+            && self.boards[task.member].settle(task.room, task.label, steps)
+        {
+            Put::Done
+        } else {
+            Put::Stale
+        }
+    }
+
+    /// Opens the task's room again, if it is held with the task's label. Otherwise nothing changes.
+    pub fn back(&mut self, task: &Task)
+        ensures held { slot_of self.old task.now.member task.now.room ≡ Slot.Held task.now.label → self.new ≡ with_slot self.old task.now.member task.now.room (Slot.Open task.now.label) }
+        ensures other { slot_of self.old task.now.member task.now.room ≢ Slot.Held task.now.label → self.new ≡ self.old }
+    {
+        if task.member < self.boards.len() {
+            let _ = self.boards[task.member].release(task.room, task.label);
+        }
+    }
+
+    /// The facts of the type, for contracts alone: whatever was taken and put, they hold.
+    pub fn facts(&self)
+        ensures { IsFrontier J.world J.travellers self.now }
+    {
+        let _boards = &self.boards;
+    }
+
+    /// How many rooms are open and how many are held. Where none is either, the labels are the
+    /// least.
+    pub fn rest(&self) -> Rest
+        ensures opened { result.opened ≡ sum_by (count_by is_open) self.now }
+        ensures held { result.held ≡ sum_by (count_by is_held) self.now }
+        ensures least { result.opened ≡ 0 → result.held ≡ 0 → AreLeast J.world J.travellers (labels_of self.now) }
+    {
+        let mut opened = 0;
+        let mut held = 0;
+        for board in &self.boards {
+            opened += board.opened();
+            held += board.held();
+        }
+        Rest { opened, held }
+    }
+
+    // A held room, if there is one.
+    fn first_held(&self) -> Option<Task>
+        ensures some { IfSome result (λ t. slot_of self.now t.member t.room ≡ Slot.Held t.label) }
+        ensures member { IfSome result (λ t. t.member < length self.now) }
+        ensures none { IfNone result ((m r : ℕ) (l : Label) → slot_of self.now m r ≡ Slot.Held l → ⊥) }
+    {
+        for member in 0..self.boards.len() {
+            if let Some((label, room)) = self.boards[member].first_held() {
+                return Some(Task {
+                    member,
+                    room,
+                    label,
+                });
+            }
+        }
+        None
+    }
+
+    // An open room, or else a held one, once nobody is at work. Where there is none the labels are
+    // the least.
+    fn left(&self) -> Option<Task>
+        ensures some { IfSome result (λ t. IsLeft self.now t) }
+        ensures member { IfSome result (λ t. t.member < length J.travellers) }
+        ensures none { IfNone result (AreLeast J.world J.travellers (labels_of self.now)) }
+    {
+        let _boards = &self.boards;
+        match self.first() {
+            Some(task) => Some(task),
+            None => self.first_held(),
+        }
+    }
+
+    /// Does alone what is left to do, held rooms too. Only want of memory is an error.
+    pub fn finish(
+        &mut self,
+        alloc: Global,
+        world: &World,
+        travellers: &[Traveller],
+    ) -> Result<(), AllocError>
+        requires world { world.now ≡ J.world }
+        requires travellers { travellers.now ≡ J.travellers }
+        requires these { All (IsTraveller J.world) J.travellers }
+        ensures { OnOk result (AreLeast J.world J.travellers (labels_of self.new)) }
+    {
+        while let Some(task) = self.left() {
+            let steps = travellers[task.member].leave(alloc, world, task.room)?;
+            let _ = self.put(&task, steps.as_slice());
+        }
+        Ok(())
+    }
+
+    /// The labels as they are.
+    pub fn into_labels(self) -> Labels
+        ensures labels { result ≡ labels_of self }
+        ensures members { length result ≡ length J.travellers }
+        ensures bounded { AreBounded result }
+    {
+        let Frontier { boards, of: _ } = self;
+        Labels::of(boards)
+    }
+}
+
+// The task with the lesser label, of a task and what a later member has.
+fn lesser(best: Option<Task>, member: usize, found: Option<(Label, u32)>) -> Option<Task>
+    ensures { result ≡ lesser best member found }
+{
+    let Some((label, room)) = found else {
+        return best;
+    };
+    match best {
+        Some(task) if task.label <= label => best,
+        _ => Some(Task {
+            member,
+            room,
+            label,
+        }),
+    }
+}

@@ -1,0 +1,4 @@
+pub mod Input
+pub mod Tried
+pub mod Verdict
+pub mod Said

@@ -1,0 +1,79 @@
+//! What is found of two texts.
+
+ghost use Rattle.std.specs.Prelude.{◌≡◌, ◌≢◌, ◌≤◌, length, IfOk, IfErr};
+ghost use Rattle.mud_chron.specs.Replay.{changes_of, AreLegal};
+ghost use Rattle.mud_cert.specs.Finding.{world_at, IsHistory, IsUnfit, IsFinding, ShowsLeast};
+ghost use Rattle.mud_check.specs.Tried.{IsTried};
+
+use crate::line_ends::without_returns;
+use mud_cert::{Cert, CertFault, Doubt, Finding, check, read};
+use mud_chron::{ChronFault, Entry, read_history, replay};
+use mud_world::World;
+use std::alloc::{AllocError, Global};
+
+// The entries of a history's text, each legal where it stands, or the text's fault.
+fn history_of(alloc: Global, text: &[u8]) -> Result<Vec<Entry>, ChronFault>
+    ensures ok { IfOk result (λ entries. IsHistory text.now entries.items) }
+    ensures err { IfErr result (λ fault. fault ≢ ChronFault.OutOfMemory → IsUnfit text.now fault) }
+{
+    let entries = read_history(alloc, text)?;
+    match replay(alloc, &entries) {
+        Ok(_world) => Ok(entries),
+        Err(fault) => Err(fault),
+    }
+}
+
+// The world after the first entries, as many as the version says.
+fn world_at(alloc: Global, entries: &[Entry], version: usize) -> Result<World, AllocError>
+    requires reached { version ≤ length entries.now }
+    requires legal { AreLegal (changes_of entries.now) }
+    ensures { IfOk result (λ world. world ≡ world_at entries.now version) }
+{
+    match replay(alloc, &entries[..version]) {
+        Ok(world) => Ok(world),
+        Err(fault) => match fault {
+            ChronFault::OutOfMemory => Err(AllocError),
+            // All of the changes are legal: a replay has no other fault.
+            _ => unreachable!(),
+        },
+    }
+}
+
+// What is found of a certificate, behind a history.
+fn tried(alloc: Global, entries: &[Entry], cert: &Cert) -> Result<Finding, AllocError>
+    requires { AreLegal (changes_of entries.now) }
+    ensures { IfOk result (IsTried entries.now cert.now) }
+{
+    let version = cert.version();
+    if entries.len() < version as usize {
+        return Ok(Finding::NoVersion(version));
+    }
+    let world = world_at(alloc, entries, version as usize)?;
+    match check(alloc, &world, cert) {
+        Ok(()) => Ok(Finding::Accepted),
+        Err(Doubt::OutOfMemory) => Err(AllocError),
+        Err(doubt) => Ok(Finding::Doubted(doubt)),
+    }
+}
+
+/// What is found of a history's text and a proof's: the history is read and replayed to its end,
+/// then the proof is read, then its version is looked at, and at last the certificate is tried in
+/// the world of its version. Only want of memory is an error.
+pub fn finding_of(alloc: Global, history: &[u8], proof: &[u8]) -> Result<Finding, AllocError>
+    ensures finding { IfOk result (IsFinding history.now proof.now) }
+    ensures least { IfOk result (λ finding. finding ≡ Finding.Accepted → ShowsLeast history.now proof.now) }
+{
+    let history = without_returns(alloc, history)?;
+    let proof = without_returns(alloc, proof)?;
+    let entries = match history_of(alloc, &history) {
+        Ok(entries) => entries,
+        Err(ChronFault::OutOfMemory) => return Err(AllocError),
+        Err(fault) => return Ok(Finding::BadHistory(fault)),
+    };
+    let cert = match read(alloc, &proof) {
+        Ok(cert) => cert,
+        Err(CertFault::OutOfMemory) => return Err(AllocError),
+        Err(CertFault::BadLine(line)) => return Ok(Finding::BadProof(line)),
+    };
+    tried(alloc, &entries, &cert)
+}

@@ -1,6 +1,6 @@
 -- Who is a player stays one.
 use Rattle.std.proofs.Common.{◌≡◌, ◌≢◌, ℕ, Bool, true, false, cond, ◌+◌, ◌&&◌, ◌||◌, List, [], ◌∷◌, Option, Some, None, refl, sym, ◌∙◌, ap, arith, ⊎_elim}
-use Rattle.std.specs.Prelude.{not, nat_eq, find}
+use Rattle.std.specs.Prelude.{not, nat_eq, find, IfSome, IsTrue}
 use Rattle.std.specs.Option.{option_map, option_map_or}
 use Rattle.std.specs.List.{list_any}
 use Rattle.std.specs.Map.{lookup}
@@ -150,3 +150,8 @@ pub named-player : (w : State) → IsSound w → (name : List ℕ) (n : ℕ) →
 named-player w sound name n is =
     let f = found-in name n 0 w.next w.objects sound.rising is in
     ap is_one f.at ∙ f.player
+
+-- the same of an answer that may find nobody
+pub named-if : (w : State) → IsSound w → (name : List ℕ) (o : Option ℕ) → o ≡ named_player w name → IfSome o (λ n. IsTrue (is_player w n))
+named-if w sound name None e = tt
+named-if w sound name (Some n) e = named-player w sound name n (sym e)

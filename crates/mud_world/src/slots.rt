@@ -39,7 +39,7 @@ pub(crate) fn slot_of(slots: &[Slot], number: u32) -> Option<usize>
 }
 
 // The same by halving, where the slots stand by rising number.
-pub(crate) fn find_slot(slots: &[Slot], number: u32) -> Option<usize>
+fn halve_slots(slots: &[Slot], number: u32) -> Option<usize>
     requires { StandRising slots.now }
     ensures in_range { IfSome result (λ i. i < length slots.now) }
     ensures found { IfSome result (IsAt slots.now number) }
@@ -48,6 +48,22 @@ pub(crate) fn find_slot(slots: &[Slot], number: u32) -> Option<usize>
     match slots.binary_search_by_key(&number, |slot| slot.number) {
         Ok(at) => Some(at),
         Err(_) => None,
+    }
+}
+
+// The same, where the slots stand by rising number: as long as nothing was recycled a slot stands
+// at its number; else it is looked for by halving.
+pub(crate) fn find_slot(slots: &[Slot], number: u32) -> Option<usize>
+    requires { StandRising slots.now }
+    ensures in_range { IfSome result (λ i. i < length slots.now) }
+    ensures found { IfSome result (IsAt slots.now number) }
+    ensures missing { IfNone result (lookup (nat_eq number) (entries_of slots.now) ≡ None) }
+{
+    let at = number as usize;
+    if at < slots.len() && slots[at].number == number {
+        Some(at)
+    } else {
+        halve_slots(slots, number)
     }
 }
 

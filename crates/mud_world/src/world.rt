@@ -1,7 +1,7 @@
 //! The world: its objects by rising number, and the number that the next will get.
 
-ghost use Rattle.std.specs.Prelude.{codes, ◌≡◌, [], ◌∷◌, IfOk, option_copied};
-ghost use Rattle.mud_world.specs.State.{named_player, State, record_at, contents_of, leaving_of};
+ghost use Rattle.std.specs.Prelude.{codes, ◌≡◌, [], ◌∷◌, IfOk, IfSome, IsTrue, option_copied};
+ghost use Rattle.mud_world.specs.State.{named_player, is_player, State, record_at, contents_of, leaving_of};
 ghost use Rattle.mud_world.specs.Sound.{IsSound};
 
 use crate::slots::{Slot, copy_slots, find_slot, named_player};
@@ -153,6 +153,14 @@ impl World {
     /// The player who has this name, ASCII case ignored. There is at most one (this project's
     /// profile).
     pub fn player_named(&self, name: &str) -> Option<u32>
+        ensures named { result ≡ named_player self.now name.now }
+        ensures player { IfSome result (λ n. IsTrue (is_player self.now n)) }
+    {
+        self.is_sound();
+        self.find_player(name)
+    }
+
+    fn find_player(&self, name: &str) -> Option<u32>
         ensures { result ≡ named_player self.now name.now }
     {
         named_player(&self.slots, name)

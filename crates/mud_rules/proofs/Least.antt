@@ -1,9 +1,11 @@
 -- The lesser of a refusal and the first one of a list by rising number.
-use Rattle.std.proofs.Common.{◌≡◌, ◌<◌, Bool, true, false, cond, List, [], ◌∷◌, ◌++◌, Some, None, refl, sym, ◌∙◌, ap, subst, arith}
+use Rattle.std.proofs.Common.{◌≡◌, ◌<◌, Bool, true, false, cond, List, [], ◌∷◌, ◌++◌, Option, Some, None, refl, sym, ◌∙◌, ap, subst, arith}
 use Rattle.std.specs.Prelude.{find, nat_eq, nat_lt, not, ◌&&◌, ◌||◌}
 use Rattle.std.proofs.lemmas.Bool.{and_parts, not-true, ltb-true, eq-eqb, ne_eqb}
 use Rattle.mud_world.specs.declared.refusal.Refusal.{Refusal}
+use Rattle.mud_world.specs.declared.refusal.Refusal.TheVariants.{NotUnderstood, NoSuch, Ambiguous, WrongKind, NotHere, Denied, BadName, NameTaken, BadKey, KeyNesting, BadCost, RecursiveMove, LockedExit, LockedRoom, LockedThing, InUse, WorldFull, PartyBad}
 use Rattle.mud_world.specs.Refusals.{number, lesser}
+use Rattle.mud_rules.specs.Laws.{all_refusals, is_own}
 
 pub bool_cases : {P : Type 0} (b : Bool) → (b ≡ true → P) → (b ≡ false → P) → P
 bool_cases true f g = f refl
@@ -85,3 +87,29 @@ find-own own p (f ∷ fs) order =
 pub find-append_miss : (p : Refusal → Bool) (fs : List Refusal) (f : Refusal) → p f ≡ false → find p (fs ++ f ∷ []) ≡ find p fs
 find-append_miss p [] f miss = ap (λ b. cond b (Some f) None) miss
 find-append_miss p (g ∷ fs) f miss = ap (λ r. cond (p g) (Some g) r) (find-append_miss p fs f miss)
+
+-- each refusal stands in the list of all
+pub in_order : (own : Refusal) → InOrder own all_refusals
+in_order NotUnderstood = (refl, refl)
+in_order NoSuch = (refl, refl)
+in_order Ambiguous = (refl, refl)
+in_order WrongKind = (refl, refl)
+in_order NotHere = (refl, refl)
+in_order Denied = (refl, refl)
+in_order BadName = (refl, refl)
+in_order NameTaken = (refl, refl)
+in_order BadKey = (refl, refl)
+in_order KeyNesting = (refl, refl)
+in_order BadCost = (refl, refl)
+in_order RecursiveMove = (refl, refl)
+in_order LockedExit = (refl, refl)
+in_order LockedRoom = (refl, refl)
+in_order LockedThing = (refl, refl)
+in_order InUse = (refl, refl)
+in_order WorldFull = (refl, refl)
+in_order PartyBad = (refl, refl)
+
+-- the lesser of an own refusal and the first of the list
+pub lesser_first : (own : Option Refusal) (p : Refusal → Bool) → lesser own (find p all_refusals) ≡ find (λ f. is_own own f || p f) all_refusals
+lesser_first None p = refl
+lesser_first (Some own) p = find-own own p all_refusals (in_order own)

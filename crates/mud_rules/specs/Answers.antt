@@ -1,10 +1,10 @@
--- What questions are answered by, as bytes.
+-- What is shown of a world, as bytes.
 use Rattle.std.specs.Prelude.{ℕ, not, List, [], ◌∷◌, ◌++◌, filter, codes, decimal, Option, Some}
 use Rattle.std.specs.Option.{option_map_or}
 use Rattle.mud_world.specs.declared.record.Kind.{Kind}
 use Rattle.mud_world.specs.declared.record.Kind.TheVariants.{Room, Exit, Thing, Player}
-use Rattle.mud_rules.specs.declared.verdict.Query.{Query}
-use Rattle.mud_rules.specs.declared.verdict.Query.TheVariants.{Look, LookAt, Inventory, KeyOf, Version, Quit}
+use Rattle.mud_rules.specs.declared.verdict.View.{View}
+use Rattle.mud_rules.specs.declared.verdict.View.TheVariants.{Look, LookAt, Inventory, KeyOf, Version, Quit}
 use Rattle.mud_world.specs.State.{State, record_at, place_of, is_number, contents_of, leaving_of, key_of}
 use Rattle.mud_rules.specs.Listing.{entry_text, listed, listed_under}
 use Rattle.mud_rules.specs.Replies.{key_text}
@@ -44,8 +44,8 @@ inventory_text w player = codes "inventory " ++ listed_or_nothing w (contents_of
 abbrev pub key_of_text : State → ℕ → List ℕ
 key_of_text w n = codes "key of #" ++ decimal n ++ codes " is " ++ option_map_or key_text (key_of w n) (codes "nothing")
 
--- the answer to a question; a guest sees no room and has nothing
-abbrev pub show_text : State → Option ℕ → Query → List ℕ
+-- what is shown; a guest sees no room and has nothing
+abbrev pub show_text : State → Option ℕ → View → List ℕ
 show_text w player Look = option_map_or (room_text w) player []
 show_text w player (LookAt n) = look_text w player n
 show_text w player Inventory = option_map_or (inventory_text w) player []

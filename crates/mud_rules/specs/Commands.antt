@@ -21,7 +21,8 @@ use Rattle.mud_world.specs.State.{State, exists, is_thing, is_player, is_exit, p
 use Rattle.mud_world.specs.Legal.{in_reach, leaves_from}
 use Rattle.mud_rules.specs.declared.matching.Match.{Match}
 use Rattle.mud_rules.specs.declared.matching.Match.TheVariants.{Nothing as MeansNothing, NoSuch as MeansNoSuch, Ambiguous as MeansSeveral}
-use Rattle.mud_rules.specs.declared.verdict.Query.TheVariants.{LookAt, KeyOf}
+use Rattle.mud_rules.specs.declared.verdict.View.TheVariants.{LookAt, KeyOf}
+use Rattle.mud_rules.specs.declared.verdict.Query.TheVariants.{View}
 use Rattle.mud_rules.specs.declared.verdict.Verdict.{Verdict}
 use Rattle.mud_rules.specs.declared.verdict.Verdict.TheVariants.{Ask, Become, Refused}
 use Rattle.mud_rules.specs.Matching.{number_in, object_number, local_match}
@@ -230,8 +231,8 @@ connect w text = option_map_or (connecting w) (name_in text) (Refused BadName)
 
 -- look X
 abbrev pub look_at : State → ℕ → List ℕ → Verdict
-look_at w p text = with_match (local_match w p text) (λ x. Ask (LookAt x))
+look_at w p text = with_match (local_match w p text) (λ x. Ask (View (LookAt x)))
 
 -- @key X
 abbrev pub key_question : State → ℕ → List ℕ → Verdict
-key_question w p text = with_match (local_match w p text) (λ x. Ask (KeyOf x))
+key_question w p text = with_match (local_match w p text) (λ x. Ask (View (KeyOf x)))

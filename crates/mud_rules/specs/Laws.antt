@@ -1,5 +1,5 @@
 -- What the definitions of the table come to, said in other words.
-use Rattle.std.specs.Prelude.{◌≡◌, ℕ, Bool, false, ◌||◌, nat_eq, List, [], ◌∷◌, find, Option, Some, None}
+use Rattle.std.specs.Prelude.{◌≡◌, ℕ, Bool, false, ◌||◌, nat_eq, List, [], ◌∷◌, find, Option, Some, None, Result, Ok, Err}
 use Rattle.std.specs.Option.{option_map_or}
 use Rattle.mud_key.specs.Tree.{Tree}
 use Rattle.mud_world.specs.declared.change.Change.{Change}
@@ -15,6 +15,7 @@ use Rattle.mud_world.specs.State.{State}
 use Rattle.mud_world.specs.Legal.{refusal, fails}
 use Rattle.mud_rules.specs.declared.verdict.Verdict.TheVariants.{Change as Changes, Refused}
 use Rattle.mud_rules.specs.Outcome.{outcome}
+use Rattle.mud_rules.specs.Journeys.{members, unfit, unmet}
 
 -- ---- one list of refusals
 
@@ -36,6 +37,21 @@ abbrev pub IsOneList : Type 0
 IsOneList =
     (w : State) (own : Option Refusal) (e : Change)
     → outcome w own e ≡ option_map_or Refused (find (λ f. is_own own f || fails w e f) all_refusals) (Changes e)
+
+-- ---- the refusals of a meeting
+
+-- one of the parts is refused by this
+abbrev pub has_refusal : List (Result ℕ Refusal) → Refusal → Bool
+has_refusal [] f = false
+has_refusal (Ok n ∷ found) f = has_refusal found f
+has_refusal (Err g ∷ found) f = nat_eq (number g) (number f) || has_refusal found f
+
+-- the refusals of the parts of a meeting, and that of its party, are one list: it is refused by the
+-- first refusal, by rising number, that a part has or the party
+abbrev pub IsOneListOfMeetings : Type 0
+IsOneListOfMeetings =
+    (found : List (Result ℕ Refusal))
+    → unmet found ≡ find (λ f. is_own (unfit (members found)) f || has_refusal found f) all_refusals
 
 -- ---- what stands in for a text that can't be read
 

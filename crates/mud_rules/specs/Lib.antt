@@ -1,6 +1,8 @@
 pub mod Matching
+pub mod Party
 pub mod Outcome
 pub mod Commands
+pub mod Journeys
 pub mod Shapes
 pub mod Table
 pub mod Laws

@@ -63,6 +63,10 @@ is_prep p q = false
 abbrev pub is_pair : Prep → Line → Bool
 is_pair prep l = is_prep prep l.prep && (not (is_empty l.direct) && not (is_empty l.indirect))
 
+-- a text of some byte behind this, and none before it
+abbrev pub is_aimed : Prep → Line → Bool
+is_aimed prep l = is_prep prep l.prep && (is_empty l.direct && not (is_empty l.indirect))
+
 -- of the sides between bars one is empty; fresh says that nothing stands in this side yet
 abbrev pub empty_side : Bool → List ℕ → Bool
 empty_side fresh [] = fresh

@@ -1,4 +1,4 @@
-//! What questions are answered by.
+//! What is shown of a world.
 
 ghost use Rattle.std.specs.Prelude.{◌≡◌, ◌++◌, not, codes, filter, IfOk, OnOk, string_bytes};
 ghost use Rattle.mud_world.specs.State.{is_number, key_of};
@@ -6,30 +6,30 @@ ghost use Rattle.std.specs.Option.{option_map_or};
 ghost use Rattle.mud_rules.specs.Replies.{key_text};
 ghost use Rattle.mud_rules.specs.Answers.{kind_text, look_text, room_text, inventory_text, key_of_text, show_text};
 
-use crate::Query;
+use crate::View;
 use crate::listing::{push_entry, push_listed, push_listed_under};
 use mud_key::print;
 use mud_world::{Kind, World};
 use std::alloc::{AllocError, Global};
 
-/// The answer to a question, its lines joined by LF (docs/COMMANDS.md, "What is answered"). Without
+/// What a player is shown of a world, its lines joined by LF (docs/COMMANDS.md, "What is answered"). Without
 /// a player there is no room to look at and nothing in hand: these two answers are empty then.
 pub fn show(
     alloc: Global,
     world: &World,
     player: Option<u32>,
-    query: &Query,
+    view: &View,
 ) -> Result<String, AllocError>
-    ensures { IfOk result (λ text. string_bytes text ≡ show_text world.now player query.now) }
+    ensures { IfOk result (λ text. string_bytes text ≡ show_text world.now player view.now) }
 {
-    match (query, player) {
-        (Query::Look, Some(player)) => room_text(alloc, world, player),
-        (Query::LookAt(object), _) => look_text(alloc, world, player, *object),
-        (Query::Inventory, Some(player)) => inventory_text(alloc, world, player),
-        (Query::KeyOf(object), _) => key_of_text(alloc, world, *object),
-        (Query::Version, _) => String::from_str(alloc, "version"),
-        (Query::Quit, _) => String::from_str(alloc, "bye"),
-        (Query::Look | Query::Inventory, None) => Ok(String::new(alloc)),
+    match (view, player) {
+        (View::Look, Some(player)) => room_text(alloc, world, player),
+        (View::LookAt(object), _) => look_text(alloc, world, player, *object),
+        (View::Inventory, Some(player)) => inventory_text(alloc, world, player),
+        (View::KeyOf(object), _) => key_of_text(alloc, world, *object),
+        (View::Version, _) => String::from_str(alloc, "version"),
+        (View::Quit, _) => String::from_str(alloc, "bye"),
+        (View::Look | View::Inventory, None) => Ok(String::new(alloc)),
     }
 }
 

@@ -6,7 +6,7 @@ ghost use Rattle.mud_rules.specs.Commands.{look_at, key_question};
 
 use crate::matching::local_match;
 use crate::outcome::unmatched;
-use crate::{Query, Verdict};
+use crate::{Query, Verdict, View};
 use mud_world::World;
 
 pub(crate) fn look_at(world: &World, player: u32, text: &str) -> Verdict
@@ -14,7 +14,7 @@ pub(crate) fn look_at(world: &World, player: u32, text: &str) -> Verdict
     ensures lawful { IsLawful world.now (Some player) result }
 {
     match local_match(world, player, text) {
-        Ok(object) => Verdict::Ask(Query::LookAt(object)),
+        Ok(object) => Verdict::Ask(Query::View(View::LookAt(object))),
         Err(fault) => Verdict::Refused(unmatched(fault)),
     }
 }
@@ -24,7 +24,7 @@ pub(crate) fn key_question(world: &World, player: u32, text: &str) -> Verdict
     ensures lawful { IsLawful world.now (Some player) result }
 {
     match local_match(world, player, text) {
-        Ok(object) => Verdict::Ask(Query::KeyOf(object)),
+        Ok(object) => Verdict::Ask(Query::View(View::KeyOf(object))),
         Err(fault) => Verdict::Refused(unmatched(fault)),
     }
 }

@@ -6,7 +6,8 @@
 //! - [`local_match`], [`room_match`] and [`player_match`] find the object that a text means.
 //! - [`is_question`] tells the lines that change nothing.
 //! - [`reply_text`], [`welcome_text`], [`refusal_text`] and [`show`] give what the player is told,
-//!   [`heard`] what another player is told of his change.
+//!   [`heard`] what another player is told of his change. A [`Journey`] and the history are asked
+//!   for here, and answered elsewhere.
 //!
 //! Nothing here changes a world: who has a verdict does that by `World::apply`.
 //!
@@ -23,11 +24,12 @@
 //! ```
 //!
 //! Proved: the verdict is exactly that of the table in `specs/Table.antt`, with the commands of
-//! `Commands.antt` and the matching of `Matching.antt`, and a change in it is legal and of the
-//! player who typed the line; all texts are exactly those of `Replies.antt`, `Answers.antt` and
+//! `Commands.antt` and `Journeys.antt` and the matching of `Matching.antt`. A change in it is legal
+//! and of the player who typed the line, a room that is asked for is one of the world, and those
+//! who are to meet are a [`Party`] of its players. All texts are exactly those of `Replies.antt`, `Answers.antt` and
 //! `Hearing.antt`. Want of memory is the one error. The functions of [`laws`] prove what the table
 //! comes to: the tests of a command and the conditions of its change are one list of refusals,
-//! tried by rising number.
+//! tried by rising number, and so are those of a meeting.
 #![tactic(auto)]
 
 mod answers;
@@ -35,6 +37,7 @@ mod asking;
 mod building;
 mod digging;
 mod hearing;
+mod journeys;
 mod keys;
 pub mod laws;
 mod line;
@@ -43,6 +46,7 @@ mod matching;
 mod moving;
 mod naming;
 mod outcome;
+mod party;
 mod replies;
 mod rows;
 mod shapes;
@@ -55,8 +59,9 @@ pub use hearing::heard;
 pub use line::{decide, is_question};
 pub use matching::{Match, local_match, player_match, room_match};
 pub use mud_world::Refusal;
+pub use party::Party;
 pub use replies::{refusal_text, reply_text, welcome_text};
-pub use verdict::{Query, Verdict};
+pub use verdict::{Journey, Query, Verdict, View};
 
 #[cfg(test)]
 mod tests;

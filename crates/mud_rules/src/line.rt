@@ -8,21 +8,23 @@ ghost use Rattle.mud_rules.specs.Table.{connect_line, command, other_line, guest
 use crate::matching::{Likeness, Match, sole_like};
 use crate::moving::walk;
 use crate::naming::connect;
-use crate::outcome::shaped;
+use crate::outcome::{asked_journey, shaped};
 use crate::rows::{
     cost_line, create_line, dig_line, drop_line, give_line, go_line, key_line, lock_line,
-    look_line, put_line, recycle_line, rename_line, take_line, unlock_line,
+    look_line, meet_line, proof_line, put_line, recycle_line, rename_line, route_line, take_line,
+    unlock_line,
 };
 use crate::shapes::{first_of, is_bare, whole_of};
 use crate::talking::{emote, say};
 use crate::verb::Verb;
-use crate::{Query, Verdict};
+use crate::{Query, Verdict, View};
 use mud_words::Parsed;
 use mud_world::{Refusal, World};
 use std::alloc::{AllocError, Global};
 
 /// Whether a line has the verb of a question, whatever its other words are: `look`, `l`,
-/// `inventory`, `inv`, `i`, `@key`, `@version` or `quit` (this project's profile).
+/// `inventory`, `inv`, `i`, `@key`, `route`, `meet`, `proof`, `@version`, `@history` or `quit`
+/// (this project's profile).
 pub fn is_question(parsed: &Parsed) -> bool
     ensures { result ≡ is_question (line_of parsed.now) }
 {
@@ -33,7 +35,8 @@ pub fn is_question(parsed: &Parsed) -> bool
 }
 
 /// What a line asks for in a world: a change that is legal there, a question, a player to become,
-/// or the refusal of least number (docs/COMMANDS.md). Without a player it is the line of a guest,
+/// or the refusal of least number (docs/COMMANDS.md). A room in a question is one of that world,
+/// and a party is of its players. Without a player it is the line of a guest,
 /// who has `connect` and `quit` alone.
 ///
 /// A given player is to be one of that world; the line of any other number is decided too, by the
@@ -68,7 +71,7 @@ fn command(
     match verb {
         Verb::Connect => connect_line(alloc, world, parsed),
         Verb::Look => look_line(alloc, world, player, parsed),
-        Verb::Inventory => Ok(shaped(is_bare(parsed), Query::Inventory)),
+        Verb::Inventory => Ok(shaped(is_bare(parsed), Query::View(View::Inventory))),
         Verb::Go => go_line(alloc, world, player, parsed),
         Verb::Take => take_line(alloc, world, player, parsed),
         Verb::Drop => drop_line(alloc, world, player, parsed),
@@ -84,8 +87,12 @@ fn command(
         Verb::Cost => Ok(cost_line(world, player, parsed)),
         Verb::Rename => rename_line(alloc, world, player, parsed),
         Verb::Recycle => recycle_line(alloc, world, player, parsed),
-        Verb::Version => Ok(shaped(is_bare(parsed), Query::Version)),
-        Verb::Quit => Ok(shaped(is_bare(parsed), Query::Quit)),
+        Verb::Route => Ok(asked_journey(route_line(world, player, parsed))),
+        Verb::Meet => Ok(asked_journey(meet_line(alloc, world, player, parsed)?)),
+        Verb::Proof => proof_line(alloc, world, player, parsed),
+        Verb::Version => Ok(shaped(is_bare(parsed), Query::View(View::Version))),
+        Verb::History => Ok(shaped(is_bare(parsed), Query::History)),
+        Verb::Quit => Ok(shaped(is_bare(parsed), Query::View(View::Quit))),
     }
 }
 
@@ -118,7 +125,7 @@ fn guest(
 {
     match verb {
         Some(Verb::Connect) => connect_line(alloc, world, parsed),
-        Some(Verb::Quit) => Ok(shaped(is_bare(parsed), Query::Quit)),
+        Some(Verb::Quit) => Ok(shaped(is_bare(parsed), Query::View(View::Quit))),
         _ => Ok(Verdict::Refused(Refusal::NotUnderstood)),
     }
 }

@@ -1,14 +1,14 @@
 //! How the refusals of a line come together.
 
-ghost use Rattle.std.specs.Prelude.{◌≡◌, ℕ, false, Option, Some};
+ghost use Rattle.std.specs.Prelude.{◌≡◌, ℕ, false, Option, Some, IfOk};
 ghost use Rattle.mud_world.specs.State.{State};
 ghost use Rattle.mud_world.specs.Legal.{refusal, is_arrival};
 ghost use Rattle.mud_world.specs.Refusals.{refused_if};
-ghost use Rattle.mud_rules.specs.Outcome.{IsActor, IsLawful, outcome, does, unmatched, lesser_fault, both, shaped};
+ghost use Rattle.mud_rules.specs.Outcome.{IsActor, IsLawful, IsQuestion, IsJourney, outcome, does, unmatched, lesser_fault, both, shaped, asked};
 ghost use Rattle.mud_rules.specs.Commands.{kind_then_here};
 
 use crate::matching::{Match, local_match};
-use crate::{Query, Verdict};
+use crate::{Journey, Query, Verdict};
 use mud_world::{Change, Deed, Refusal, World, lesser, refused_if};
 
 fn refusal(world: &World, change: &Change) -> Option<Refusal>
@@ -94,11 +94,35 @@ pub(crate) fn both(
 // A question of the right shape.
 pub(crate) fn shaped(fits: bool, query: Query) -> Verdict
     ensures decision { result ≡ shaped fits (Verdict.Ask query) }
-    ensures lawful { (w : State) (player : Option ℕ) → IsLawful w player result }
+    ensures lawful { (w : State) (player : Option ℕ) → IsQuestion w query → IsLawful w player result }
 {
     if fits {
         Verdict::Ask(query)
     } else {
         Verdict::Refused(Refusal::NotUnderstood)
+    }
+}
+
+// A journey that is asked for, or its refusal.
+pub(crate) fn asked_journey(found: Result<Journey, Refusal>) -> Verdict
+    ensures decision { result ≡ asked Query.Journey found }
+    ensures lawful { (w : State) (player : Option ℕ) → IfOk found (IsJourney w)
+        → IsLawful w player result }
+{
+    match found {
+        Ok(journey) => Verdict::Ask(Query::Journey(journey)),
+        Err(refusal) => Verdict::Refused(refusal),
+    }
+}
+
+// A journey whose proof is asked for, or its refusal.
+pub(crate) fn asked_proof(found: Result<Journey, Refusal>) -> Verdict
+    ensures decision { result ≡ asked Query.Proof found }
+    ensures lawful { (w : State) (player : Option ℕ) → IfOk found (IsJourney w)
+        → IsLawful w player result }
+{
+    match found {
+        Ok(journey) => Verdict::Ask(Query::Proof(journey)),
+        Err(refusal) => Verdict::Refused(refusal),
     }
 }

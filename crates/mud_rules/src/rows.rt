@@ -2,19 +2,21 @@
 
 ghost use Rattle.std.specs.Prelude.{◌≡◌, Some, IfOk};
 ghost use Rattle.mud_words.specs.Line.{line_of};
-ghost use Rattle.mud_rules.specs.Outcome.{IsLawful};
-ghost use Rattle.mud_rules.specs.declared.verb.Verb.{Verb};
-ghost use Rattle.mud_rules.specs.Table.{dig_room_line, command};
+ghost use Rattle.mud_rules.specs.Outcome.{IsLawful, IsJourney};
+ghost use Rattle.mud_rules.specs.Table.{dig_room_line, route_line, meet_line, journey_line, command};
 
 use crate::asking::{key_question, look_at};
 use crate::building::{cost, recycle};
 use crate::digging::{dig_exits, dig_room, has_empty_side};
+use crate::journeys::{meet, route};
 use crate::keys::{lock, unlock};
 use crate::moving::{drop_down, give, go, put, take_up};
 use crate::naming::{create, rename};
-use crate::shapes::{all_of, is_bare, is_pair, looked_text};
-use crate::{Query, Verdict};
-use mud_words::{Parsed, Prep};
+use crate::outcome::asked_proof;
+use crate::shapes::{all_of, is_aimed, is_bare, is_pair, looked_text};
+use crate::verb::Verb;
+use crate::{Journey, Query, Verdict, View};
+use mud_words::{Parsed, Prep, parse};
 use mud_world::{Refusal, World};
 use std::alloc::{AllocError, Global};
 
@@ -29,7 +31,7 @@ pub(crate) fn look_line(
     ensures lawful { IfOk result (IsLawful world.now (Some player)) }
 {
     if is_bare(parsed) {
-        return Ok(Verdict::Ask(Query::Look));
+        return Ok(Verdict::Ask(Query::View(View::Look)));
     }
     let text = looked_text(alloc, parsed)?;
     if text.is_empty() {
@@ -266,4 +268,66 @@ pub(crate) fn recycle_line(
     } else {
         Ok(recycle(world, player, &text))
     }
+}
+
+pub(crate) fn route_line(world: &World, player: u32, parsed: &Parsed) -> Result<Journey, Refusal>
+    ensures decision { result ≡ route_line world.now player (line_of parsed.now) }
+    ensures lawful { IfOk result (IsJourney world.now) }
+{
+    if is_aimed(Prep::To, parsed) {
+        route(world, player, &parsed.indirect)
+    } else {
+        Err(Refusal::NotUnderstood)
+    }
+}
+
+pub(crate) fn meet_line(
+    alloc: Global,
+    world: &World,
+    player: u32,
+    parsed: &Parsed,
+) -> Result<Result<Journey, Refusal>, AllocError>
+    ensures decision { IfOk result (λ journey. journey
+        ≡ meet_line world.now player (line_of parsed.now)) }
+    ensures lawful { IfOk result (λ journey. IfOk journey (IsJourney world.now)) }
+{
+    let text = all_of(alloc, parsed)?;
+    if text.is_empty() {
+        Ok(Err(Refusal::NotUnderstood))
+    } else {
+        meet(alloc, world, player, &text)
+    }
+}
+
+// The journey that a line asks for.
+fn journey_line(
+    alloc: Global,
+    world: &World,
+    player: u32,
+    parsed: &Parsed,
+) -> Result<Result<Journey, Refusal>, AllocError>
+    ensures decision { IfOk result (λ journey. journey
+        ≡ journey_line world.now player (line_of parsed.now)) }
+    ensures lawful { IfOk result (λ journey. IfOk journey (IsJourney world.now)) }
+{
+    match Verb::named(&parsed.verb) {
+        Some(Verb::Route) => Ok(route_line(world, player, parsed)),
+        Some(Verb::Meet) => meet_line(alloc, world, player, parsed),
+        _ => Ok(Err(Refusal::NotUnderstood)),
+    }
+}
+
+pub(crate) fn proof_line(
+    alloc: Global,
+    world: &World,
+    player: u32,
+    parsed: &Parsed,
+) -> Result<Verdict, AllocError>
+    ensures decision { IfOk result (λ v. v
+        ≡ command world.now player (line_of parsed.now) Verb.Proof) }
+    ensures lawful { IfOk result (IsLawful world.now (Some player)) }
+{
+    let line = parse(alloc, &parsed.rest)?;
+    let journey = journey_line(alloc, world, player, &line)?;
+    Ok(asked_proof(journey))
 }

@@ -3,7 +3,7 @@
 ghost use Rattle.std.specs.Prelude.{◌≡◌, ◌++◌, not, IfOk, OnOk, codes, map, string_bytes};
 ghost use Rattle.std.specs.List.{flat_map};
 ghost use Rattle.mud_words.specs.Line.{line_of};
-ghost use Rattle.mud_rules.specs.Shapes.{spaced, all_of, whole_of, looked_at, looked_text, first_of, is_bare, is_prep, is_pair};
+ghost use Rattle.mud_rules.specs.Shapes.{spaced, all_of, whole_of, looked_at, looked_text, first_of, is_bare, is_prep, is_pair, is_aimed};
 
 use mud_words::{Parsed, Prep};
 use std::alloc::{AllocError, Global};
@@ -99,4 +99,11 @@ pub(crate) fn is_pair(prep: Prep, parsed: &Parsed) -> bool
     ensures { result ≡ is_pair prep (line_of parsed.now) }
 {
     is_prep(prep, parsed.prep) && !parsed.direct.is_empty() && !parsed.indirect.is_empty()
+}
+
+// Whether a text is behind this, and none before it.
+pub(crate) fn is_aimed(prep: Prep, parsed: &Parsed) -> bool
+    ensures { result ≡ is_aimed prep (line_of parsed.now) }
+{
+    is_prep(prep, parsed.prep) && parsed.direct.is_empty() && !parsed.indirect.is_empty()
 }

@@ -1,5 +1,6 @@
 mod commands;
 mod hearing;
+mod journeys;
 mod lines;
 mod playing;
 mod refusals;

@@ -24,11 +24,15 @@ pub(crate) enum Verb {
     Cost,
     Rename,
     Recycle,
+    Route,
+    Meet,
+    Proof,
     Version,
+    History,
     Quit,
 }
 
-const VERBS: [Verb; 20] = [
+const VERBS: [Verb; 24] = [
     Verb::Connect,
     Verb::Look,
     Verb::Inventory,
@@ -47,7 +51,11 @@ const VERBS: [Verb; 20] = [
     Verb::Cost,
     Verb::Rename,
     Verb::Recycle,
+    Verb::Route,
+    Verb::Meet,
+    Verb::Proof,
     Verb::Version,
+    Verb::History,
     Verb::Quit,
 ];
 
@@ -78,7 +86,11 @@ impl Verb {
             Verb::Cost => text.eq_ignore_ascii_case("@cost"),
             Verb::Rename => text.eq_ignore_ascii_case("@rename"),
             Verb::Recycle => text.eq_ignore_ascii_case("@recycle"),
+            Verb::Route => text.eq_ignore_ascii_case("route"),
+            Verb::Meet => text.eq_ignore_ascii_case("meet"),
+            Verb::Proof => text.eq_ignore_ascii_case("proof"),
             Verb::Version => text.eq_ignore_ascii_case("@version"),
+            Verb::History => text.eq_ignore_ascii_case("@history"),
             Verb::Quit => text.eq_ignore_ascii_case("quit"),
         }
     }
@@ -89,6 +101,7 @@ impl Verb {
     {
         match self {
             Verb::Look | Verb::Inventory | Verb::Key | Verb::Version | Verb::Quit => true,
+            Verb::Route | Verb::Meet | Verb::Proof | Verb::History => true,
             _ => false,
         }
     }

@@ -4,3 +4,5 @@ pub mod TalkLemmas
 pub mod TurnsOf
 pub mod ServeLemmas
 pub mod ScriptLemmas
+pub mod Seats
+pub mod Endings

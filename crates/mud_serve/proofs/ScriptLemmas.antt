@@ -1,5 +1,5 @@
 -- What a script has written.
-use Rattle.std.proofs.Common.{◌≡◌, ℕ, ◌+◌, ◌<◌, ◌≤◌, Bool, true, false, List, [], ◌∷◌, ◌++◌, length, refl, sym, ap, ◌∙◌, append_assoc, arith, inl, inr}
+use Rattle.std.proofs.Common.{◌≡◌, ℕ, ◌+◌, ◌<◌, ◌≤◌, Bool, true, false, List, [], ◌∷◌, ◌++◌, length, refl, sym, ap, subst, ◌∙◌, append_assoc, arith, inl, inr}
 use Rattle.std.specs.Prelude.{Option}
 use Rattle.std.specs.Io.KnownBytes.{Appends, Consumes, Keeps, IsAtEnd}
 use Rattle.std.proofs.KnownBytes.{Appends-nil, Appends-trans, Consumes-nil, Consumes-trans, Consumes-kept}
@@ -8,11 +8,12 @@ use Rattle.mud_nvt.specs.Units.{Given, units}
 use Rattle.mud_nvt.specs.History.{StandsAfter}
 use Rattle.mud_serve.specs.State.{State}
 use Rattle.mud_serve.specs.Desk.{Desk, opening}
-use Rattle.mud_serve.specs.Session.{Talk, Turn, text_of, talk_after}
+use Rattle.mud_serve.specs.Session.{Talk, Turn, text_of, talk_after, AreReplied}
 use Rattle.mud_serve.specs.Feeding.{Serves, ServesInPart, talk_of, units_in}
 use Rattle.mud_serve.specs.Script.{marked, begins, script_text, script_turns, has_quit, Answers, AnswersInPart, RunsOn}
-use Rattle.mud_serve.proofs.TurnLemmas.{talk_after-append, text_of-append}
-use Rattle.mud_serve.proofs.ServeLemmas.{refused_in, marked_again, fresh_turns, fresh_turns-units}
+use Rattle.mud_serve.proofs.TurnLemmas.{talk_after-append, text_of-append, replied-append}
+use Rattle.mud_serve.proofs.Fresh.{fresh_units}
+use Rattle.mud_serve.proofs.ServeLemmas.{replies_in, marked_again, no_replies, fresh_turns, fresh_turns-units}
 
 -- after `quit` nothing is sent
 abbrev over_at : Desk → Talk
@@ -44,9 +45,14 @@ both_units bytes more xs ys p q = map-append (λ (t : Turn). t.unit) xs ys ∙ a
 abbrev last_turns : List ℕ → List Turn
 last_turns bytes = fresh_turns bytes (10 ∷ [])
 
+-- with the last line refused the replies stay right
+with_last : (capacity : ℕ) (bytes : List ℕ) (turns : List Turn) → AreReplied (begins capacity) turns → AreReplied (begins capacity) (turns ++ last_turns bytes)
+with_last capacity bytes turns replied =
+    replied-append (begins capacity) turns (last_turns bytes) replied (no_replies (talk_after (begins capacity) turns) (fresh_units bytes (10 ∷ [])).0)
+
 -- the turns of the bytes and an LF are those of the script that is refused where they are
-script_turns_is : (bytes : List ℕ) (turns : List Turn) → units_in turns ≡ units (bytes ++ 10 ∷ []) → script_turns bytes (refused_in turns) ≡ turns
-script_turns_is bytes turns e = ap (λ us. marked us (refused_in turns)) (sym e) ∙ marked_again turns
+script_turns_is : (bytes : List ℕ) (turns : List Turn) → units_in turns ≡ units (bytes ++ 10 ∷ []) → script_turns bytes (replies_in turns) ≡ turns
+script_turns_is bytes turns e = ap (λ us. marked us (replies_in turns)) (sym e) ∙ marked_again turns
 
 -- where the script stands after some reads
 pub record Reached (capacity : ℕ) (readable still held now : Option (List ℕ)) (state : State) (desk : Desk) (reads : ℕ) : Type 0 where
@@ -57,6 +63,7 @@ pub record Reached (capacity : ℕ) (readable still held now : Option (List ℕ)
   pub stands : StandsAfter state.terminal bytes
   pub talk : talk_of state desk ≡ talk_after (begins capacity) turns
   pub written : Appends held now (text_of (begins capacity) turns)
+  pub replied : AreReplied (begins capacity) turns
   pub out : state.out ≡ []
   pub many : reads ≤ length bytes
 
@@ -70,6 +77,7 @@ reached_none capacity readable held state desk stands open_still out is = record
   stands = stands;
   talk = ap (λ (b : Bool). let u : Talk = record { desk = desk; has_ended = b } in u) open_still ∙ ap (λ (d : Desk). let u : Talk = record { desk = d; has_ended = false } in u) is;
   written = Appends-nil held;
+  replied = tt;
   out = out;
   many = omega arith;
 }
@@ -77,7 +85,7 @@ reached_none capacity readable held state desk stands open_still out is = record
 pub reached_more : {capacity : ℕ} {readable still next held now then : Option (List ℕ)} {state new : State} {desk new_desk : Desk} {reads : ℕ} {more : List ℕ}
     → (so_far : Reached capacity readable still held now state desk reads) → Consumes still next more → 0 < length more → Serves so_far.bytes more state new desk new_desk now then
     → Reached capacity readable next held then new new_desk (reads + 1)
-reached_more {more = more} so_far read some serves = record {
+reached_more {capacity = capacity} {more = more} so_far read some serves = record {
   bytes = so_far.bytes ++ more;
   turns = so_far.turns ++ serves.turns;
   units = both_units so_far.bytes more so_far.turns serves.turns so_far.units serves.units;
@@ -85,38 +93,41 @@ reached_more {more = more} so_far read some serves = record {
   stands = serves.stands;
   talk = serves.talk ∙ rw (talk_after-append, ← so_far.talk) refl;
   written = rw (text_of-append, ← so_far.talk) (Appends-trans _ _ _ _ _ so_far.written serves.written);
+  replied = replied-append (begins capacity) so_far.turns serves.turns so_far.replied (subst (λ (u : Talk). AreReplied u serves.turns) so_far.talk serves.replied);
   out = serves.out;
   many = let m = so_far.many in omega (arith, length-append so_far.bytes more);
 }
 
 -- a front of the text of some of the turns is a front of the text of the script
 in_part : (capacity : ℕ) (readable still held now : Option (List ℕ)) (bytes : List ℕ) (turns : List Turn) (front rest : List ℕ) → units_in turns ≡ units bytes
-    → Consumes readable still bytes → Appends held now front → front ++ rest ≡ text_of (begins capacity) turns → AnswersInPart readable still held now capacity
-in_part capacity readable still held now bytes turns front rest units_are read written whole =
+    → Consumes readable still bytes → Appends held now front → front ++ rest ≡ text_of (begins capacity) turns → AreReplied (begins capacity) turns
+    → AnswersInPart readable still held now capacity
+in_part capacity readable still held now bytes turns front rest units_are read written whole replied =
     let last = last_turns bytes in
     let all = turns ++ last in
     let all_units : units_in all ≡ units (bytes ++ 10 ∷ []) = both_units bytes (10 ∷ []) turns last units_are (fresh_turns-units bytes (10 ∷ [])) in
     record {
       bytes = bytes;
-      refused = refused_in all;
+      replies = replies_in all;
       front = front;
       rest = rest ++ text_of (talk_after (begins capacity) turns) last;
       read = read;
       written = written;
       whole = sym (append_assoc front rest _) ∙ ap (λ l. l ++ text_of (talk_after (begins capacity) turns) last) whole ∙ sym (text_of-append (begins capacity) turns last)
           ∙ ap (λ ts. text_of (begins capacity) ts) (sym (script_turns_is bytes all all_units));
+      replied = subst (λ (ts : List Turn). AreReplied (begins capacity) ts) (sym (script_turns_is bytes all all_units)) (with_last capacity bytes turns replied);
     }
 
 -- where no desk could be opened
 pub part_at_start : (capacity : ℕ) (readable held : Option (List ℕ)) → AnswersInPart readable readable held held capacity
-part_at_start capacity readable held = in_part capacity readable readable held held [] [] [] [] refl (Consumes-nil readable) (Appends-nil held) refl
+part_at_start capacity readable held = in_part capacity readable readable held held [] [] [] [] refl (Consumes-nil readable) (Appends-nil held) refl tt
 
 -- where a read fails, or too many came
 pub part_so_far : {capacity : ℕ} {readable still next held now : Option (List ℕ)} {state : State} {desk : Desk} {reads : ℕ}
     → Reached capacity readable still held now state desk reads → Keeps still next → AnswersInPart readable next held now capacity
 part_so_far {capacity = capacity} {readable = readable} {next = next} {held = held} {now = now} so_far kept =
     in_part capacity readable next held now so_far.bytes so_far.turns (text_of (begins capacity) so_far.turns) [] so_far.units
-    (Consumes-kept _ _ _ so_far.bytes so_far.read kept) so_far.written (append-nil _)
+    (Consumes-kept _ _ _ so_far.bytes so_far.read kept) so_far.written (append-nil _) so_far.replied
 
 -- where the session fails, or a write
 pub part_served : {capacity : ℕ} {readable still next held now then : Option (List ℕ)} {state : State} {desk : Desk} {reads : ℕ} {more : List ℕ}
@@ -127,6 +138,7 @@ part_served {capacity = capacity} {readable = readable} {next = next} {held = he
     (Consumes-trans _ _ _ so_far.bytes more so_far.read read)
     (Appends-trans _ _ _ _ _ so_far.written part.written)
     (append_assoc (text_of (begins capacity) so_far.turns) part.front part.rest ∙ rw (text_of-append, ← so_far.talk, part.whole) refl)
+    (replied-append (begins capacity) so_far.turns part.turns so_far.replied (subst (λ (u : Talk). AreReplied u part.turns) so_far.talk part.replied))
 
 -- the same at the end of the input, in the last line
 pub part_at_end : {capacity : ℕ} {readable still next held now then : Option (List ℕ)} {state : State} {desk : Desk} {reads : ℕ}
@@ -136,12 +148,14 @@ part_at_end {capacity = capacity} so_far read part =
     let all_units : units_in turns ≡ units (so_far.bytes ++ 10 ∷ []) = both_units so_far.bytes (10 ∷ []) so_far.turns part.turns so_far.units part.units in
     record {
       bytes = so_far.bytes;
-      refused = refused_in turns;
+      replies = replies_in turns;
       front = text_of (begins capacity) so_far.turns ++ part.front;
       rest = part.rest;
       read = rw append-nil at (Consumes-trans _ _ _ so_far.bytes [] so_far.read read);
       written = Appends-trans _ _ _ _ _ so_far.written part.written;
       whole = append_assoc (text_of (begins capacity) so_far.turns) part.front part.rest ∙ rw (script_turns_is so_far.bytes turns all_units, text_of-append, ← so_far.talk, part.whole) refl;
+      replied = subst (λ (ts : List Turn). AreReplied (begins capacity) ts) (sym (script_turns_is so_far.bytes turns all_units))
+          (replied-append (begins capacity) so_far.turns part.turns so_far.replied (subst (λ (u : Talk). AreReplied u part.turns) so_far.talk part.replied));
     }
 
 -- the end of the input, and the last line
@@ -153,9 +167,11 @@ whole_at_end {capacity = capacity} so_far read end serves =
     let all_units : units_in turns ≡ units (so_far.bytes ++ 10 ∷ []) = both_units so_far.bytes (10 ∷ []) so_far.turns serves.turns so_far.units serves.units in
     record {
       bytes = so_far.bytes;
-      refused = refused_in turns;
+      replies = replies_in turns;
       read = rw append-nil at (Consumes-trans _ _ _ so_far.bytes [] so_far.read read);
       written = rw (script_turns_is so_far.bytes turns all_units, text_of-append, ← so_far.talk) (Appends-trans _ _ _ _ _ so_far.written serves.written);
+      replied = subst (λ (ts : List Turn). AreReplied (begins capacity) ts) (sym (script_turns_is so_far.bytes turns all_units))
+          (replied-append (begins capacity) so_far.turns serves.turns so_far.replied (subst (λ (u : Talk). AreReplied u serves.turns) so_far.talk serves.replied));
       done = inl end;
     }
 
@@ -169,9 +185,10 @@ whole_at_quit {capacity = capacity} so_far quit =
     let over : (talk_after (begins capacity) so_far.turns).has_ended ≡ true = rw (← so_far.talk) quit in
     record {
       bytes = so_far.bytes;
-      refused = refused_in turns;
+      replies = replies_in turns;
       read = so_far.read;
       written = rw (script_turns_is so_far.bytes turns all_units, text_of-append, text_of-ended (talk_after (begins capacity) so_far.turns) last over, append-nil) so_far.written;
+      replied = subst (λ (ts : List Turn). AreReplied (begins capacity) ts) (sym (script_turns_is so_far.bytes turns all_units)) (with_last capacity so_far.bytes so_far.turns so_far.replied);
       done = inr (ap (λ ts. (talk_after (begins capacity) ts).has_ended) (script_turns_is so_far.bytes turns all_units) ∙ ap (λ (t : Talk). t.has_ended) (talk_after-append (begins capacity) so_far.turns last)
           ∙ talk_after-ended (talk_after (begins capacity) so_far.turns) last over);
     }
@@ -181,9 +198,9 @@ pub runs_on : {capacity : ℕ} {readable still held now : Option (List ℕ)} {st
     → Reached capacity readable still held now state desk reads → state.has_ended ≡ false → RunsOn reads readable still capacity
 runs_on {capacity = capacity} so_far goes = record {
   bytes = so_far.bytes;
-  refused = refused_in so_far.turns;
+  replies = replies_in so_far.turns;
   read = so_far.read;
   many = so_far.many;
-  open_still = ap (λ ts. (talk_after (begins capacity) ts).has_ended) (ap (λ us. marked us (refused_in so_far.turns)) (sym so_far.units) ∙ marked_again so_far.turns)
+  open_still = ap (λ ts. (talk_after (begins capacity) ts).has_ended) (ap (λ us. marked us (replies_in so_far.turns)) (sym so_far.units) ∙ marked_again so_far.turns)
       ∙ ap (λ (t : Talk). t.has_ended) (sym so_far.talk) ∙ goes;
 }

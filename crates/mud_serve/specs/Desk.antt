@@ -1,32 +1,42 @@
 -- A desk that nobody else uses: who is at it, and the changes that were accepted there.
-use Rattle.std.specs.Prelude.{ℕ, ◌+◌, Bool, true, false, nat_lt, not, if◌then◌else◌, List, [], ◌∷◌, ◌++◌, length, codes, decimal, Some}
+use Rattle.std.specs.Prelude.{◌≡◌, ℕ, ◌+◌, Bool, true, false, nat_lt, not, if◌then◌else◌, List, [], ◌∷◌, ◌++◌, length, codes, decimal, string_bytes, Some}
+use Rattle.std.specs.Option.{IsSomeAnd}
 use Rattle.mud_words.specs.Parse.{parsed}
 use Rattle.mud_world.specs.declared.change.Change.{Change}
 use Rattle.mud_world.specs.declared.change.Deed.{Deed}
 use Rattle.mud_world.specs.declared.change.Deed.TheVariants.{Player}
 use Rattle.mud_world.specs.State.{State}
 use Rattle.mud_world.specs.History.{world_of}
+use Rattle.mud_rules.specs.declared.verdict.View.TheVariants.{Quit}
+use Rattle.mud_rules.specs.declared.verdict.Journey.{Journey}
+use Rattle.mud_rules.specs.declared.verdict.Journey.TheVariants.{Route, Meet}
 use Rattle.mud_rules.specs.declared.verdict.Query.{Query}
-use Rattle.mud_rules.specs.declared.verdict.Query.TheVariants.{Quit}
+use Rattle.mud_rules.specs.declared.verdict.Query.TheVariants as query
 use Rattle.mud_rules.specs.declared.verdict.Verdict.{Verdict}
 use Rattle.mud_rules.specs.declared.verdict.Verdict.TheVariants.{Change as Changes, Ask, Become, Refused}
 use Rattle.mud_rules.specs.Table.{decision}
 use Rattle.mud_rules.specs.Replies.{reply_text, refusal_text, welcome_text}
 use Rattle.mud_rules.specs.Answers.{show_text}
+use Rattle.mud_chron.specs.Entry.{Accepted}
+use Rattle.mud_chron.specs.Text.{written_text}
+use Rattle.mud_chron.specs.Replay.{changes_of}
+use Rattle.mud_cert.specs.Text.{cert_text}
+use Rattle.mud_guide.specs.declared.answer.Answer.{Answer}
+use Rattle.mud_guide.specs.Answers.{IsRouteAnswer, IsMeetAnswer}
 
--- at most so many changes, those that were accepted, and the player
+-- at most so many entries, those that were accepted, and the player
 pub record Desk : Type 0 where
   pub capacity : ℕ
-  pub history : List Change
+  pub history : List Accepted
   pub player : ℕ
 
--- at first nothing is changed, and the wizard is there
+-- at first there is no entry, and the wizard is there
 abbrev pub opening : ℕ → Desk
 opening capacity = record { capacity = capacity; history = []; player = 1 }
 
--- the world after the changes that were accepted
+-- the world of the history
 abbrev pub world_at : Desk → State
-world_at desk = world_of desk.history
+world_at desk = world_of (changes_of desk.history)
 
 -- the version: how many changes were accepted
 abbrev pub version : Desk → ℕ
@@ -43,13 +53,34 @@ verdict desk line = decision (world_at desk) (Some desk.player) (parsed line)
 abbrev pub numbered : ℕ → List ℕ → List ℕ
 numbered v text = codes "[" ++ decimal v ++ codes "] " ++ text
 
+-- the guide's answer to a question about a journey
+abbrev pub IsGuided : Desk → Journey → Answer → Type 0
+IsGuided desk (Route to) answer = IsRouteAnswer (world_at desk) (version desk) desk.player to answer
+IsGuided desk (Meet party) answer = IsMeetAnswer (world_at desk) (version desk) party answer
+
+-- the text is that of the guide's answer
+abbrev pub IsTold : Desk → Journey → List ℕ → Type 0
+IsTold desk journey text = (answer : Answer) × IsGuided desk journey answer × (text ≡ string_bytes answer.text)
+
+-- the text is that of the certificate of the guide's answer; its last line has no end
+abbrev pub IsProof : Desk → Journey → List ℕ → Type 0
+IsProof desk journey text =
+    (answer : Answer) × IsGuided desk journey answer × IsSomeAnd answer.cert (λ c. text ++ codes "\n" ≡ codes "proof\n" ++ cert_text c)
+
+-- the text is the answer to a question; the last line of a history has no end
+abbrev pub IsAnswer : Desk → Query → List ℕ → Type 0
+IsAnswer desk (query.View view) text = text ≡ show_text (world_at desk) (Some desk.player) view
+IsAnswer desk (query.Journey journey) text = IsTold desk journey text
+IsAnswer desk (query.Proof journey) text = IsProof desk journey text
+IsAnswer desk query.History text = text ++ codes "\n" ≡ codes "history\n" ++ written_text desk.history
+
 -- what is replied
-abbrev pub replied : Desk → Verdict → List ℕ
-replied desk (Changes e) =
-    if is_full desk then codes "(history full)" else numbered (version desk + 1) (reply_text (world_at desk) e)
-replied desk (Become n) = numbered (version desk) (welcome_text n)
-replied desk (Refused f) = numbered (version desk) (refusal_text f)
-replied desk (Ask q) = numbered (version desk) (show_text (world_at desk) (Some desk.player) q)
+abbrev pub Replies : Desk → Verdict → List ℕ → Type 0
+Replies desk (Changes e) reply =
+    reply ≡ (if is_full desk then codes "(history full)" else numbered (version desk + 1) (reply_text (world_at desk) e))
+Replies desk (Become n) reply = reply ≡ numbered (version desk) (welcome_text n)
+Replies desk (Refused f) reply = reply ≡ numbered (version desk) (refusal_text f)
+Replies desk (Ask q) reply = (text : List ℕ) × IsAnswer desk q text × (reply ≡ numbered (version desk) text)
 
 -- the player after a change: a new player sits down where he came
 abbrev pub seated : ℕ → ℕ → Deed → ℕ
@@ -60,7 +91,7 @@ seated player actor deed = player
 abbrev pub accepted : Desk → Change → Desk
 accepted desk e = record {
   capacity = desk.capacity;
-  history = desk.history ++ e ∷ [];
+  history = desk.history ++ record { desk = 1; change = e } ∷ [];
   player = seated desk.player e.actor e.deed;
 }
 
@@ -72,7 +103,7 @@ settled desk (Refused f) = desk
 settled desk (Ask q) = desk
 
 abbrev pub is_quit : Query → Bool
-is_quit Quit = true
+is_quit (query.View Quit) = true
 is_quit q = false
 
 -- an answered `quit` is the last reply
@@ -83,8 +114,8 @@ is_last (Refused f) = false
 is_last (Ask q) = is_quit q
 
 -- the reply to a line, whether it is the last, and the desk after it
-abbrev pub reply_to : Desk → List ℕ → List ℕ
-reply_to desk line = replied desk (verdict desk line)
+abbrev pub IsReply : Desk → List ℕ → List ℕ → Type 0
+IsReply desk line reply = Replies desk (verdict desk line) reply
 
 abbrev pub ends : Desk → List ℕ → Bool
 ends desk line = is_last (verdict desk line)

@@ -5,7 +5,7 @@ use Rattle.mud_nvt.specs.Units.{Given, units}
 use Rattle.mud_nvt.specs.History.{StandsAfter}
 use Rattle.mud_serve.specs.State.{State}
 use Rattle.mud_serve.specs.Desk.{Desk}
-use Rattle.mud_serve.specs.Session.{Talk, Turn, talk_after, text_of}
+use Rattle.mud_serve.specs.Session.{Talk, Turn, talk_after, text_of, AreReplied}
 use Rattle.mud_serve.specs.Talk.{Acts, Says}
 
 abbrev pub talk_of : State → Desk → Talk
@@ -29,6 +29,7 @@ pub record Serves (earlier bytes : List ℕ) (old new : State) (old_desk new_des
   pub turns : List Turn
   pub units : units (earlier ++ bytes) ≡ units earlier ++ units_in turns
   pub talk : talk_of new new_desk ≡ talk_after (talk_of old old_desk) turns
+  pub replied : AreReplied (talk_of old old_desk) turns
   pub written : Appends held now_held (text_of (talk_of old old_desk) turns)
   pub out : new.out ≡ []
 
@@ -40,3 +41,4 @@ pub record ServesInPart (earlier bytes : List ℕ) (old : State) (old_desk : Des
   pub units : units (earlier ++ bytes) ≡ units earlier ++ units_in turns
   pub written : Appends held now_held front
   pub whole : front ++ rest ≡ text_of (talk_of old old_desk) turns
+  pub replied : AreReplied (talk_of old old_desk) turns

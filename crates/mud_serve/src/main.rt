@@ -1,6 +1,7 @@
 //! `mud_serve`: a server of text worlds.
 #![tactic(auto)]
 
+mod answers;
 mod command_line;
 mod door;
 mod script;

@@ -30,7 +30,8 @@ pub enum ScriptFault {
 
 const BUFFER_LEN: usize = 4096;
 
-/// Answers the lines of a reader at a desk of its own, up to the reader's end or to an answered
+/// Answers the lines of a reader at a desk of its own, whose history holds at most `capacity`
+/// entries, 1 to 65,536, up to the reader's end or to an answered
 /// `quit`. After a fault what was written is a front of the text of what was read. The runtime
 /// and the number of workers, 0 to 8, have no effect yet: they are for questions whose answers
 /// are searched for by several workers.
@@ -42,7 +43,8 @@ pub fn script<X: Threads + Wait, R: Read, W: Write>(
     capacity: u32,
     _workers: u32,
 ) -> Result<(), ScriptFault>
-    requires { source.old.reads ≡ 0 }
+    requires fresh { source.old.reads ≡ 0 }
+    requires capacity { capacity ≤ 65536 }
     ensures ok { OnOk result (Answers (R.remaining source.old.inner) (R.remaining source.new.inner)
         (W.contents writer.old) (W.contents writer.new) capacity) }
     ensures fault { OnErr result (AnswersInPart (R.remaining source.old.inner) (R.remaining source.new.inner)
@@ -63,7 +65,8 @@ fn answer_all<R: Read, W: Write>(
     writer: &mut W,
     capacity: u32,
 ) -> Result<(), ScriptFault>
-    requires { source.old.reads ≡ 0 }
+    requires fresh { source.old.reads ≡ 0 }
+    requires capacity { capacity ≤ 65536 }
     ensures ok { OnOk result (Answers (R.remaining source.old.inner) (R.remaining source.new.inner)
         (W.contents writer.old) (W.contents writer.new) capacity) }
     ensures fault { OnErr result (AnswersInPart (R.remaining source.old.inner) (R.remaining source.new.inner)

@@ -1,26 +1,33 @@
 //! A desk of one user, with a world of its own.
 
-ghost use Rattle.std.specs.Prelude.{false, ◌≡◌, ◌+◌, ◌<◌, ◌≤◌, ◌++◌, [], ◌∷◌, Some, None, IfOk, OnOk, OnErr, codes, decimal, length, string_bytes, if◌then◌else◌};
+ghost use Rattle.std.specs.Prelude.{false, ◌≡◌, ◌+◌, ◌<◌, ◌≤◌, ◌++◌, [], ◌∷◌, Some, None, IfOk, OnOk, OnErr, codes, decimal, length, string_bytes, IsTrue, if◌then◌else◌};
 ghost use Rattle.mud_world.specs.Legal.{refusal};
+ghost use Rattle.mud_world.specs.State.{is_player};
+ghost use Rattle.mud_rules.specs.Outcome.{IsJourney, IsQuestion};
 ghost use Rattle.mud_rules.specs.Replies.{reply_text, refusal_text, welcome_text};
 ghost use Rattle.mud_rules.specs.Answers.{show_text};
-ghost use Rattle.mud_serve.specs.Desk.{opening, world_at, version, is_full, numbered, replied, settled, seated, accepted, is_last, is_quit, reply_to, ends, desk_after};
+ghost use Rattle.mud_serve.specs.Desk.{opening, world_at, version, is_full, numbered, IsGuided, IsTold, IsProof, IsAnswer, Replies, settled, seated, accepted, is_quit, IsReply, ends, desk_after};
 
+use crate::answers::{history_answer, proof_answer};
 use crate::door::Reply;
-use mud_rules::{Query, Verdict, decide, refusal_text, reply_text, show, welcome_text};
+use mud_chron::Entry;
+use mud_guide::{Answer, meet_alone, route_alone};
+use mud_rules::{
+    Journey, Query, Verdict, View, decide, refusal_text, reply_text, show, welcome_text,
+};
 use mud_words::parse;
 use mud_world::{Change, Deed, World};
 use std::alloc::{AllocError, Global};
 use std::marker::Model;
 
-/// A desk that nobody else uses: its player, its world, and the changes that led there. A
-/// contract sees the changes alone, for the world is that of the changes.
+/// A desk that nobody else uses: its player, its world, and the entries that led there, all of desk
+/// 1. A contract sees the entries and the player alone, for the world is that of the entries.
 #[derive(Drop)]
 pub struct Solo {
     alloc: Global,
     capacity: u32,
     world: World,
-    history: Vec<Change>,
+    history: Vec<Entry>,
     player: u32,
 }
 
@@ -42,8 +49,10 @@ impl Model for Solo {
 }
 
 impl Solo {
-    /// The desk at first: the opening world, no change, and the wizard, #1.
+    /// The desk at first: the opening world, no entry, and the wizard, #1. The history holds at most
+    /// `capacity` entries, up to 65,536.
     pub fn open(alloc: Global, capacity: u32) -> Result<Solo, AllocError>
+        requires { capacity ≤ 65536 }
         ensures { IfOk result (λ solo. solo ≡ opening capacity) }
     {
         let world = World::opening(alloc)?;
@@ -58,7 +67,7 @@ impl Solo {
 
     /// Answers a line. Where memory is refused the desk stays as it was.
     pub fn answer(&mut self, line: &str) -> Result<Reply, AllocError>
-        ensures text { IfOk result (λ reply. string_bytes reply.text ≡ reply_to self.old line.now) }
+        ensures text { IfOk result (λ reply. IsReply self.old line.now (string_bytes reply.text)) }
         ensures last { IfOk result (λ reply. reply.is_last ≡ ends self.old line.now) }
         ensures desk { OnOk result (self.new ≡ desk_after self.old line.now) }
         ensures err { OnErr result (self.new ≡ self.old) }
@@ -68,7 +77,7 @@ impl Solo {
             Verdict::Change(change) => self.accept(change),
             Verdict::Become(player) => self.seat(player),
             Verdict::Refused(refusal) => self.reply(refusal_text(refusal), false),
-            Verdict::Ask(query) => self.show(&query),
+            Verdict::Ask(query) => self.explain(&query),
         }
     }
 
@@ -89,7 +98,7 @@ impl Solo {
     // The reply of a legal change, which is made unless the history is full.
     fn accept(&mut self, change: Change) -> Result<Reply, AllocError>
         requires { refusal (world_at self.old) change ≡ None }
-        ensures text { IfOk result (λ reply. string_bytes reply.text ≡ replied self.old (Verdict.Change change)) }
+        ensures text { IfOk result (λ reply. Replies self.old (Verdict.Change change) (string_bytes reply.text)) }
         ensures last { IfOk result (λ reply. reply.is_last ≡ false) }
         ensures desk { OnOk result (self.new ≡ settled self.old (Verdict.Change change)) }
         ensures err { OnErr result (self.new ≡ self.old) }
@@ -117,15 +126,18 @@ impl Solo {
         ensures err { OnErr result (self.new ≡ self.old) }
     {
         self.history.reserve(1)?;
-        self.world.apply(&change)?;
-        self.player = seated(self.player, &change);
-        self.history.push(change).unwrap();
+        let _sound = self.world.next_number();
+        let entry = Entry::new(1, change);
+        self.world.apply(entry.change())?;
+        self.player = seated(self.player, entry.change());
+        self.history.push(entry).unwrap();
         Ok(())
     }
 
     // A player who has the name sits down.
     fn seat(&mut self, player: u32) -> Result<Reply, AllocError>
-        ensures text { IfOk result (λ reply. string_bytes reply.text ≡ replied self.old (Verdict.Become player)) }
+        requires { IsTrue (is_player (world_at self.old) player) }
+        ensures text { IfOk result (λ reply. Replies self.old (Verdict.Become player) (string_bytes reply.text)) }
         ensures last { IfOk result (λ reply. reply.is_last ≡ false) }
         ensures desk { OnOk result (self.new ≡ settled self.old (Verdict.Become player)) }
         ensures err { OnErr result (self.new ≡ self.old) }
@@ -150,13 +162,62 @@ impl Solo {
         })
     }
 
-    // The answer to a question.
-    fn show(&self, query: &Query) -> Result<Reply, AllocError>
-        ensures text { IfOk result (λ reply. string_bytes reply.text ≡ replied self.now (Verdict.Ask query.now)) }
+    // The reply to a question.
+    fn explain(&self, query: &Query) -> Result<Reply, AllocError>
+        requires { IsQuestion (world_at self.now) query.now }
+        ensures text { IfOk result (λ reply. Replies self.now (Verdict.Ask query.now) (string_bytes reply.text)) }
         ensures last { IfOk result (λ reply. reply.is_last ≡ is_quit query.now) }
     {
-        let text = show(self.alloc, &self.world, Some(self.player), query)?;
-        self.reply(&text, matches!(query, Query::Quit))
+        let text = self.answer_to(query)?;
+        self.reply(&text, matches!(query, Query::View(View::Quit)))
+    }
+
+    // The answer to a question.
+    fn answer_to(&self, query: &Query) -> Result<String, AllocError>
+        requires { IsQuestion (world_at self.now) query.now }
+        ensures { IfOk result (λ text. IsAnswer self.now query.now (string_bytes text)) }
+    {
+        match query {
+            Query::View(view) => show(self.alloc, &self.world, Some(self.player), view),
+            Query::Journey(journey) => self.tell(journey),
+            Query::Proof(journey) => self.prove(journey),
+            Query::History => history_answer(self.alloc, &self.history),
+        }
+    }
+
+    // The guide's answer to a question about a journey.
+    fn guide(&self, journey: &Journey) -> Result<Answer, AllocError>
+        requires { IsJourney (world_at self.now) journey.now }
+        ensures { IfOk result (IsGuided self.now journey.now) }
+    {
+        let version = self.version();
+        match journey {
+            Journey::Route { to } => {
+                route_alone(self.alloc, &self.world, version, self.player, *to)
+            }
+            Journey::Meet(party) => meet_alone(self.alloc, &self.world, version, party.members()),
+        }
+    }
+
+    // The text of that answer.
+    fn tell(&self, journey: &Journey) -> Result<String, AllocError>
+        requires { IsJourney (world_at self.now) journey.now }
+        ensures { IfOk result (λ text. IsTold self.now journey.now (string_bytes text)) }
+    {
+        let answer = self.guide(journey)?;
+        Ok(answer.text)
+    }
+
+    // The lines of the certificate of that answer.
+    fn prove(&self, journey: &Journey) -> Result<String, AllocError>
+        requires { IsJourney (world_at self.now) journey.now }
+        ensures { IfOk result (λ text. IsProof self.now journey.now (string_bytes text)) }
+    {
+        let answer = self.guide(journey)?;
+        match &answer.cert {
+            Some(cert) => proof_answer(self.alloc, cert),
+            None => unreachable!(),
+        }
     }
 }
 
@@ -167,7 +228,7 @@ fn numbered(alloc: Global, version: u32, text: &str) -> Result<String, AllocErro
     Ok(format!(in alloc; "[{version}] {text}")?)
 }
 
-// Who is at the desk after a change.
+// Who is at the desk after a change: a new player sits down where he came.
 fn seated(player: u32, change: &Change) -> u32
     ensures { result ≡ seated player change.now.actor change.now.deed }
 {

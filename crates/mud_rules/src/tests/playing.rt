@@ -1,6 +1,6 @@
 //! Lines typed one after the other, and what each is answered.
 
-use crate::{Verdict, decide, heard, refusal_text, reply_text, show, welcome_text};
+use crate::{Journey, Query, Verdict, decide, heard, refusal_text, reply_text, show, welcome_text};
 use mud_words::parse;
 use mud_world::{Change, Deed, World};
 use std::alloc::{AllocError, Global};
@@ -20,6 +20,33 @@ pub(crate) fn opening(alloc: Global) -> Result<Play, AllocError> {
     })
 }
 
+// A journey in words of the tests' own.
+fn journey_text(alloc: Global, journey: &Journey) -> Result<String, AllocError> {
+    match journey {
+        Journey::Route { to } => Ok(format!(in alloc; "route to #{to}")?),
+        Journey::Meet(party) => {
+            let mut text = String::from_str(alloc, "meet")?;
+            for member in party.members() {
+                text.push_str(&format!(in alloc; " #{member}")?)?;
+            }
+            Ok(text)
+        }
+    }
+}
+
+// What a question is answered; of one that the world alone does not answer, what is asked.
+fn asked(alloc: Global, play: &Play, query: &Query) -> Result<String, AllocError> {
+    match query {
+        Query::View(view) => show(alloc, &play.world, play.player, view),
+        Query::Journey(journey) => journey_text(alloc, journey),
+        Query::Proof(journey) => {
+            let text = journey_text(alloc, journey)?;
+            Ok(format!(in alloc; "proof of {text}")?)
+        }
+        Query::History => String::from_str(alloc, "history"),
+    }
+}
+
 /// What a line is answered; a change is done.
 pub(crate) fn answer(alloc: Global, play: &mut Play, line: &str) -> Result<String, AllocError> {
     let parsed = parse(alloc, line)?;
@@ -32,7 +59,7 @@ pub(crate) fn answer(alloc: Global, play: &mut Play, line: &str) -> Result<Strin
             }
             Ok(text)
         }
-        Verdict::Ask(query) => show(alloc, &play.world, play.player, &query),
+        Verdict::Ask(query) => asked(alloc, play, &query),
         Verdict::Become(player) => {
             play.player = Some(player);
             welcome_text(alloc, player)

@@ -308,6 +308,10 @@ connect a,b => That text is not allowed.
 quit => bye
 QUIT => bye
 quit now => I couldn't understand that.
+route to here => I couldn't understand that.
+meet #1, Wizard => I couldn't understand that.
+proof route to here => I couldn't understand that.
+@history => I couldn't understand that.
 connect Bob => welcome #2
 look => The Hall #0 /   contents Wizard #1
 "#;

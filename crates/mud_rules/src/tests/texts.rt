@@ -1,6 +1,6 @@
 //! Texts that no line of the other tests gives.
 
-use crate::{Query, Refusal, refusal_text, show, welcome_text};
+use crate::{Refusal, View, refusal_text, show, welcome_text};
 use mud_world::World;
 use std::test::Fail;
 
@@ -34,13 +34,13 @@ fn each_refusal_has_its_text(rt: HostRuntime) -> Result<(), Fail> {
 #[test]
 fn questions_are_shown_to_guests_too(rt: HostRuntime) -> Result<(), Fail> {
     let world = World::opening(rt.alloc())?;
-    for (query, want) in [
-        (Query::Quit, "bye"),
-        (Query::Version, "version"),
-        (Query::LookAt(0), "The Hall #0\n  contents Wizard #1"),
-        (Query::KeyOf(0), "key of #0 is nothing"),
+    for (view, want) in [
+        (View::Quit, "bye"),
+        (View::Version, "version"),
+        (View::LookAt(0), "The Hall #0\n  contents Wizard #1"),
+        (View::KeyOf(0), "key of #0 is nothing"),
     ] {
-        let text = show(rt.alloc(), &world, None, &query)?;
+        let text = show(rt.alloc(), &world, None, &view)?;
         assert_eq!(rt; text.as_str(), want);
     }
     assert_eq!(rt; welcome_text(rt.alloc(), 7)?.as_str(), "welcome #7");

@@ -1,5 +1,5 @@
-use Rattle.std.proofs.Common.{◌≡◌, ℕ, Bool, false, cond, List, [], ◌∷◌, ◌++◌, Option, Some, None, refl, sym, ◌∙◌, ap}
-use Rattle.std.specs.Prelude.{find, ◌||◌}
+use Rattle.std.proofs.Common.{◌≡◌, ℕ, Bool, false, cond, List, [], ◌∷◌, ◌++◌, Some, refl, sym, ◌∙◌, ap}
+use Rattle.std.specs.Prelude.{find}
 use Rattle.std.specs.Option.{option_map_or}
 use Rattle.mud_world.specs.declared.change.Change.{Change}
 use Rattle.mud_world.specs.declared.change.Deed.{Deed}
@@ -10,8 +10,8 @@ use Rattle.mud_world.specs.Refusals.{lesser}
 use Rattle.mud_world.specs.State.{State}
 use Rattle.mud_world.specs.Legal.{fails, refusal, refusals}
 use Rattle.mud_rules.specs.declared.verdict.Verdict.TheVariants.{Change as Changes, Refused}
-use Rattle.mud_rules.specs.Laws.{all_refusals, is_own}
-use Rattle.mud_rules.proofs.Least.{InOrder, find-own, find-append_miss}
+use Rattle.mud_rules.specs.Laws.{all_refusals}
+use Rattle.mud_rules.proofs.Least.{lesser_first, find-append_miss}
 use Rattle.mud_rules.proofs.laws.one_list.Goals as goal
 
 -- three refusals are of lines alone
@@ -41,30 +41,6 @@ all_or_some p one three eighteen =
     sym (ap (λ b. cond b (Some NotUnderstood) (find p (NoSuch ∷ Ambiguous ∷ changes_alone ++ PartyBad ∷ []))) one
     ∙ ap (λ b. cond (p NoSuch) (Some NoSuch) (cond b (Some Ambiguous) (find p (changes_alone ++ PartyBad ∷ [])))) three
     ∙ ap (λ r. cond (p NoSuch) (Some NoSuch) r) (find-append_miss p changes_alone PartyBad eighteen))
-
-in_order : (own : Refusal) → InOrder own all_refusals
-in_order NotUnderstood = (refl, refl)
-in_order NoSuch = (refl, refl)
-in_order Ambiguous = (refl, refl)
-in_order WrongKind = (refl, refl)
-in_order NotHere = (refl, refl)
-in_order Denied = (refl, refl)
-in_order BadName = (refl, refl)
-in_order NameTaken = (refl, refl)
-in_order BadKey = (refl, refl)
-in_order KeyNesting = (refl, refl)
-in_order BadCost = (refl, refl)
-in_order RecursiveMove = (refl, refl)
-in_order LockedExit = (refl, refl)
-in_order LockedRoom = (refl, refl)
-in_order LockedThing = (refl, refl)
-in_order InUse = (refl, refl)
-in_order WorldFull = (refl, refl)
-in_order PartyBad = (refl, refl)
-
-lesser_first : (own : Option Refusal) (p : Refusal → Bool) → lesser own (find p all_refusals) ≡ find (λ f. is_own own f || p f) all_refusals
-lesser_first None p = refl
-lesser_first (Some own) p = find-own own p all_refusals (in_order own)
 
 first_of_all : (w : State) (e : Change) → refusal w e ≡ find (fails w e) all_refusals
 unfolding refusal

@@ -12,7 +12,7 @@ returns-in-Err-clause-fault g c = part_at_start c.args.capacity _ _
 pub loop-reads-init : goal.loop-reads-init
 loop-reads-init g c = record {
   open_still = c.new-session.ensures.open_still;
-  reads = c.requires;
+  reads = c.requires.fresh;
   reached = reached_none c.args.capacity _ _ _ _ c.new-session.ensures.terminal c.new-session.ensures.open_still c.new-session.ensures.out c.in-Ok.ensures;
 }
 

@@ -1,0 +1,140 @@
+//! Routes and meetings.
+
+ghost use Rattle.std.specs.Prelude.{◌≡◌, IfOk, IsTrue};
+ghost use Rattle.mud_world.specs.State.{is_room};
+ghost use Rattle.mud_rules.specs.Party.{all_distinct, is_party};
+ghost use Rattle.mud_rules.specs.Outcome.{IsJourney};
+ghost use Rattle.mud_rules.specs.Journeys.{room_meant, route, player_meant, players_meant, members, least_refusal, unfit, meeting, meet};
+
+use crate::matching::{player_match, room_match};
+use crate::outcome::unmatched;
+use crate::{Journey, Party};
+use mud_key::parts;
+use mud_world::{Refusal, World, lesser, refused_if};
+use std::alloc::{AllocError, Global};
+
+// The room that a text means.
+fn room_meant(world: &World, player: u32, text: &str) -> Result<u32, Refusal>
+    ensures decision { result ≡ room_meant world.now player text.now }
+    ensures room { IfOk result (λ room. IsTrue (is_room world.now room)) }
+{
+    match room_match(world, player, text) {
+        Ok(room) if world.is_room(room) => Ok(room),
+        Ok(_) => Err(Refusal::WrongKind),
+        Err(fault) => Err(unmatched(fault)),
+    }
+}
+
+pub(crate) fn route(world: &World, player: u32, text: &str) -> Result<Journey, Refusal>
+    ensures decision { result ≡ route world.now player text.now }
+    ensures lawful { IfOk result (IsJourney world.now) }
+{
+    let to = room_meant(world, player, text)?;
+    Ok(Journey::Route { to })
+}
+
+// The player that a text means.
+fn player_meant(world: &World, player: u32, text: &str) -> Result<u32, Refusal>
+    ensures { result ≡ player_meant world.now player text.now }
+{
+    match player_match(world, player, text) {
+        Ok(member) if world.is_player(member) => Ok(member),
+        Ok(_) => Err(Refusal::WrongKind),
+        Err(fault) => Err(unmatched(fault)),
+    }
+}
+
+// The players that the parts of a text mean.
+fn players_meant(
+    alloc: Global,
+    world: &World,
+    player: u32,
+    text: &str,
+) -> Result<Vec<Result<u32, Refusal>>, AllocError>
+    ensures { IfOk result (λ found. found.items ≡ players_meant world.now player text.now) }
+{
+    let parts = parts(alloc, text)?;
+    let mut found = Vec::new(alloc);
+    for part in &parts {
+        found.push(player_meant(world, player, part))?;
+    }
+    Ok(found)
+}
+
+// Those who were found.
+fn members(alloc: Global, found: &[Result<u32, Refusal>]) -> Result<Vec<u32>, AllocError>
+    ensures { IfOk result (λ party. party.items ≡ members found.now) }
+{
+    let mut party = Vec::new(alloc);
+    for one in found {
+        if let Ok(member) = one {
+            party.push(*member)?;
+        }
+    }
+    Ok(party)
+}
+
+// Of all parts the least refusal.
+fn least_refusal(found: &[Result<u32, Refusal>]) -> Option<Refusal>
+    ensures { result ≡ least_refusal found.now }
+{
+    let mut least = None;
+    for one in found {
+        match one {
+            Ok(_) => {}
+            Err(refusal) => least = lesser(least, Some(*refusal)),
+        }
+    }
+    least
+}
+
+fn all_distinct(party: &[u32]) -> bool
+    ensures { result ≡ all_distinct party.now }
+{
+    for (index, member) in party.iter().enumerate() {
+        if party[index + 1..].contains(member) {
+            return false;
+        }
+    }
+    true
+}
+
+// Whether it is 2 to 8, and nobody twice.
+fn is_party(party: &[u32]) -> bool
+    ensures { result ≡ is_party party.now }
+{
+    2 <= party.len() && party.len() <= 8 && all_distinct(party)
+}
+
+// The refusal of those who are no party.
+fn unfit(party: &[u32]) -> Option<Refusal>
+    ensures { result ≡ unfit party.now }
+{
+    refused_if(!is_party(party), Refusal::PartyBad)
+}
+
+fn meeting(
+    alloc: Global,
+    found: &[Result<u32, Refusal>],
+) -> Result<Result<Journey, Refusal>, AllocError>
+    ensures { IfOk result (λ journey. journey ≡ meeting found.now) }
+{
+    let party = members(alloc, found)?;
+    match lesser(unfit(&party), least_refusal(found)) {
+        Some(refusal) => Ok(Err(refusal)),
+        None => Ok(Ok(Journey::Meet(Party::of(party)))),
+    }
+}
+
+pub(crate) fn meet(
+    alloc: Global,
+    world: &World,
+    player: u32,
+    text: &str,
+) -> Result<Result<Journey, Refusal>, AllocError>
+    ensures decision { IfOk result (λ journey. journey ≡ meet world.now player text.now) }
+    ensures lawful { IfOk result (λ journey. IfOk journey (IsJourney world.now)) }
+{
+    let found = players_meant(alloc, world, player, text)?;
+    meeting(alloc, &found)
+}

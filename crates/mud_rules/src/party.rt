@@ -1,0 +1,43 @@
+//! Who meets.
+
+ghost use Rattle.std.specs.Prelude.{◌≡◌};
+ghost use Rattle.mud_rules.specs.Party.{IsParty};
+
+use std::marker::Model;
+
+/// The players who are to meet, by their numbers: 2 to 8, none of them twice, in the order given
+/// (this project's profile). A contract sees the list of the numbers.
+#[derive(Drop)]
+pub struct Party {
+    members: Vec<u32>,
+}
+
+impl Model for Party {
+    ghost use Rattle.std.specs.Prelude.{ℕ, List};
+
+    ghost Value = { List ℕ };
+
+    ghost view = { λ a. a.members.items };
+
+    ghost use Rattle.mud_rules.specs.Party.{IsParty};
+
+    ghost invariant = { λ a. IsParty a.members.items };
+}
+
+impl Party {
+    // The party of these players.
+    pub(crate) fn of(members: Vec<u32>) -> Party
+        requires { IsParty members.items }
+        ensures { result ≡ members.items }
+    {
+        Party { members }
+    }
+
+    /// The numbers of the players, in the order given.
+    pub fn members(&self) -> &[u32]
+        ensures members { result.now ≡ self.now }
+        ensures party { IsParty self.now }
+    {
+        self.members.as_slice()
+    }
+}

@@ -37,14 +37,14 @@ first-alone w (b ∷ before) (o ∷ others) e d behind rest same legal fair bad 
     let made = stepped-legal w b legal.0 in
     let done = stepped-legal w o fair.0 in
     let one = first-alone (after w b) before others e d behind rest tail legal.1
-      (subst (λ c. AreLegalFrom (after w c) others) (sym head) fair.1)
-      (λ h. bad (ap (λ v. refusal (world_from v before) e) made ∙ h))
-      (λ h. worse (ap (λ v. refusal (world_from v others) d) (done ∙ ap (after w) (sym head)) ∙ h)) in
+    (subst (λ c. AreLegalFrom (after w c) others) (sym head) fair.1)
+    (λ h. bad (ap (λ v. refusal (world_from v before) e) made ∙ h))
+    (λ h. worse (ap (λ v. refusal (world_from v others) d) (done ∙ ap (after w) (sym head)) ∙ h)) in
     ap suc one
 
 -- the first that isn't legal is one
 pub first-once : (changes : List Change) (m n : ℕ) → IsFirstIllegal changes m → IsFirstIllegal changes n → m ≡ n
 first-once changes m n first other =
     let same = first-alone opening_state first.before other.before first.change other.change first.behind other.behind
-      (sym first.parts ∙ other.parts) first.legal other.legal first.illegal other.illegal in
+    (sym first.parts ∙ other.parts) first.legal other.legal first.illegal other.illegal in
     first.number ∙ ap (λ k. k + 1) same ∙ sym other.number

@@ -1,5 +1,7 @@
 //! Scripts over readers that give little or fail, and writers that fail.
 
+ghost use Rattle.std.specs.Prelude.{◌≤◌};
+
 use crate::script::{ScriptFault, script};
 use crate::source::Source;
 use std::alloc::Global;
@@ -82,7 +84,9 @@ fn answered<X: Threads + Wait>(
     alloc: Global,
     lines: &[u8],
     capacity: u32,
-) -> Result<Vec<u8>, ScriptFault> {
+) -> Result<Vec<u8>, ScriptFault>
+    requires { capacity ≤ 65536 }
+{
     let mut out = Vec::new(alloc);
     let mut source = Source::new(Dribble {
         text: lines,

@@ -198,13 +198,13 @@ fn histories_that_cannot_be_read(rt: HostRuntime) -> Result<(), Fail> {
 fn proofs_that_are_cut(rt: HostRuntime) -> Result<(), Fail> {
     let alloc = rt.alloc();
     let bytes = PROOF.as_bytes();
-    let mut line = 1;
+    let mut line = 1_usize;
     for (n, byte) in bytes.iter().enumerate() {
         let outcome = verdict(alloc, HISTORY.as_bytes(), &bytes[..n])?;
         let text = format!(in alloc; "unreadable: proof line {line}")?;
         assert_eq!(rt; outcome.text.as_str(), text.as_str());
         if *byte == b'\n' {
-            line = (line + 1).min(9);
+            line = line.wrapping_add(1);
         }
     }
     let longer = format!(in alloc; "{PROOF}end\n")?;

@@ -201,6 +201,8 @@ runs_on {capacity = capacity} so_far goes = record {
   replies = replies_in so_far.turns;
   read = so_far.read;
   many = so_far.many;
+  replied = subst (λ (ts : List Turn). AreReplied (begins capacity) ts)
+      (sym (ap (λ us. marked us (replies_in so_far.turns)) (sym so_far.units) ∙ marked_again so_far.turns)) so_far.replied;
   open_still = ap (λ ts. (talk_after (begins capacity) ts).has_ended) (ap (λ us. marked us (replies_in so_far.turns)) (sym so_far.units) ∙ marked_again so_far.turns)
       ∙ ap (λ (t : Talk). t.has_ended) (sym so_far.talk) ∙ goes;
 }

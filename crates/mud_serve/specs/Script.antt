@@ -57,4 +57,5 @@ pub record RunsOn (reads : ℕ) (readable still_readable : Option (List ℕ)) (c
   pub replies : List (Option (List ℕ))
   pub read : Consumes readable still_readable bytes
   pub many : reads ≤ length bytes
+  pub replied : AreReplied (begins capacity) (marked (units bytes) replies)
   pub open_still : (talk_after (begins capacity) (marked (units bytes) replies)).has_ended ≡ false

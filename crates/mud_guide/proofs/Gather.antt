@@ -149,7 +149,7 @@ goers w ts = map (goer w) ts
 
 module _ (w : State) (ts : List Knowledge) (labels : List (List (Option Label))) (least : AreLeast w ts labels) where
   abbrev nobody : Knowledge
-  nobody = record { player = 0; place = 0; opened = [] }
+  nobody = record { player = 0; place = 0; opened = []; roads = [] }
 
   abbrev member : ℕ → Knowledge
   member m = get_or ts m nobody

@@ -101,7 +101,7 @@ pub record IsParty (w : State) (to : Option ℕ) (ts : List Knowledge) (js : Lis
   pub listed : AreListed labels w.next js es
 
 abbrev pub nobody : Knowledge
-nobody = record { player = 0; place = 0; opened = [] }
+nobody = record { player = 0; place = 0; opened = []; roads = [] }
 
 abbrev pub nowhere : Journey
 nowhere = record { player = 0; from = 0; way = None }

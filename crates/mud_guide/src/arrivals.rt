@@ -35,15 +35,8 @@ pub(crate) fn last_steps(
     let mut table = vec![in alloc; None; next as usize]?;
     for room in 0..next {
         if let Some(label) = labels.get(member, room) {
-            let steps = traveller.leave(alloc, world, room)?;
-            follow(
-                labels,
-                member,
-                room,
-                label,
-                steps.as_slice(),
-                table.as_mut_slice(),
-            );
+            let steps = traveller.steps_from(room);
+            follow(labels, member, room, label, steps, table.as_mut_slice());
         }
     }
     Ok(table)

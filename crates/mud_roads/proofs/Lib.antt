@@ -1,6 +1,7 @@
 pub mod Bounds
 pub mod Routes
-pub mod Opened
+pub mod Rows
 pub mod Roads
+pub mod Opened
 pub mod Walking
 pub mod Single

@@ -1,5 +1,5 @@
 -- What a traveller knows of each number.
-use Rattle.std.proofs.Common.{◌≡◌, ℕ, ◌<◌, ◌≤◌, ◌⊎◌, inl, inr, false, Option, None, Some, map, get_or, refl, sym, ◌∙◌, arith}
+use Rattle.std.proofs.Common.{◌≡◌, ℕ, ◌<◌, ◌≤◌, ◌⊎◌, inl, inr, false, [], Option, None, Some, map, get_or, refl, sym, ◌∙◌, arith}
 use Rattle.std.specs.List.{range_with_len}
 use Rattle.std.proofs.lemmas.Bool.{cases_lt}
 use Rattle.std.proofs.lemmas.List.{get_or_past}
@@ -8,6 +8,8 @@ use Rattle.mud_world.specs.declared.record.Record.{Record}
 use Rattle.mud_world.specs.State.{State, record_at, unlocked}
 use Rattle.mud_world.specs.Sound.{IsSound}
 use Rattle.mud_world.proofs.Records.{in_bounds}
+use Rattle.mud_roads.specs.Open.{roads_of}
+use Rattle.mud_roads.proofs.Roads.{no-roads-past}
 
 -- a number that was never given has no record
 pub nothing-past : (w : State) → IsSound w → (n : ℕ) → w.next ≤ n → record_at w n ≡ None
@@ -30,3 +32,13 @@ opened-all w sound p n = go (cases_lt n w.next)
     go (inr past) =
         get_or_past (map (unlocked w p) (range_with_len 0 w.next)) n false (let size = length-map-range_with_len (unlocked w p) 0 w.next in omega (arith, size))
         ∙ sym (locked-past w sound p n past)
+
+-- the list of a player's roads, up to the next number, answers for every number
+pub roads-all : (w : State) → IsSound w → (p room : ℕ) → get_or (map (roads_of w p) (range_with_len 0 w.next)) room [] ≡ roads_of w p room
+roads-all w sound p room = go (cases_lt room w.next)
+  where
+    go : (room < w.next) ⊎ (w.next ≤ room) → get_or (map (roads_of w p) (range_with_len 0 w.next)) room [] ≡ roads_of w p room
+    go (inl inside) = get_or-map-range_with_len (roads_of w p) 0 w.next room room [] inside (omega arith)
+    go (inr past) =
+        get_or_past (map (roads_of w p) (range_with_len 0 w.next)) room [] (let size = length-map-range_with_len (roads_of w p) 0 w.next in omega (arith, size))
+        ∙ sym (no-roads-past w sound p room past)

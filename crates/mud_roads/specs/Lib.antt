@@ -1,4 +1,5 @@
 pub mod Walks
 pub mod Labels
 pub mod Open
+pub mod Tables
 pub mod Laws

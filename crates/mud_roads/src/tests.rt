@@ -126,6 +126,27 @@ fn the_way_to_the_library(rt: HostRuntime) -> Result<(), Fail> {
 }
 
 #[test]
+fn the_steps_that_he_knows(rt: HostRuntime) -> Result<(), Fail> {
+    let alloc = rt.alloc();
+    let mut world = library(alloc)?;
+    assert!(rt; dig_exit(&mut world, alloc, 2)?);
+    assert!(rt; locked(&mut world, alloc, 4, "!me", 1)?);
+    if world.is_player(1) {
+        let traveller = Traveller::of(alloc, &world, 1)?;
+        assert_eq!(rt;
+            traveller.steps_from(0),
+            [step(3, 2, 1), step(5, 2, 1)].as_slice()
+        );
+        for number in [1, 2, 3, 5, 6, 8192] {
+            assert!(rt; traveller.steps_from(number).is_empty(), "{number}");
+        }
+    } else {
+        assert!(rt; false);
+    }
+    Ok(())
+}
+
+#[test]
 fn where_a_traveller_stands(rt: HostRuntime) -> Result<(), Fail> {
     let alloc = rt.alloc();
     let mut world = library(alloc)?;

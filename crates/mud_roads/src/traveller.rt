@@ -1,23 +1,24 @@
 //! A player of a world, and what is open to him.
 
-ghost use Rattle.std.specs.Prelude.{◌≡◌, ℕ, IfOk, IsTrue, slice_index_or, false};
-ghost use Rattle.std.specs.List.{filter_map};
-ghost use Rattle.mud_world.specs.State.{is_player, unlocked};
-ghost use Rattle.mud_roads.specs.Open.{passable, open_step, roads_of, IsTraveller};
+ghost use Rattle.std.specs.Prelude.{◌≡◌, ℕ, [], IfOk, IsTrue, slice_index_or};
+ghost use Rattle.mud_world.specs.State.{is_player};
+ghost use Rattle.mud_roads.specs.Open.{passable, roads_of, IsTraveller};
 
 use crate::Step;
+use crate::access::Access;
+use crate::table::Table;
 use mud_world::World;
 use std::alloc::{AllocError, Global};
 use std::marker::Model;
 
-/// A player of a world, with where he stands and all that is unlocked for him. It is of the world
-/// that it was made from and does not follow later changes. Each key of the world is judged once,
-/// when the traveller is made (this project's profile).
+/// A player of a world, with where he stands and all that is open to him there. He is of the world
+/// that he was made from and does not follow later changes. Each key of the world is judged once,
+/// and each exit looked at once, when the traveller is made (this project's profile).
 #[derive(Drop)]
 pub struct Traveller {
-    player: u32,
+    access: Access,
     place: u32,
-    opened: Vec<bool>,
+    roads: Table,
 }
 
 impl Model for Traveller {
@@ -25,20 +26,7 @@ impl Model for Traveller {
 
     ghost Value = { Knowledge };
 
-    ghost view = { λ t. record { player = t.player; place = t.place; opened = t.opened.items } };
-}
-
-// Whether each object is unlocked for the player, by number.
-fn unlocked_for(alloc: Global, world: &World, player: u32) -> Result<Vec<bool>, AllocError>
-    ensures { IfOk result (λ opened. (n : ℕ) → slice_index_or opened.items n false ≡ unlocked world.now player n) }
-{
-    let holding = world.carried(player)?;
-    let count = world.next_number();
-    let mut opened = Vec::with_capacity(alloc, count as usize)?;
-    for number in 0..count {
-        opened.push(world.unlocked(&holding, number))?;
-    }
-    Ok(opened)
+    ghost view = { λ t. record { player = t.access.player; place = t.place; opened = t.access.opened.items; roads = t.roads } };
 }
 
 impl Traveller {
@@ -48,12 +36,13 @@ impl Traveller {
         ensures traveller { IfOk result (IsTraveller world.now) }
         ensures player { IfOk result (λ t. t.player ≡ player) }
     {
-        let opened = unlocked_for(alloc, world, player)?;
+        let access = Access::of(alloc, world, player)?;
+        let roads = access.roads(alloc, world)?;
         match world.place(player) {
             Some(place) => Ok(Traveller {
-                player,
+                access,
                 place,
-                opened,
+                roads,
             }),
             None => unreachable!(),
         }
@@ -63,7 +52,7 @@ impl Traveller {
     pub fn player(&self) -> u32
         ensures { result ≡ self.now.player }
     {
-        self.player
+        self.access.player
     }
 
     /// The room where he stands.
@@ -73,59 +62,32 @@ impl Traveller {
         self.place
     }
 
-    // Whether the object is unlocked for him.
-    fn is_open(&self, number: u32) -> bool
-        ensures { result ≡ slice_index_or self.now.opened number false }
-    {
-        match self.opened.get(number as usize) {
-            Some(open) => *open,
-            None => false,
-        }
-    }
-
-    // The step that an exit makes, where it is open to him.
-    fn step_by(&self, world: &World, exit: u32) -> Option<Step>
-        requires { IsTraveller world.now self.now }
-        ensures { result ≡ open_step world.now self.now.player exit }
-    {
-        let passage = world.passage(exit)?;
-        if self.is_open(exit) && self.is_open(passage.destination) {
-            Some(Step {
-                exit,
-                to: passage.destination,
-                cost: passage.cost,
-            })
-        } else {
-            None
-        }
-    }
-
     /// Whether the number is an exit's that is open to him: the exit and the room that it leads to
     /// are unlocked for him. Where he stands plays no part. He must be of this world.
     pub fn passes(&self, world: &World, exit: u32) -> bool
         requires { IsTraveller world.now self.now }
         ensures { result ≡ passable world.now self.now.player exit }
     {
-        match world.passage(exit) {
-            Some(passage) => self.is_open(exit) && self.is_open(passage.destination),
-            None => false,
-        }
+        self.access.passes(world, exit)
     }
 
     /// The open exits that leave a room, by rising number. He must be of this world. Only want of
     /// memory is an error.
-    #[tactic(auto, unfolding(crate::specs::Open::roads_of))]
     pub fn leave(&self, alloc: Global, world: &World, room: u32) -> Result<Vec<Step>, AllocError>
         requires { IsTraveller world.now self.now }
         ensures { IfOk result (λ steps. steps.items ≡ roads_of world.now self.now.player room) }
     {
         let exits = world.leaving(room);
         let mut steps = Vec::with_capacity(alloc, exits.len())?;
-        for exit in exits {
-            if let Some(step) = self.step_by(world, *exit) {
-                steps.push(step)?;
-            }
-        }
+        self.access.add_steps(world, room, &mut steps)?;
         Ok(steps)
+    }
+
+    /// The same, as he knows them since he was made. It takes no memory and does not look at the
+    /// world.
+    pub fn steps_from(&self, room: u32) -> &[Step]
+        ensures { result.now ≡ slice_index_or self.now.roads room [] }
+    {
+        self.roads.row(room)
     }
 }

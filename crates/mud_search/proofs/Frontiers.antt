@@ -28,8 +28,12 @@ use Rattle.mud_search.proofs.Faithful.{faithful-relabelled, faithful-settled, la
 use Rattle.mud_search.proofs.Firsts.{open-member}
 use Rattle.mud_search.proofs.Potential.{weight-settled_left, potential-set_less}
 
+-- what stands where a list of members is asked past its end
+abbrev nobody : Knowledge
+nobody = record { player = 0; place = 0; opened = []; roads = [] }
+
 member-of : (ts : List Knowledge) (m : ℕ) → m < length ts → (t : Knowledge) × (slice_get ts m ≡ Some t)
-member-of ts m h = (get_or ts m (record { player = 0; place = 0; opened = [] }), slice_get-get_or ts m (record { player = 0; place = 0; opened = [] }) h)
+member-of ts m h = (get_or ts m nobody, slice_get-get_or ts m nobody h)
 
 -- one member's slots may change to sound ones
 pub frontier-set : (w : State) (ts : List Knowledge) (boards : List (List Slot)) → IsFrontier w ts boards
@@ -122,10 +126,10 @@ module _ (w : State) (ts : List Knowledge) (boards : List (List Slot)) (f : IsFr
   within-ts = omega (arith, f.count)
 
   abbrev who : Knowledge
-  who = get_or ts m (record { player = 0; place = 0; opened = [] })
+  who = get_or ts m nobody
 
   is-who : slice_get ts m ≡ Some who
-  is-who = slice_get-get_or ts m (record { player = 0; place = 0; opened = [] }) within-ts
+  is-who = slice_get-get_or ts m nobody within-ts
 
   pub put-bound : (l : Label) → label_at (board_of boards m) room ≡ Some l → (l.cost + 10000 < 2 ^ 32) × (l.exits + 1 < 2 ^ 32)
   put-bound l e =

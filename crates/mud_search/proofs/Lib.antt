@@ -3,6 +3,7 @@ pub mod Firsts
 pub mod Frontiers
 pub mod Inside
 pub mod Orders
-pub mod Played
+pub mod Heaps
+pub mod Mending
 pub mod Potential
 pub mod Trails

@@ -1,5 +1,5 @@
 pub mod Boards
 pub mod Facts
 pub mod Least
-pub mod Matches
+pub mod Queues
 pub mod Slots

@@ -5,8 +5,6 @@ use Rattle.mud_roads.specs.declared.label.Step.{Step}
 use Rattle.mud_roads.specs.Walks.{after}
 use Rattle.mud_search.specs.declared.slot.Slot.{Slot}
 use Rattle.mud_search.specs.declared.slot.Slot.TheVariants.{Unknown, Open, Held, Finished}
-use Rattle.mud_search.specs.declared.slot.Standing.{Standing}
-use Rattle.mud_search.specs.declared.slot.Standing.TheVariants as standing
 
 -- whether it is open
 abbrev pub is_open : Slot → Bool
@@ -37,19 +35,18 @@ slot_at slots room = slice_index_or slots room Unknown
 abbrev pub label_at : List Slot → ℕ → Option Label
 label_at slots room = label_of (slot_at slots room)
 
--- how a slot stands in the order of the open ones
-abbrev pub standing_of : ℕ → Slot → Standing
-standing_of room Unknown = standing.Shut
-standing_of room (Open l) = standing.Open l room
-standing_of room (Held l) = standing.Shut
-standing_of room (Finished l) = standing.Shut
+-- its label, if it is open
+abbrev pub open_label : Slot → Option Label
+open_label Unknown = None
+open_label (Open l) = Some l
+open_label (Held l) = None
+open_label (Finished l) = None
 
 -- the open rooms stand in order, and the counts are right
-pub record IsBoard (slots : List Slot) (order : List Standing) (opened held : ℕ) : Type 0 where
-  pub some : 0 < length slots
+pub record IsBoard (slots : List Slot) (order : List (Option Label)) (opened held : ℕ) : Type 0 where
   pub few : length slots < 2 ^ 32
   pub whole : length order ≡ length slots
-  pub ordered : (room : ℕ) → slice_index_or order room standing.Shut ≡ standing_of room (slot_at slots room)
+  pub ordered : (room : ℕ) → slice_index_or order room None ≡ open_label (slot_at slots room)
   pub open_count : opened ≡ count_by is_open slots
   pub held_count : held ≡ count_by is_held slots
 

@@ -43,6 +43,6 @@ fn alone_for<J: Job>(
     ensures bounded { IfOk result AreBounded }
 {
     let mut frontier = Frontier::<J>::new(alloc, world, travellers)?;
-    frontier.finish(alloc, world, travellers)?;
+    frontier.finish(travellers);
     Ok(frontier.into_labels())
 }

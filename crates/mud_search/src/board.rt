@@ -6,8 +6,8 @@ ghost use Rattle.mud_roads.specs.declared.label.Label.{Label};
 ghost use Rattle.mud_roads.specs.Labels.{start_label};
 ghost use Rattle.mud_search.specs.Slots.{is_open, is_held, IsBefore, slot_at, label_at, falls, offered, offers, settled};
 
-use crate::slot::{Slot, Standing};
-use crate::tournament::Tournament;
+use crate::queue::Queue;
+use crate::slot::Slot;
 use mud_roads::{Label, Step};
 use std::alloc::{AllocError, Global};
 use std::marker::Model;
@@ -16,7 +16,7 @@ use std::marker::Model;
 #[derive(Drop)]
 pub(crate) struct Board {
     slots: Vec<Slot>,
-    order: Tournament<Standing>,
+    order: Queue,
     opened: usize,
     held: usize,
 }
@@ -36,12 +36,11 @@ impl Model for Board {
 impl Board {
     // So many rooms, all unknown.
     pub(crate) fn new(alloc: Global, rooms: usize) -> Result<Self, AllocError>
-        requires some { 0 < rooms }
-        requires few { rooms < 2 ^ 32 }
+        requires { rooms < 2 ^ 32 }
         ensures { IfOk result (λ b. b ≡ replicate rooms Slot.Unknown) }
     {
         let slots = vec![in alloc; Slot::Unknown; rooms]?;
-        let order = Tournament::new(alloc, rooms, Standing::Shut)?;
+        let order = Queue::new(alloc, rooms)?;
         Ok(Board {
             slots,
             order,
@@ -74,9 +73,9 @@ impl Board {
         ensures least { IfSome result (λ t. (room : ℕ) (l : Label) → slot_at self.now room ≡ Slot.Open l → IsBefore t.0 t.1 l room) }
         ensures none { IfNone result ((room : ℕ) (l : Label) → slot_at self.now room ≡ Slot.Open l → ⊥) }
     {
-        match self.order.least() {
-            Standing::Open(label, room) => Some((label, room)),
-            Standing::Shut => None,
+        match self.order.first() {
+            Some(entry) => Some((entry.label, entry.room)),
+            None => None,
         }
     }
 
@@ -92,8 +91,9 @@ impl Board {
         self.slots[at] = slot;
         self.opened += usize::from(slot.is_open());
         self.held += usize::from(slot.is_held());
-        if before.is_open() || slot.is_open() {
-            self.order.set(at, slot.standing(room));
+        match slot {
+            Slot::Open(label) => self.order.add(room, label),
+            Slot::Unknown | Slot::Held(_) | Slot::Finished(_) => self.order.remove(room),
         }
     }
 

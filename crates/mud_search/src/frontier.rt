@@ -1,6 +1,6 @@
 //! The rooms of all members.
 
-ghost use Rattle.std.specs.Prelude.{◌≡◌, ◌≢◌, ℕ, ◌<◌, ◌≤◌, All, IfOk, IfSome, IfNone, OnOk, length, slice_get, sum_by, count_by};
+ghost use Rattle.std.specs.Prelude.{◌≡◌, ◌≢◌, ℕ, ◌<◌, ◌≤◌, All, IfOk, IfSome, IfNone, length, slice_get, sum_by, count_by};
 ghost use Rattle.mud_roads.specs.declared.label.Label.{Label};
 ghost use Rattle.mud_roads.specs.Open.{Knowledge, IsTraveller, roads_of};
 ghost use Rattle.mud_search.specs.Slots.{is_open, is_held};
@@ -170,23 +170,16 @@ impl<J: Job> Frontier<J> {
         }
     }
 
-    /// Does alone what is left to do, held rooms too. Only want of memory is an error.
-    pub fn finish(
-        &mut self,
-        alloc: Global,
-        world: &World,
-        travellers: &[Traveller],
-    ) -> Result<(), AllocError>
-        requires world { world.now ≡ J.world }
+    /// Does alone what is left to do, held rooms too. It takes no memory.
+    pub fn finish(&mut self, travellers: &[Traveller])
         requires travellers { travellers.now ≡ J.travellers }
         requires these { All (IsTraveller J.world) J.travellers }
-        ensures { OnOk result (AreLeast J.world J.travellers (labels_of self.new)) }
+        ensures { AreLeast J.world J.travellers (labels_of self.new) }
     {
         while let Some(task) = self.left() {
-            let steps = travellers[task.member].leave(alloc, world, task.room)?;
-            let _ = self.put(&task, steps.as_slice());
+            let steps = travellers[task.member].steps_from(task.room);
+            let _ = self.put(&task, steps);
         }
-        Ok(())
     }
 
     /// The labels as they are.

@@ -31,11 +31,11 @@ mod board;
 mod found;
 mod frontier;
 mod job;
+mod queue;
 mod slot;
 mod task;
 #[cfg(test)]
 mod tests;
-mod tournament;
 
 pub use alone::labels_alone;
 pub use found::Labels;

@@ -1,7 +1,7 @@
 //! What is known of a room.
 
 ghost use Rattle.std.specs.Prelude.{◌≡◌};
-ghost use Rattle.mud_search.specs.Slots.{is_open, is_held, standing_of, label_of};
+ghost use Rattle.mud_search.specs.Slots.{is_open, is_held, label_of};
 
 use mud_roads::Label;
 
@@ -16,14 +16,6 @@ pub enum Slot {
     Held(Label),
     /// It has a label, with which it was looked at.
     Finished(Label),
-}
-
-// How a room stands in the order of the open ones: by label, then by number; all that is not open
-// comes last.
-#[derive(Clone, Copy, Debug, PartialEq, Eq, PartialOrd, Ord, Drop)]
-pub(crate) enum Standing {
-    Open(Label, u32),
-    Shut,
 }
 
 impl Slot {
@@ -48,16 +40,6 @@ impl Slot {
         match *self {
             Slot::Unknown => None,
             Slot::Open(label) | Slot::Held(label) | Slot::Finished(label) => Some(label),
-        }
-    }
-
-    // How the room stands in the order of the open ones.
-    pub(crate) fn standing(&self, room: u32) -> Standing
-        ensures { result ≡ standing_of room self.now }
-    {
-        match *self {
-            Slot::Open(label) => Standing::Open(label, room),
-            Slot::Unknown | Slot::Held(_) | Slot::Finished(_) => Standing::Shut,
         }
     }
 }

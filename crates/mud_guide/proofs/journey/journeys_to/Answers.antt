@@ -10,7 +10,7 @@ use Rattle.mud_guide.proofs.journey.journeys_to.Goals as goal
 
 pub loop-member-preserved : goal.loop-member-preserved
 loop-member-preserved c =
-    let nobody : Knowledge = record { player = 0; place = 0; opened = [] } in
+    let nobody : Knowledge = record { player = 0; place = 0; opened = []; roads = [] } in
     let m = c.loop-member.member in
     let ts = c.args.travellers.now in
     let R : Knowledge → Journey → Type 0 = λ t j. IsJourney c.args.world.now c.args.to t.player j in

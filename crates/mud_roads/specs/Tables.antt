@@ -1,0 +1,13 @@
+-- Rows of steps in memory, one after the other. Private clauses alone cite this file.
+use Rattle.std.specs.Prelude.{◌≡◌, ℕ, ◌-◌, ◌≤◌, List, [], ◌∷◌, length, take, drop}
+use Rattle.mud_roads.specs.declared.label.Step.{Step}
+
+-- the rows that end at these places, where the first begins at `from`; `steps` are those from there on
+abbrev pub rows : ℕ → List ℕ → List Step → List (List Step)
+rows from [] steps = []
+rows from (end ∷ ends) steps = take (end - from) steps ∷ rows end ends (drop (end - from) steps)
+
+-- each row ends where it begins or later, and the last one ends with the steps
+abbrev pub Fit : ℕ → List ℕ → List Step → Type 0
+Fit from [] steps = steps ≡ []
+Fit from (end ∷ ends) steps = (from ≤ end) × (end - from ≤ length steps) × Fit end ends (drop (end - from) steps)

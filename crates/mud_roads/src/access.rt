@@ -1,0 +1,112 @@
+//! What is unlocked for a player.
+
+ghost use Rattle.std.specs.Prelude.{◌≡◌, ℕ, [], ◌++◌, IfOk, OnOk, slice_index_or, false};
+ghost use Rattle.mud_roads.specs.Open.{passable, open_step, roads_of, Knows};
+
+use crate::Step;
+use crate::table::Table;
+use mud_world::World;
+use std::alloc::{AllocError, Global};
+
+// A player, and whether each object is unlocked for him, by number.
+#[derive(Drop)]
+pub(crate) struct Access {
+    pub(crate) player: u32,
+    opened: Vec<bool>,
+}
+
+// Whether each object is unlocked for the player, by number.
+fn unlocked_for(alloc: Global, world: &World, player: u32) -> Result<Vec<bool>, AllocError>
+    ensures { IfOk result (λ opened. Knows world.now player opened.items) }
+{
+    let holding = world.carried(player)?;
+    let count = world.next_number();
+    let mut opened = Vec::with_capacity(alloc, count as usize)?;
+    for number in 0..count {
+        opened.push(world.unlocked(&holding, number))?;
+    }
+    Ok(opened)
+}
+
+impl Access {
+    // What is unlocked for the player.
+    pub(crate) fn of(alloc: Global, world: &World, player: u32) -> Result<Access, AllocError>
+        ensures knows { IfOk result (λ a. Knows world.now player a.opened.items) }
+        ensures player { IfOk result (λ a. a.player ≡ player) }
+    {
+        let opened = unlocked_for(alloc, world, player)?;
+        Ok(Access { player, opened })
+    }
+
+    // Whether the object is unlocked for him.
+    fn is_open(&self, number: u32) -> bool
+        ensures { result ≡ slice_index_or self.now.opened.items number false }
+    {
+        match self.opened.get(number as usize) {
+            Some(open) => *open,
+            None => false,
+        }
+    }
+
+    // The step that an exit makes, where it is open to him.
+    fn step_by(&self, world: &World, exit: u32) -> Option<Step>
+        requires { Knows world.now self.now.player self.now.opened.items }
+        ensures { result ≡ open_step world.now self.now.player exit }
+    {
+        let passage = world.passage(exit)?;
+        if self.is_open(exit) && self.is_open(passage.destination) {
+            Some(Step {
+                exit,
+                to: passage.destination,
+                cost: passage.cost,
+            })
+        } else {
+            None
+        }
+    }
+
+    // Whether the number is an exit's that is open to him.
+    pub(crate) fn passes(&self, world: &World, exit: u32) -> bool
+        requires { Knows world.now self.now.player self.now.opened.items }
+        ensures { result ≡ passable world.now self.now.player exit }
+    {
+        match world.passage(exit) {
+            Some(passage) => self.is_open(exit) && self.is_open(passage.destination),
+            None => false,
+        }
+    }
+
+    // Adds the open exits that leave a room, by rising number.
+    #[tactic(auto, unfolding(crate::specs::Open::roads_of))]
+    pub(crate) fn add_steps(
+        &self,
+        world: &World,
+        room: u32,
+        steps: &mut Vec<Step>,
+    ) -> Result<(), AllocError>
+        requires { Knows world.now self.now.player self.now.opened.items }
+        ensures { OnOk result (steps.new.items ≡ steps.old.items ++ roads_of world.now self.now.player room) }
+    {
+        for exit in world.leaving(room) {
+            if let Some(step) = self.step_by(world, *exit) {
+                steps.push(step)?;
+            }
+        }
+        Ok(())
+    }
+
+    // His roads: for each number the open exits that leave the room.
+    pub(crate) fn roads(&self, alloc: Global, world: &World) -> Result<Table, AllocError>
+        requires { Knows world.now self.now.player self.now.opened.items }
+        ensures { IfOk result (λ t. (room : ℕ) → slice_index_or t room [] ≡ roads_of world.now self.now.player room) }
+    {
+        let count = world.next_number();
+        let mut steps = Vec::with_capacity(alloc, count as usize)?;
+        let mut ends = Vec::with_capacity(alloc, count as usize)?;
+        for room in 0..count {
+            self.add_steps(world, room, &mut steps)?;
+            ends.push(steps.len())?;
+        }
+        Ok(Table::of(steps, ends))
+    }
+}

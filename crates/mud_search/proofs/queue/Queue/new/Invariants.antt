@@ -1,0 +1,11 @@
+use Rattle.std.proofs.Common.{◌≡◌, ℕ, ◌<◌, length}
+use Rattle.mud_search.specs.Queues.{entry_at, place_at}
+use Rattle.mud_search.proofs.queue.Queue.new.Given as goal
+
+abbrev pub invariant-loop-place : goal.invariant-loop-place
+invariant-loop-place l = record {
+  entries : length l.entries.items ≡ l.place;
+  places : length l.places.items ≡ l.place;
+  here : (i : ℕ) → i < l.place → (entry_at l.entries.items i).room ≡ i;
+  there : (i : ℕ) → i < l.place → place_at l.places.items i ≡ i;
+}

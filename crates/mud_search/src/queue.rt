@@ -1,0 +1,246 @@
+//! The open rooms in order of their labels. A change takes no memory.
+
+ghost use Rattle.std.specs.Prelude.{◌≡◌, ℕ, ◌+◌, ◌-◌, ◌*◌, ◌/◌, ◌^◌, ◌<◌, ◌≤◌, IfOk, IfSome, IfNone, Option, length, slice_set, slice_index_or, replicate};
+ghost use Rattle.std.specs.Bool.{OnTrue, OnFalse};
+ghost use Rattle.mud_roads.specs.declared.label.Label.{Label};
+ghost use Rattle.mud_search.specs.Slots.{IsBefore};
+
+use mud_roads::Label;
+use std::alloc::{AllocError, Global};
+use std::marker::Model;
+
+// A room with its label. Entries are compared by label, then by room.
+#[derive(Clone, Copy, Debug, PartialEq, Eq, PartialOrd, Ord, Drop)]
+pub(crate) struct Entry {
+    pub(crate) label: Label,
+    pub(crate) room: u32,
+}
+
+// The entries of all rooms, and where each room's entry stands.
+#[derive(Drop)]
+struct Heap {
+    // every room once: first those that wait, as a heap, then the others, whose labels mean nothing
+    entries: Vec<Entry>,
+    // where each room stands among the entries
+    places: Vec<u32>,
+    // how many wait
+    waiting: usize,
+}
+
+// The rooms that wait, each with its label. A contract sees for each room its label, or none where
+// it does not wait.
+#[derive(Drop)]
+pub(crate) struct Queue {
+    heap: Heap,
+}
+
+impl Model for Queue {
+    ghost use Rattle.std.specs.Prelude.{List, Option};
+    ghost use Rattle.mud_roads.specs.declared.label.Label.{Label};
+    ghost use Rattle.mud_search.specs.Queues.{IsQueue, waiting_labels};
+
+    ghost Value = { List (Option Label) };
+
+    ghost view = { λ q. waiting_labels q.heap.entries.items q.heap.places.items q.heap.waiting };
+
+    ghost invariant = { λ q. IsQueue q.heap.entries.items q.heap.places.items q.heap.waiting };
+}
+
+impl Queue {
+    // So many rooms, none of which waits.
+    pub(crate) fn new(alloc: Global, rooms: usize) -> Result<Self, AllocError>
+        requires few { rooms < 2 ^ 32 }
+        ensures { IfOk result (λ q. q ≡ replicate rooms None) }
+    {
+        let mut entries = Vec::with_capacity(alloc, rooms)?;
+        let mut places = Vec::with_capacity(alloc, rooms)?;
+        let label = Label { cost: 0, exits: 0 };
+        for place in 0..rooms {
+            let room = place as u32;
+            entries.push(Entry { label, room })?;
+            places.push(room)?;
+        }
+        Ok(Queue {
+            heap: Heap {
+                entries,
+                places,
+                waiting: 0,
+            },
+        })
+    }
+
+    // The room of least label, of these the lowest.
+    pub(crate) fn first(&self) -> Option<Entry>
+        ensures some { IfSome result (λ e. slice_index_or self.now e.room None ≡ Some e.label) }
+        ensures least { IfSome result (λ e. (room : ℕ) (l : Label) → slice_index_or self.now room None ≡ Some l → IsBefore e.label e.room l room) }
+        ensures none { IfNone result ((room : ℕ) (l : Label) → slice_index_or self.now room None ≡ Some l → ⊥) }
+    {
+        if self.heap.waiting > 0 {
+            Some(self.heap.entries[0])
+        } else {
+            None
+        }
+    }
+
+    // From now on the room waits with this label.
+    pub(crate) fn add(&mut self, room: u32, label: Label)
+        requires { room < length self.old }
+        ensures { self.new ≡ slice_set self.old room (Some label) }
+    {
+        let at = self.heap.admit(room);
+        self.heap.entries[at] = Entry { label, room };
+        self.heap.mend(at);
+    }
+
+    // From now on the room does not wait.
+    pub(crate) fn remove(&mut self, room: u32)
+        requires { room < length self.old }
+        ensures { self.new ≡ slice_set self.old room None }
+    {
+        let at = self.heap.places[room as usize] as usize;
+        if at < self.heap.waiting {
+            self.heap.dismiss(at);
+        }
+    }
+}
+
+impl Heap {
+    ghost use Rattle.mud_search.specs.Queues.{entry_at, place_at, waiting_labels, IsNoLater, IsMatched, IsQueue, IsOrderedBut, IsOrderedDownTo, IsSwapped};
+
+    // Brings a room to those that wait, and says where it stands; its label means nothing yet.
+    fn admit(&mut self, room: u32) -> usize
+        requires queue { IsQueue self.old.entries.items self.old.places.items self.old.waiting }
+        requires room { room < length self.old.entries.items }
+        ensures matched { IsMatched self.new.entries.items self.new.places.items }
+        ensures fits { self.new.waiting ≤ length self.new.entries.items }
+        ensures within { result < self.new.waiting }
+        ensures here { (entry_at self.new.entries.items result).room ≡ room }
+        ensures order { IsOrderedBut self.new.entries.items self.new.waiting result }
+        ensures labels { (l : Option Label) → slice_set (waiting_labels self.new.entries.items self.new.places.items self.new.waiting) room l ≡ slice_set (waiting_labels self.old.entries.items self.old.places.items self.old.waiting) room l }
+    {
+        let at = self.places[room as usize] as usize;
+        let last = self.waiting;
+        if at < last {
+            return at;
+        }
+        self.swap(at, last);
+        self.waiting = last + 1;
+        last
+    }
+
+    // Takes the room at this place from those that wait.
+    fn dismiss(&mut self, at: usize)
+        requires queue { IsQueue self.old.entries.items self.old.places.items self.old.waiting }
+        requires within { at < self.old.waiting }
+        ensures queue { IsQueue self.new.entries.items self.new.places.items self.new.waiting }
+        ensures labels { waiting_labels self.new.entries.items self.new.places.items self.new.waiting ≡ slice_set (waiting_labels self.old.entries.items self.old.places.items self.old.waiting) (entry_at self.old.entries.items at).room None }
+    {
+        let last = self.waiting - 1;
+        self.swap(at, last);
+        self.waiting = last;
+        if at < last {
+            self.mend(at);
+        }
+    }
+
+    // Puts the rooms in order after the entry at this place was changed.
+    fn mend(&mut self, at: usize)
+        requires matched { IsMatched self.old.entries.items self.old.places.items }
+        requires fits { self.old.waiting ≤ length self.old.entries.items }
+        requires within { at < self.old.waiting }
+        requires order { IsOrderedBut self.old.entries.items self.old.waiting at }
+        ensures queue { IsQueue self.new.entries.items self.new.places.items self.new.waiting }
+        ensures labels { waiting_labels self.new.entries.items self.new.places.items self.new.waiting ≡ waiting_labels self.old.entries.items self.old.places.items self.old.waiting }
+    {
+        let top = self.rise(at);
+        self.sink(top);
+    }
+
+    // Swaps the entry with the one above it while it comes before that one. Says where it ends.
+    fn rise(&mut self, from: usize) -> usize
+        requires matched { IsMatched self.old.entries.items self.old.places.items }
+        requires fits { self.old.waiting ≤ length self.old.entries.items }
+        requires within { from < self.old.waiting }
+        requires order { IsOrderedBut self.old.entries.items self.old.waiting from }
+        ensures matched { IsMatched self.new.entries.items self.new.places.items }
+        ensures fits { self.new.waiting ≤ length self.new.entries.items }
+        ensures within { result < self.new.waiting }
+        ensures order { IsOrderedDownTo self.new.entries.items self.new.waiting result }
+        ensures labels { waiting_labels self.new.entries.items self.new.places.items self.new.waiting ≡ waiting_labels self.old.entries.items self.old.places.items self.old.waiting }
+    {
+        let mut at = from;
+        while at > 0 {
+            let above = (at - 1) / 2;
+            if !comes_before(self.entries[at], self.entries[above]) {
+                return at;
+            }
+            self.swap(at, above);
+            at = above;
+        }
+        at
+    }
+
+    // Swaps the entry with the first of those below it while that one comes before it.
+    fn sink(&mut self, from: usize)
+        requires matched { IsMatched self.old.entries.items self.old.places.items }
+        requires fits { self.old.waiting ≤ length self.old.entries.items }
+        requires within { from < self.old.waiting }
+        requires order { IsOrderedDownTo self.old.entries.items self.old.waiting from }
+        ensures queue { IsQueue self.new.entries.items self.new.places.items self.new.waiting }
+        ensures labels { waiting_labels self.new.entries.items self.new.places.items self.new.waiting ≡ waiting_labels self.old.entries.items self.old.places.items self.old.waiting }
+    {
+        let mut at = from;
+        while 2 * at + 1 < self.waiting {
+            let below = self.first_below(at);
+            if !comes_before(self.entries[below], self.entries[at]) {
+                return;
+            }
+            self.swap(at, below);
+            at = below;
+        }
+    }
+
+    // Where the first of the one or two entries below a place stands.
+    fn first_below(&self, at: usize) -> usize
+        requires some { 2 * at + 1 < self.now.waiting }
+        requires fits { self.now.waiting ≤ length self.now.entries.items }
+        requires few { length self.now.entries.items < 2 ^ 32 }
+        ensures within { result < self.now.waiting }
+        ensures below { 0 < result }
+        ensures under { (result - 1) / 2 ≡ at }
+        ensures first { (i : ℕ) → 0 < i → i < self.now.waiting → (i - 1) / 2 ≡ at → IsNoLater (entry_at self.now.entries.items result) (entry_at self.now.entries.items i) }
+    {
+        let left = 2 * at + 1;
+        let right = left + 1;
+        if right < self.waiting && comes_before(self.entries[right], self.entries[left]) {
+            right
+        } else {
+            left
+        }
+    }
+
+    // Swaps two entries.
+    fn swap(&mut self, i: usize, j: usize)
+        requires matched { IsMatched self.old.entries.items self.old.places.items }
+        requires one { i < length self.old.entries.items }
+        requires other { j < length self.old.entries.items }
+        ensures swapped { IsSwapped self.old.entries.items self.new.entries.items i j }
+        ensures matched { IsMatched self.new.entries.items self.new.places.items }
+        ensures waiting { self.new.waiting ≡ self.old.waiting }
+    {
+        let one = self.entries[i];
+        let other = self.entries[j];
+        self.entries[i] = other;
+        self.entries[j] = one;
+        self.places[other.room as usize] = i as u32;
+        self.places[one.room as usize] = j as u32;
+    }
+}
+
+// Whether an entry comes before another.
+fn comes_before(a: Entry, b: Entry) -> bool
+    ensures first { OnTrue result (IsBefore a.label a.room b.label b.room) }
+    ensures later { OnFalse result (IsBefore b.label b.room a.label a.room) }
+{
+    a < b
+}

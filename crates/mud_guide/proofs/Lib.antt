@@ -6,4 +6,5 @@ mod Entries
 mod Shown
 mod Party
 mod Replies
+mod Rising
 mod Single

@@ -271,7 +271,8 @@ fn a_certificate(rt: HostRuntime) -> Result<(), Fail> {
         None => assert!(rt; false),
     }
     laws::routes();
-    laws::one_route();
+    laws::one_route_answer();
+    laws::one_meet_answer();
     Ok(())
 }
 

@@ -7,4 +7,4 @@ mod Shown
 mod Party
 mod Replies
 mod Rising
-mod Single
+pub mod Single

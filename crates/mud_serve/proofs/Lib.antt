@@ -6,3 +6,4 @@ pub mod ServeLemmas
 pub mod ScriptLemmas
 pub mod Seats
 pub mod Endings
+pub mod Ones

@@ -4,13 +4,13 @@ use Rattle.std.specs.Prelude.{Option}
 use Rattle.std.specs.Io.KnownBytes.{Appends, Consumes, Keeps, IsAtEnd}
 use Rattle.std.proofs.KnownBytes.{Appends-nil, Appends-trans, Consumes-nil, Consumes-trans, Consumes-kept}
 use Rattle.std.proofs.lemmas.List.{append-nil, map-append, length-append}
-use Rattle.mud_nvt.specs.Units.{Given, units}
+use Rattle.mud_nvt.specs.Units.{units}
 use Rattle.mud_nvt.specs.History.{StandsAfter}
 use Rattle.mud_serve.specs.State.{State}
 use Rattle.mud_serve.specs.Desk.{Desk, opening}
 use Rattle.mud_serve.specs.Session.{Talk, Turn, text_of, talk_after, AreReplied}
 use Rattle.mud_serve.specs.Feeding.{Serves, ServesInPart, talk_of, units_in}
-use Rattle.mud_serve.specs.Script.{marked, begins, script_text, script_turns, has_quit, Answers, AnswersInPart, RunsOn}
+use Rattle.mud_serve.specs.Script.{marked, begins, script_turns, Answers, AnswersInPart, RunsOn}
 use Rattle.mud_serve.proofs.TurnLemmas.{talk_after-append, text_of-append, replied-append}
 use Rattle.mud_serve.proofs.Fresh.{fresh_units}
 use Rattle.mud_serve.proofs.ServeLemmas.{replies_in, marked_again, no_replies, fresh_turns, fresh_turns-units}

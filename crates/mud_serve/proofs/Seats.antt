@@ -1,5 +1,5 @@
 -- Who sits at a desk is a player of its world.
-use Rattle.std.proofs.Common.{◌≡◌, ℕ, Bool, true, false, List, None, refl, sym, ◌∙◌, ap, subst}
+use Rattle.std.proofs.Common.{◌≡◌, ℕ, Bool, true, false, List, None, refl, sym, subst}
 use Rattle.std.specs.Prelude.{nat_eq, not, IsTrue}
 use Rattle.std.proofs.lemmas.Bool.{eqb-true, true≢false}
 use Rattle.mud_world.specs.declared.change.Change.{Change}
@@ -8,7 +8,7 @@ use Rattle.mud_world.specs.declared.change.Deed.TheVariants.{Dig, Make, Lock, Un
 use Rattle.mud_world.specs.declared.refusal.Refusal.TheVariants.{NoSuch}
 use Rattle.mud_world.specs.State.{State, is_player}
 use Rattle.mud_world.specs.Sound.{IsSound}
-use Rattle.mud_world.specs.Legal.{fails, refusal, after}
+use Rattle.mud_world.specs.Legal.{refusal, after}
 use Rattle.mud_world.proofs.Least.{refusals_law}
 use Rattle.mud_world.proofs.Players.{players_stay, new_players_are_players}
 use Rattle.mud_serve.specs.Desk.{seated}

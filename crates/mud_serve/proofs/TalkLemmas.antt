@@ -1,5 +1,5 @@
 -- Turns one after the other, at any door.
-use Rattle.std.proofs.Common.{◌≡◌, ℕ, ◌+◌, ◌<◌, List, [], ◌∷◌, ◌++◌, map, take, get_or, length, refl, sym, ap, subst, ◌∙◌, append_assoc, Global}
+use Rattle.std.proofs.Common.{◌≡◌, ℕ, ◌+◌, ◌<◌, List, [], ◌∷◌, ◌++◌, take, get_or, length, refl, sym, ap, subst, ◌∙◌, append_assoc, Global}
 use Rattle.std.proofs.lemmas.List.{append-nil, take_more, map_push}
 use Rattle.mud_nvt.specs.declared.Unit.{Unit as CodeUnit}
 use Rattle.mud_nvt.specs.Units.{Given}

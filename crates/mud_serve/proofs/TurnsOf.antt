@@ -1,11 +1,11 @@
 -- At a desk that nobody else uses, what may be said is the text of the script with some lines refused.
-use Rattle.std.proofs.Common.{◌≡◌, ℕ, Bool, true, false, List, [], ◌∷◌, ◌++◌, Option, None, Some, refl, sym, ap, subst, ◌∙◌, inl, inr}
-use Rattle.std.specs.Prelude.{MatchBool, ◌&&◌, not, ◌⊎◌}
+use Rattle.std.proofs.Common.{◌≡◌, ℕ, Bool, true, false, List, [], ◌∷◌, ◌++◌, Option, None, Some, refl, ap, subst, ◌∙◌, inl, inr}
+use Rattle.std.specs.Prelude.{◌⊎◌}
 use Rattle.std.proofs.lemmas.Bool.{cases_Bool, MatchBool-at_true, MatchBool-at_false}
 use Rattle.mud_words.specs.Words.{is_blank}
 use Rattle.mud_nvt.specs.Units.{Given, Text, TooLong, Ayt, Answer}
-use Rattle.mud_serve.specs.Desk.{Desk, IsReply, ends, desk_after}
-use Rattle.mud_serve.specs.Session.{Talk, Turn, sent, sent_at, talk_then, text_of, talk_after, IsReplied, AreReplied}
+use Rattle.mud_serve.specs.Desk.{Desk, ends, desk_after}
+use Rattle.mud_serve.specs.Session.{Talk, Turn, sent_at, talk_then, text_of, talk_after, IsReplied, AreReplied}
 use Rattle.mud_serve.specs.Feeding.{units_in}
 use Rattle.mud_serve.specs.Door.{SoloActs}
 use Rattle.mud_serve.specs.Talk.{Rests, Replies, Fails, Turns, Says}

@@ -6,3 +6,4 @@ pub mod Session
 pub mod Talk
 pub mod Feeding
 pub mod Script
+pub mod Laws

@@ -4,6 +4,7 @@
 mod answers;
 mod command_line;
 mod door;
+mod laws;
 mod script;
 mod session;
 mod solo;

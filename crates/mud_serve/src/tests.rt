@@ -2,6 +2,7 @@
 
 ghost use Rattle.std.specs.Prelude.{◌≤◌};
 
+use crate::laws;
 use crate::script::{ScriptFault, script};
 use crate::source::Source;
 use std::alloc::Global;
@@ -215,4 +216,10 @@ fn a_reader_that_never_ends_is_read_so_often_and_no_more(rt: HostRuntime) -> Res
     );
     assert!(rt; out.is_empty());
     Ok(())
+}
+
+#[test]
+fn laws_can_be_called() {
+    laws::one_reply();
+    laws::one_script_text();
 }

@@ -1,0 +1,51 @@
+-- What is known of a row of cells, each of which takes one entry and keeps it.
+use Rattle.std.specs.Prelude.{◌≡◌, ◌≤◌, length, ℕ, zero, suc, List, [], ◌∷◌, Option, Some, None, slice_get, take}
+use Rattle.once_cell.specs.declared.race.note.Note.{Note}
+use Rattle.mud_world.specs.State.{State}
+use Rattle.mud_world.specs.History.{world_of}
+use Rattle.mud_chron.specs.Entry.{Accepted}
+use Rattle.mud_chron.specs.Replay.{changes_of}
+
+-- a pass: the names of the cells of its row, in order, and the entries of the first cells, which it knows
+pub record Known : Type 0 where
+  pub row : List ℕ
+  pub list : List Accepted
+
+-- a replica: what its pass knows, and how many of the known entries its world took in
+pub record Standing : Type 0 where
+  pub row : List ℕ
+  pub list : List Accepted
+  pub at : ℕ
+
+-- the world of the first so many entries, where a change that is not legal changes nothing
+abbrev pub world_at : List Accepted → ℕ → State
+world_at entries at = world_of (changes_of (take at entries))
+
+-- the names of the cells that these notes are of
+abbrev pub names_of : List (Note Accepted) → List ℕ
+names_of [] = []
+names_of (n ∷ ns) = n.cell ∷ names_of ns
+
+-- entries with this one in front, if there is one
+abbrev pub entry_first : Option Accepted → List Accepted → List Accepted
+entry_first None es = []
+entry_first (Some e) es = e ∷ es
+
+-- the entries of the first so many notes, up to one that knows none
+abbrev pub known_front : ℕ → List (Note Accepted) → List Accepted
+known_front zero ns = []
+known_front (suc k) [] = []
+known_front (suc k) (n ∷ ns) = entry_first n.known (known_front k ns)
+
+-- what the holder of notes knows who counts so many of the first
+abbrev pub known_of : ℕ → List (Note Accepted) → Known
+known_of count notes = record { row = names_of notes; list = known_front count notes }
+
+-- each of the notes that are counted knows an entry, and there are at most 65,536 notes
+abbrev pub AreCounted : ℕ → List (Note Accepted) → Type 0
+AreCounted count notes = (length notes ≤ 65536) × (length (known_front count notes) ≡ count)
+
+-- entry n, counted from 1
+abbrev pub entry_at : List Accepted → ℕ → Option Accepted
+entry_at es zero = None
+entry_at es (suc n) = slice_get es n

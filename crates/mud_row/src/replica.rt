@@ -1,0 +1,225 @@
+//! A world that follows a row.
+
+ghost use Rattle.std.specs.Prelude.{◌≡◌, ◌++◌, ◌∷◌, [], ◌<◌, ◌≤◌, ◌+◌, ◌↔◌, ◌⊎◌, length, slice_get, IfOk, IfErr, OnErr, OnOk, IsErrAnd, MatchBool, MatchOption};
+ghost use Rattle.std.specs.Option.{option_copied};
+ghost use mathlib.Core.List.{IsPrefix};
+ghost use Rattle.mud_world.specs.History.{stepped};
+ghost use Rattle.mud_row.specs.Known.{world_at, entry_at};
+
+use crate::fault::RowFault;
+use crate::pass::Pass;
+use crate::row::Row;
+use mud_chron::Entry;
+use mud_world::World;
+use std::alloc::{AllocError, Global};
+use std::marker::Model;
+
+/// A world that takes in the entries of a row one by one, from the opening on. A contract sees the
+/// names of the cells of the row, the known entries, and how many of these the world took in. An
+/// entry whose change is not legal where it stands changes nothing.
+#[derive(Drop)]
+pub struct Replica {
+    world: World,
+    at: u32,
+    pass: Pass,
+}
+
+impl Model for Replica {
+    ghost use Rattle.std.specs.Prelude.{◌≡◌, ◌≤◌, length};
+    ghost use Rattle.mud_row.specs.Known.{Standing, world_at};
+
+    ghost Value = { Standing };
+
+    ghost use Rattle.mud_key.specs.TreeCode.{coded_number_tree};
+    ghost use Rattle.std.specs.Coded.{codes};
+
+    ghost coded = { Prim.hlevel (codes, coded_number_tree) };
+
+    ghost view = { λ r. record { row = r.pass.row; list = r.pass.list; at = r.at } };
+
+    ghost invariant = { λ r. (r.at ≤ length r.pass.list) × (r.world ≡ world_at r.pass.list r.at) };
+}
+
+impl Replica {
+    ghost use Rattle.mud_row.specs.Known.{Standing};
+
+    /// A replica of this row that knows no cell: its world is the opening. Only want of memory is
+    /// an error.
+    pub fn new(alloc: Global, row: &Row) -> Result<Replica, AllocError>
+        ensures { IfOk result (λ r. r ≡ record { row = row.now; list = []; at = 0 }) }
+    {
+        Ok(Replica {
+            world: World::opening(alloc)?,
+            at: 0,
+            pass: row.pass(alloc)?,
+        })
+    }
+
+    /// The world of the entries that it took in.
+    pub fn world(&self) -> &World
+        ensures { result.now ≡ world_at self.now.list self.now.at }
+    {
+        &self.world
+    }
+
+    /// How many of the known entries the world took in.
+    pub fn at(&self) -> u32
+        ensures at { result ≡ self.now.at }
+        ensures within { result ≤ length self.now.list }
+    {
+        self.at
+    }
+
+    /// How many entries are known, 0 to 65,536.
+    pub fn known(&self) -> u32
+        ensures known { result ≡ length self.now.list }
+        ensures limit { result ≤ 65536 }
+    {
+        self.pass.known()
+    }
+
+    /// Knows from then on each next cell that it finds set, up to the first that it does not. The
+    /// world stays as it was. It takes no memory.
+    pub fn extend(&mut self, row: &Row)
+        requires { self.old.row ≡ row.now }
+        ensures still { (self.new.row ≡ self.old.row) × (self.new.at ≡ self.old.at) }
+        ensures longer { IsPrefix self.old.list self.new.list }
+        ensures within { self.old.at ≤ length self.old.list }
+    {
+        for _ in 0..row.capacity() {
+            if row.next(&mut self.pass).is_none() {
+                break;
+            }
+        }
+    }
+
+    /// The known entry after those that the world took in; `None` exactly where it took in all.
+    /// The replica stays as it was. It takes no memory.
+    pub fn peek<'a>(&mut self, row: &'a Row) -> Option<&'a Entry>
+        requires { self.old.row ≡ row.now }
+        ensures same { self.new ≡ self.old }
+        ensures entry { option_copied result ≡ slice_get self.old.list self.old.at }
+        ensures place { MatchOption result (self.old.at ≡ length self.old.list) (λ _. self.old.at < length self.old.list) }
+        ensures limit { length self.old.list ≤ 65536 }
+    {
+        if self.at == self.pass.known() {
+            return None;
+        }
+        row.entry(&mut self.pass, self.at + 1)
+    }
+
+    /// Takes the known entry after those that the world took in into the world, and answers whether
+    /// there was one. Only want of memory is an error, and then the replica stays as it was.
+    pub fn step(&mut self, row: &Row) -> Result<bool, AllocError>
+        requires { self.old.row ≡ row.now }
+        ensures still { (self.new.row ≡ self.old.row) × (self.new.list ≡ self.old.list) }
+        ensures ok { IfOk result (λ more. MatchBool more ((self.old.at < length self.old.list) × (self.new.at ≡ self.old.at + 1)) ((self.old.at ≡ length self.old.list) × (self.new.at ≡ self.old.at))) }
+        ensures err { OnErr result (self.new ≡ self.old) }
+        ensures more { OnErr result (self.old.at < length self.old.list) }
+    {
+        match self.peek(row) {
+            None => Ok(false),
+            Some(entry) => {
+                take_in(&mut self.world, entry)?;
+                self.at += 1;
+                Ok(true)
+            }
+        }
+    }
+
+    /// Takes all known entries into the world. Only want of memory is an error, and then the
+    /// replica stands at one of the entries from where it stood on.
+    pub fn catch_up(&mut self, row: &Row) -> Result<(), AllocError>
+        requires { self.old.row ≡ row.now }
+        ensures still { (self.new.row ≡ self.old.row) × (self.new.list ≡ self.old.list) }
+        ensures further { self.old.at ≤ self.new.at }
+        ensures ok { OnOk result (self.new.at ≡ length self.old.list) }
+        ensures err { OnErr result (self.new.at < length self.old.list) }
+    {
+        let known = self.pass.known();
+        for _ in self.at..known {
+            self.step(row)?;
+        }
+        Ok(())
+    }
+
+    /// Knows from then on each next cell that it finds set, as `extend`, and takes all known
+    /// entries into the world, as `catch_up`. Only want of memory is an error, and then the replica
+    /// stands at one of the entries from where it stood on.
+    pub fn see(&mut self, row: &Row) -> Result<(), AllocError>
+        requires { self.old.row ≡ row.now }
+        ensures still { self.new.row ≡ self.old.row }
+        ensures longer { IsPrefix self.old.list self.new.list }
+        ensures further { self.old.at ≤ self.new.at }
+        ensures ok { OnOk result (self.new.at ≡ length self.new.list) }
+        ensures err { OnErr result (self.new.at < length self.new.list) }
+    {
+        self.extend(row);
+        self.catch_up(row)
+    }
+
+    /// Sets the first cell that is not known, as `Row::publish`. The world does not take the entry
+    /// in yet. It takes no memory.
+    pub fn publish(&mut self, row: &Row, entry: Box<Entry>) -> Result<u32, (Box<Entry>, RowFault)>
+        requires { self.old.row ≡ row.now }
+        ensures still { (self.new.row ≡ self.old.row) × (self.new.at ≡ self.old.at) }
+        ensures published { IfOk result (λ n. (self.new.list ≡ self.old.list ++ entry.value ∷ []) × (n ≡ length self.old.list + 1)) }
+        ensures refused { IfErr result (λ f. (self.new ≡ self.old) × (f.0.value ≡ entry.value)) }
+        ensures full { IsErrAnd result (λ f. f.1 ≡ RowFault.HistoryFull) ↔ (length self.old.list ≡ length row.now) }
+        ensures fits { length self.old.list ≤ length row.now }
+        ensures within { self.old.at ≤ length self.old.list }
+    {
+        row.publish(&mut self.pass, entry)
+    }
+
+    /// The known entry of this number, counted from 1; `None` exactly where it knows none of that
+    /// number. The replica stays as it was. It takes no memory.
+    pub fn entry<'a>(&mut self, row: &'a Row, n: u32) -> Option<&'a Entry>
+        requires { self.old.row ≡ row.now }
+        ensures same { self.new ≡ self.old }
+        ensures entry { option_copied result ≡ entry_at self.old.list n }
+        ensures place { MatchOption result ((n ≡ 0) ⊎ (length self.old.list < n)) (λ _. (1 ≤ n) × (n ≤ length self.old.list)) }
+    {
+        row.entry(&mut self.pass, n)
+    }
+
+    /// The pass learns what the replica knows, as `Pass::learn`. The replica stays as it was. It
+    /// takes no memory.
+    pub fn tell(&mut self, pass: &mut Pass)
+        requires { self.old.row ≡ pass.old.row }
+        ensures same { self.new ≡ self.old }
+        ensures row { pass.new.row ≡ pass.old.row }
+        ensures longer { (pass.new.list ≡ pass.old.list) ⊎ (pass.new.list ≡ self.old.list) }
+        ensures mine { IsPrefix self.old.list pass.new.list }
+        ensures theirs { IsPrefix pass.old.list pass.new.list }
+    {
+        pass.learn(&mut self.pass);
+    }
+
+    /// Learns what the other replica knows, as `Pass::learn`. The world stays as it was, and so
+    /// does the other replica. It takes no memory.
+    pub fn learn(&mut self, other: &mut Replica)
+        requires { self.old.row ≡ other.old.row }
+        ensures other_same { other.new ≡ other.old }
+        ensures still { (self.new.row ≡ self.old.row) × (self.new.at ≡ self.old.at) }
+        ensures longer { (self.new.list ≡ self.old.list) ⊎ (self.new.list ≡ other.old.list) }
+        ensures mine { IsPrefix self.old.list self.new.list }
+        ensures theirs { IsPrefix other.old.list self.new.list }
+        ensures within { self.old.at ≤ length self.old.list }
+    {
+        self.pass.learn(&mut other.pass);
+    }
+}
+
+// Takes an entry into the world: one whose change is not legal changes nothing. Where memory is
+// refused the world stays as it was.
+fn take_in(world: &mut World, entry: &Entry) -> Result<(), AllocError>
+    ensures ok { OnOk result (world.new ≡ stepped world.old entry.now.change) }
+    ensures err { OnErr result (world.new ≡ world.old) }
+{
+    let change = entry.change();
+    match world.legal(change) {
+        Ok(()) => world.apply(change),
+        Err(_) => Ok(()),
+    }
+}

@@ -15,7 +15,7 @@ loop-player-preserved c =
           record {
             travellers = subst (All (IsTraveller c.args.world.now)) (sym items)
                 (subst (All (IsTraveller c.args.world.now)) (sym w.in_ok-push.ensures.items)
-                  (All-push (IsTraveller c.args.world.now) before w.in_ok-of.field-0 c.loop-player.invariant.travellers w.in_ok-of.ensures.traveller));
+                (All-push (IsTraveller c.args.world.now) before w.in_ok-of.field-0 c.loop-player.invariant.travellers w.in_ok-of.ensures.traveller));
             few = omega (arith, c.loop-player.invariant.few, ap length items, ap length w.in_ok-push.ensures.items, length_push before w.in_ok-of.field-0);
           }
       | else-is_player w ↦

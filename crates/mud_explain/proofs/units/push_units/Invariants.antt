@@ -1,0 +1,7 @@
+use Rattle.std.proofs.Common.{◌≡◌, ◌++◌, string_bytes, take}
+use Rattle.mud_nvt.specs.Shown.{all_shown}
+use Rattle.mud_explain.specs.Units.{units_text}
+use Rattle.mud_explain.proofs.units.push_units.Given as goal
+
+abbrev pub invariant-loop-unit : goal.invariant-loop-unit
+invariant-loop-unit l = string_bytes l.out ≡ string_bytes l.fn.out ++ units_text (all_shown (take l.unit-index l.given))

@@ -1,0 +1,6 @@
+pub mod Lines
+pub mod Listed
+pub mod Units
+pub mod Line
+pub mod Key
+pub mod Explained

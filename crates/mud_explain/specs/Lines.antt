@@ -1,0 +1,22 @@
+-- An input that is read line by line.
+use Rattle.std.specs.Prelude.{ℕ, ◌<◌, ◌≢◌, ◌≡◌, List, [], ◌∷◌, ◌++◌, length}
+use Rattle.std.specs.List.{All}
+
+-- a line has no LF in it
+abbrev pub IsLine : List ℕ → Type 0
+IsLine line = All (λ b. b ≢ 10) line
+
+-- Each line of the input is answered by one line. A line ends at LF, and a last one without LF counts: so an input
+-- without a byte has no line.
+pub data Answers (Says : List ℕ → List ℕ → Type 0) : List ℕ → List ℕ → Type 0 where
+  at_end : Answers Says [] []
+  last : {line answer : List ℕ} → 0 < length line → IsLine line → Says line answer
+      → Answers Says line (answer ++ 10 ∷ [])
+  next : {line answer rest out : List ℕ} → IsLine line → Says line answer → Answers Says rest out
+      → Answers Says (line ++ 10 ∷ rest) (answer ++ 10 ∷ out)
+
+-- one more line is answered; a clause of a private part alone cites it
+pub record AnswersOne (Says : List ℕ → List ℕ → Type 0) (line old new : List ℕ) : Type 0 where
+  pub answer : List ℕ
+  pub says : Says line answer
+  pub appended : new ≡ old ++ (answer ++ 10 ∷ [])

@@ -1,0 +1,179 @@
+//! What each line of an input is told to be.
+
+ghost use Rattle.std.specs.Prelude.{◌≡◌, ◌++◌, ◌∷◌, IfOk, OnOk, MatchOption, string_bytes};
+ghost use Rattle.mud_words.specs.Words.{words};
+ghost use Rattle.mud_words.specs.Parse.{parsed};
+ghost use Rattle.mud_words.specs.Line.{line_of};
+ghost use Rattle.mud_explain.specs.Listed.{listed};
+ghost use Rattle.mud_explain.specs.Line.{preposition_text, line_text};
+ghost use Rattle.mud_explain.specs.Key.{SaysKey};
+ghost use Rattle.mud_explain.specs.Explained.{SaysNames, SaysText, Says};
+ghost use Rattle.mud_explain.specs.Lines.{IsLine, Answers, AnswersOne};
+
+use crate::grouped::push_grouped;
+use crate::listed::push_listed;
+use crate::subject::Reading;
+use memchr::memchr;
+use mud_key::{KeyFault, Names, NamesFault};
+use mud_words::{Parsed, Prep};
+use std::alloc::{AllocError, Global};
+
+// The words of a line.
+fn said_words(alloc: Global, text: &str) -> Result<String, AllocError>
+    ensures { IfOk result (λ answer. string_bytes answer ≡ listed (words text.now)) }
+{
+    let words = mud_words::words(alloc, text)?;
+    let mut answer = String::new(alloc);
+    push_listed(&mut answer, words.as_slice())?;
+    Ok(answer)
+}
+
+// The first phrase that says the preposition, or `-`.
+fn phrase_of(preposition: Option<Prep>) -> &'static str
+    ensures { result.now ≡ preposition_text preposition }
+{
+    match preposition {
+        None => "-",
+        Some(Prep::With) => "with",
+        Some(Prep::To) => "at",
+        Some(Prep::InFrontOf) => "in front of",
+        Some(Prep::In) => "in",
+        Some(Prep::OnTopOf) => "on top of",
+        Some(Prep::OutOf) => "out of",
+        Some(Prep::Over) => "over",
+        Some(Prep::Through) => "through",
+        Some(Prep::Under) => "under",
+        Some(Prep::Behind) => "behind",
+        Some(Prep::Beside) => "beside",
+        Some(Prep::For) => "for",
+        Some(Prep::Is) => "is",
+        Some(Prep::As) => "as",
+        Some(Prep::Off) => "off",
+    }
+}
+
+// Appends what a line says.
+fn push_parsed(out: &mut String, parsed: &Parsed) -> Result<(), AllocError>
+    ensures { OnOk result (string_bytes out.new ≡ string_bytes out.old ++ line_text (line_of parsed.now)) }
+{
+    write!(
+        out,
+        "verb [{}] direct [{}] preposition {} indirect [{}] rest [{}]",
+        parsed.verb,
+        parsed.direct,
+        phrase_of(parsed.prep),
+        parsed.indirect,
+        parsed.rest
+    )
+}
+
+// What a line says.
+fn said_line(alloc: Global, text: &str) -> Result<String, AllocError>
+    ensures { IfOk result (λ answer. string_bytes answer ≡ line_text (parsed text.now)) }
+{
+    let parsed = mud_words::parse(alloc, text)?;
+    let mut answer = String::new(alloc);
+    push_parsed(&mut answer, &parsed)?;
+    Ok(answer)
+}
+
+// The names of a names text.
+fn said_names(alloc: Global, text: &str) -> Result<String, AllocError>
+    ensures { IfOk result (λ answer. SaysNames text.now (string_bytes answer)) }
+{
+    match Names::read(alloc, text) {
+        Ok(names) => {
+            let mut answer = String::new(alloc);
+            push_listed(&mut answer, names.list())?;
+            Ok(answer)
+        }
+        Err(NamesFault::BadName) => String::from_str(alloc, "bad names"),
+        Err(NamesFault::OutOfMemory) => Err(AllocError),
+    }
+}
+
+// A key, or why the text is none.
+fn said_key(alloc: Global, text: &str) -> Result<String, AllocError>
+    ensures { IfOk result (λ answer. SaysKey text.now (string_bytes answer)) }
+{
+    match mud_key::read(alloc, text) {
+        Ok(key) => {
+            let mut answer = String::new(alloc);
+            push_grouped(&mut answer, key.node())?;
+            Ok(answer)
+        }
+        Err(KeyFault::BadKey(at)) => format!(in alloc; "bad key at {at}"),
+        Err(KeyFault::TooManyAtoms) => String::from_str(alloc, "too many objects"),
+        Err(KeyFault::OutOfMemory) => Err(AllocError),
+        // A text is read without asking what its objects are.
+        Err(KeyFault::NoSuch | KeyFault::Ambiguous) => unreachable!(),
+    }
+}
+
+// What a text is told to be.
+fn said_text(alloc: Global, reading: Reading, text: &str) -> Result<String, AllocError>
+    ensures { IfOk result (λ answer. SaysText reading text.now (string_bytes answer)) }
+{
+    match reading {
+        Reading::Words => said_words(alloc, text),
+        Reading::Parse => said_line(alloc, text),
+        Reading::Names => said_names(alloc, text),
+        Reading::Key => said_key(alloc, text),
+    }
+}
+
+// What a line is told to be.
+fn said(alloc: Global, reading: Reading, line: &[u8]) -> Result<String, AllocError>
+    ensures { IfOk result (λ answer. Says reading line.now (string_bytes answer)) }
+{
+    match str::from_utf8(line) {
+        Ok(text) => said_text(alloc, reading, text),
+        Err(_) => String::from_str(alloc, "not text"),
+    }
+}
+
+// Appends what a line is told to be, and LF.
+fn push_said(
+    out: &mut String,
+    alloc: Global,
+    reading: Reading,
+    line: &[u8],
+) -> Result<(), AllocError>
+    ensures { OnOk result (AnswersOne (Says reading) line.now (string_bytes out.old) (string_bytes out.new)) }
+{
+    let answer = said(alloc, reading, line)?;
+    out.push_str(answer.as_str())?;
+    out.push('\n')
+}
+
+// The first line that LF ends, and what stands behind that LF.
+fn cut_line(bytes: &[u8]) -> Option<(&[u8], &[u8])>
+    ensures { MatchOption result (IsLine bytes.now) (λ p. IsLine p.0.now × (bytes.now ≡ p.0.now ++ 10 ∷ p.1.now)) }
+{
+    match memchr(b'\n', bytes) {
+        Some(at) => Some((&bytes[..at], &bytes[at + 1..])),
+        None => None,
+    }
+}
+
+/// A line for each line of the input: what it is read as (docs/EXPLAIN.md). A line ends at LF, and a last one without
+/// LF counts.
+pub(crate) fn explained_lines(
+    alloc: Global,
+    reading: Reading,
+    input: &[u8],
+) -> Result<String, AllocError>
+    ensures { IfOk result (λ out. Answers (Says reading) input.now (string_bytes out)) }
+{
+    let mut out = String::new(alloc);
+    let mut rest = input;
+    while let Some((line, behind)) = cut_line(rest) {
+        push_said(&mut out, alloc, reading, line)?;
+        rest = behind;
+    }
+    if rest.is_empty() {
+        return Ok(out);
+    }
+    push_said(&mut out, alloc, reading, rest)?;
+    Ok(out)
+}

@@ -1,0 +1,39 @@
+//! Texts between brackets.
+
+ghost use Rattle.std.specs.Prelude.{◌≡◌, ◌++◌, map, OnOk, codes, string_bytes};
+ghost use Rattle.std.specs.List.{flat_map};
+ghost use Rattle.mud_explain.specs.Listed.{bracketed, listed};
+
+use std::alloc::AllocError;
+
+// Appends the text between brackets.
+pub(crate) fn push_bracketed(out: &mut String, text: &str) -> Result<(), AllocError>
+    ensures { OnOk result (string_bytes out.new ≡ string_bytes out.old ++ bracketed text.now) }
+{
+    write!(out, "[{text}]")
+}
+
+// Appends each text between brackets, a space in front of each.
+fn push_others(out: &mut String, texts: &[String]) -> Result<(), AllocError>
+    ensures { OnOk result (string_bytes out.new
+        ≡ string_bytes out.old ++ flat_map (λ t. codes " " ++ bracketed t) (map string_bytes texts.now)) }
+{
+    for text in texts {
+        out.push(' ')?;
+        push_bracketed(out, text.as_str())?;
+    }
+    Ok(())
+}
+
+// Appends each text between brackets, a space between each two.
+pub(crate) fn push_listed(out: &mut String, texts: &[String]) -> Result<(), AllocError>
+    ensures { OnOk result (string_bytes out.new ≡ string_bytes out.old ++ listed (map string_bytes texts.now)) }
+{
+    match texts {
+        [] => Ok(()),
+        [first, others @ ..] => {
+            push_bracketed(out, first.as_str())?;
+            push_others(out, others)
+        }
+    }
+}

@@ -1,0 +1,85 @@
+//! The units of a Telnet stream, as lines.
+
+ghost use Rattle.std.specs.Prelude.{◌≡◌, ◌++◌, ◌<◌, ◌+◌, ◌∷◌, [], codes, IfOk, OnOk, string_bytes};
+ghost use Rattle.std.specs.List.{flat_map};
+ghost use Rattle.mud_nvt.specs.Shown.{shown, all_shown};
+ghost use Rattle.mud_nvt.specs.Units.{units};
+ghost use Rattle.mud_explain.specs.Units.{hex_digit, byte_text, unit_text, units_text};
+
+use mud_nvt::{Nvt, Unit};
+use std::alloc::{AllocError, Global};
+
+// The units that the bytes give, where no byte came before them.
+fn units_of(alloc: Global, input: &[u8]) -> Result<Vec<Unit>, AllocError>
+    ensures { IfOk result (λ given. all_shown given.items ≡ units input.now) }
+{
+    let mut terminal = Nvt::new(alloc);
+    let mut given = Vec::new(alloc);
+    match terminal.feed(input, &mut given) {
+        Ok(()) => Ok(given),
+        Err(_) => Err(AllocError),
+    }
+}
+
+// A digit of sixteen.
+fn hex_digit(value: u8) -> char
+    requires { value < 16 }
+    ensures { result ≡ hex_digit value }
+{
+    if value < 10 {
+        char::from(b'0' + value)
+    } else {
+        char::from(b'A' - 10 + value)
+    }
+}
+
+// Appends each byte as two digits, a space in front of each.
+fn push_bytes(out: &mut String, bytes: &[u8]) -> Result<(), AllocError>
+    ensures { OnOk result (string_bytes out.new ≡ string_bytes out.old ++ flat_map byte_text bytes.now) }
+{
+    for byte in bytes {
+        out.push(' ')?;
+        out.push(hex_digit(*byte / 16))?;
+        out.push(hex_digit(*byte % 16))?;
+    }
+    Ok(())
+}
+
+// Appends the line of a unit, without its end.
+fn push_unit(out: &mut String, unit: &Unit) -> Result<(), AllocError>
+    ensures { OnOk result (string_bytes out.new ≡ string_bytes out.old ++ unit_text (shown unit.now)) }
+{
+    match unit {
+        Unit::Text(text) => {
+            out.push_str("text ")?;
+            out.push_str(text.as_str())
+        }
+        Unit::TooLong => out.push_str("too long"),
+        Unit::Ayt => out.push_str("ayt"),
+        Unit::Answer(bytes) => {
+            out.push_str("answer")?;
+            push_bytes(out, bytes.as_slice())
+        }
+    }
+}
+
+// Appends the lines of units.
+fn push_units(out: &mut String, given: &[Unit]) -> Result<(), AllocError>
+    ensures { OnOk result (string_bytes out.new ≡ string_bytes out.old ++ units_text (all_shown given.now)) }
+{
+    for unit in given {
+        push_unit(out, unit)?;
+        out.push('\n')?;
+    }
+    Ok(())
+}
+
+/// A line for each unit of the stream, in order (docs/EXPLAIN.md, "units").
+pub(crate) fn explained_units(alloc: Global, input: &[u8]) -> Result<String, AllocError>
+    ensures { IfOk result (λ out. string_bytes out ≡ units_text (units input.now)) }
+{
+    let given = units_of(alloc, input)?;
+    let mut out = String::new(alloc);
+    push_units(&mut out, given.as_slice())?;
+    Ok(out)
+}

@@ -35,10 +35,6 @@ mod numbers;
 mod reading;
 mod stage;
 mod steps;
-#[cfg(test)]
-mod tests_check;
-#[cfg(test)]
-mod tests_text;
 pub mod text_laws;
 mod writing;
 

@@ -12,8 +12,6 @@ mod input;
 mod line_ends;
 mod outcome;
 mod sources;
-#[cfg(test)]
-mod tests;
 
 use crate::command_line::sources_of;
 use crate::outcome::Outcome;
@@ -27,7 +25,13 @@ fn main(rt: HostRuntime) -> ExitCode {
     let alloc = rt.alloc();
     let words: Vec<String> = match words_of(&rt, alloc) {
         Ok(words) => words,
-        Err(_) => return ended(&rt, Err(Unread::OutOfMemory)),
+        Err(error) => {
+            if error.kind() == io::ErrorKind::OutOfMemory {
+                return ended(&rt, Err(Unread::OutOfMemory));
+            }
+            let _ = eprintln!(rt; "error: a word of the command line is not UTF-8");
+            return ExitCode::from(2);
+        }
     };
     match sources_of(alloc, words.as_slice()) {
         Ok(Sources::Files { history, proof }) => ended(&rt, judge_files(&rt, history, proof)),
@@ -39,9 +43,8 @@ fn main(rt: HostRuntime) -> ExitCode {
             if error.kind() == ErrorKind::OutOfMemory {
                 return ended(&rt, Err(Unread::OutOfMemory));
             }
-            match eprint!(rt; "{error}") {
-                Ok(()) | Err(_) => ExitCode::from(2),
-            }
+            let _ = eprint!(rt; "{error}");
+            ExitCode::from(2)
         }
     }
 }
@@ -57,8 +60,9 @@ fn ended(rt: &HostRuntime, judged: Result<Outcome, Unread<'_>>) -> ExitCode {
     let mut writer = io::writer(rt);
     ExitCode::from(match judged {
         Ok(outcome) => said(&mut writer, outcome.text.as_str(), outcome.status.code()),
-        Err(unread) => match writeln!(&mut writer, "{unread}") {
-            Ok(()) | Err(_) => 2,
-        },
+        Err(unread) => {
+            let _ = writeln!(&mut writer, "{unread}");
+            2
+        }
     })
 }

@@ -30,8 +30,6 @@ mod line;
 mod parts;
 mod reading;
 mod replaying;
-#[cfg(test)]
-mod tests;
 mod verb;
 mod writing;
 

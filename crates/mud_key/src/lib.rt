@@ -53,8 +53,6 @@ mod operator;
 mod place;
 mod printing;
 mod scan;
-#[cfg(test)]
-mod tests;
 
 pub use commas::parts;
 pub use key::{Key, asks, atoms};

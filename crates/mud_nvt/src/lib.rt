@@ -262,6 +262,3 @@ pub fn write_line<A: Allocator>(text: &str, out: &mut Vec<u8, A>) -> Result<(), 
     out.extend_from_slice(&[CR, LF])?;
     Ok(())
 }
-
-#[cfg(test)]
-mod tests;

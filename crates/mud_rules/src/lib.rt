@@ -62,6 +62,3 @@ pub use mud_world::Refusal;
 pub use party::Party;
 pub use replies::{refusal_text, reply_text, welcome_text};
 pub use verdict::{Journey, Query, Verdict, View};
-
-#[cfg(test)]
-mod tests;

@@ -160,6 +160,3 @@ pub fn is_blank(line: &str) -> bool
 {
     without_front(line).is_empty()
 }
-
-#[cfg(test)]
-mod tests;

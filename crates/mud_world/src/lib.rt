@@ -43,8 +43,6 @@ mod record;
 mod refusal;
 mod slots;
 mod speech;
-#[cfg(test)]
-mod tests;
 mod world;
 
 pub use change::{Change, Deed, Doors, Target};

@@ -9,21 +9,26 @@ mod script;
 mod session;
 mod solo;
 mod source;
-#[cfg(test)]
-mod tests;
 
 use crate::command_line::limits_of;
 use crate::script::{ScriptFault, script};
 use crate::source::Source;
 use clap::error::ErrorKind;
+use std::alloc::Global;
 use std::io;
 use std::process::ExitCode;
 
-fn main(rt: HostRuntime) -> io::Result<ExitCode> {
+fn main(rt: HostRuntime) -> ExitCode {
     let alloc = rt.alloc();
-    let words: Vec<String> = match std::env::args(&rt)?.collect(alloc) {
+    let words: Vec<String> = match words_of(&rt, alloc) {
         Ok(words) => words,
-        Err(_) => return stopped(&rt, ScriptFault::OutOfMemory),
+        Err(error) => {
+            if error.kind() == io::ErrorKind::OutOfMemory {
+                return stopped(&rt, ScriptFault::OutOfMemory);
+            }
+            let _ = eprintln!(rt; "error: a word of the command line is not UTF-8");
+            return ExitCode::from(2);
+        }
     };
     let limits = match limits_of(alloc, words.as_slice()) {
         Ok(limits) => limits,
@@ -31,8 +36,8 @@ fn main(rt: HostRuntime) -> io::Result<ExitCode> {
             if error.kind() == ErrorKind::OutOfMemory {
                 return stopped(&rt, ScriptFault::OutOfMemory);
             }
-            eprint!(rt; "{error}")?;
-            return Ok(ExitCode::from(2));
+            let _ = eprint!(rt; "{error}");
+            return ExitCode::from(2);
         }
     };
     let mut source = Source::new(rt.reader());
@@ -45,16 +50,22 @@ fn main(rt: HostRuntime) -> io::Result<ExitCode> {
         limits.capacity,
         limits.workers,
     ) {
-        Ok(()) => Ok(ExitCode::SUCCESS),
+        Ok(()) => ExitCode::SUCCESS,
         Err(fault) => stopped(&rt, fault),
     }
 }
 
-// Says why the program stopped, and its status.
-fn stopped(rt: &HostRuntime, fault: ScriptFault) -> io::Result<ExitCode> {
-    eprintln!(rt; "mud_serve: {fault}")?;
-    Ok(ExitCode::from(match fault {
+// The words of the command line.
+fn words_of(rt: &HostRuntime, alloc: Global) -> io::Result<Vec<String>> {
+    let words = std::env::args(rt)?.collect(alloc)?;
+    Ok(words)
+}
+
+// Says why the program stopped, where that can be said, and answers its status.
+fn stopped(rt: &HostRuntime, fault: ScriptFault) -> ExitCode {
+    let _ = eprintln!(rt; "mud_serve: {fault}");
+    ExitCode::from(match fault {
         ScriptFault::OutOfMemory => 4,
         ScriptFault::Read | ScriptFault::Write | ScriptFault::TooManyReads => 3,
-    }))
+    })
 }

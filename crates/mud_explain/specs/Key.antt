@@ -11,8 +11,8 @@ grouped (Asks o) = codes "?" ++ o
 grouped (Not k) = codes "!" ++ grouped k
 grouped (Join op a b) = codes "(" ++ grouped a ++ codes " " ++ sign op ++ codes " " ++ grouped b ++ codes ")"
 
--- what a text is told to be: a key text within the limits; no key text, with the length of its longest front that begins
--- one; or a key text beyond the limits
+-- what a text is told to be: a key text within the limits; no key text, with the length of its longest front that
+-- begins one; or a key text beyond the limits
 pub data SaysKey (text answer : List ℕ) : Type 0 where
   a_key : (key : Tree (List ℕ)) → SpellsKey text key → IsWithinLimits key → answer ≡ grouped key → SaysKey text answer
   no_key : (at : ℕ) → IsNoKeyText text → IsLongestFront text at → answer ≡ codes "bad key at " ++ decimal at

@@ -29,8 +29,6 @@ mod journey;
 pub mod laws;
 mod meeting;
 mod route;
-#[cfg(test)]
-mod tests;
 mod texts;
 mod way;
 

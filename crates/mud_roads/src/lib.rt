@@ -24,8 +24,6 @@ mod access;
 mod label;
 pub mod laws;
 mod table;
-#[cfg(test)]
-mod tests;
 mod traveller;
 
 pub use label::{Label, Step};

@@ -48,8 +48,6 @@ mod fault;
 mod pass;
 mod replica;
 mod row;
-#[cfg(test)]
-mod tests;
 
 pub use fault::RowFault;
 pub use pass::Pass;

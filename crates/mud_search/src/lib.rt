@@ -34,8 +34,6 @@ mod job;
 mod queue;
 mod slot;
 mod task;
-#[cfg(test)]
-mod tests;
 
 pub use alone::labels_alone;
 pub use found::Labels;

@@ -1,0 +1,39 @@
+//! The tests of the libraries: each public call once with memory enough, unless an example of a
+//! program shows it, and what refuses a wrong body that no contract refuses.
+//!
+//! Tables that a program can show are no tests: they stand in `examples/`, and the programs are
+//! run on them. No other crate has a test, so each of them is proved once. Here a table is a text
+//! of rows, which one function answers: a test is proved like any function, and a row of a text
+//! costs nothing.
+#![tactic(auto)]
+
+#[cfg(test)]
+mod cert;
+#[cfg(test)]
+mod chron;
+#[cfg(test)]
+mod dice;
+#[cfg(test)]
+mod guide;
+#[cfg(test)]
+mod key;
+#[cfg(test)]
+mod nvt;
+#[cfg(test)]
+mod plain;
+#[cfg(test)]
+mod roads;
+#[cfg(test)]
+mod row;
+#[cfg(test)]
+mod rows;
+#[cfg(test)]
+mod rules;
+#[cfg(test)]
+mod search;
+#[cfg(test)]
+mod village;
+#[cfg(test)]
+mod words;
+#[cfg(test)]
+mod world;

@@ -28,31 +28,19 @@ pub(crate) enum Verb {
 pub(crate) fn verb_of(word: &str) -> Result<Verb, Unread>
     ensures { Gives (λ v. v) result (verb_in word.now) }
 {
-    if word == "dig" {
-        Ok(Verb::Dig)
-    } else if word == "make" {
-        Ok(Verb::Make)
-    } else if word == "player" {
-        Ok(Verb::Player)
-    } else if word == "lock" {
-        Ok(Verb::Lock)
-    } else if word == "unlock" {
-        Ok(Verb::Unlock)
-    } else if word == "move" {
-        Ok(Verb::Move)
-    } else if word == "walk" {
-        Ok(Verb::Walk)
-    } else if word == "cost" {
-        Ok(Verb::Cost)
-    } else if word == "rename" {
-        Ok(Verb::Rename)
-    } else if word == "recycle" {
-        Ok(Verb::Recycle)
-    } else if word == "say" {
-        Ok(Verb::Say)
-    } else if word == "emote" {
-        Ok(Verb::Emote)
-    } else {
-        Err(Unread::NoEntry)
+    match word {
+        "dig" => Ok(Verb::Dig),
+        "make" => Ok(Verb::Make),
+        "player" => Ok(Verb::Player),
+        "lock" => Ok(Verb::Lock),
+        "unlock" => Ok(Verb::Unlock),
+        "move" => Ok(Verb::Move),
+        "walk" => Ok(Verb::Walk),
+        "cost" => Ok(Verb::Cost),
+        "rename" => Ok(Verb::Rename),
+        "recycle" => Ok(Verb::Recycle),
+        "say" => Ok(Verb::Say),
+        "emote" => Ok(Verb::Emote),
+        _ => Err(Unread::NoEntry),
     }
 }

@@ -3,10 +3,10 @@
 ghost use Rattle.std.specs.Prelude.{false, ◌≡◌, ◌+◌, ◌<◌, ◌≤◌, ◌++◌, [], ◌∷◌, Some, None, IfOk, OnOk, OnErr, codes, decimal, length, string_bytes, IsTrue, if◌then◌else◌};
 ghost use Rattle.mud_world.specs.Legal.{refusal};
 ghost use Rattle.mud_world.specs.State.{is_player};
-ghost use Rattle.mud_rules.specs.Outcome.{IsJourney, IsQuestion};
+ghost use Rattle.mud_rules.specs.Outcome.{IsJourney, IsLawful, IsQuestion};
 ghost use Rattle.mud_rules.specs.Replies.{reply_text, refusal_text, welcome_text};
 ghost use Rattle.mud_rules.specs.Answers.{show_text};
-ghost use Rattle.mud_serve.specs.Desk.{opening, world_at, version, is_full, numbered, IsGuided, IsTold, IsProof, IsAnswer, Replies, settled, seated, accepted, is_quit, IsReply, ends, desk_after};
+ghost use Rattle.mud_serve.specs.Desk.{opening, world_at, version, is_full, numbered, IsGuided, IsTold, IsProof, IsAnswer, Replies, settled, seated, accepted, is_last, is_quit, IsReply, ends, desk_after};
 
 use crate::answers::{history_answer, proof_answer};
 use crate::door::Reply;
@@ -73,7 +73,19 @@ impl Solo {
         ensures err { OnErr result (self.new ≡ self.old) }
     {
         let parsed = parse(self.alloc, line)?;
-        match decide(self.alloc, &self.world, Some(self.player), &parsed)? {
+        let verdict = decide(self.alloc, &self.world, Some(self.player), &parsed)?;
+        self.settle(verdict)
+    }
+
+    // The reply to what a line comes to.
+    fn settle(&mut self, verdict: Verdict) -> Result<Reply, AllocError>
+        requires { IsLawful (world_at self.old) (Some self.old.player) verdict }
+        ensures text { IfOk result (λ reply. Replies self.old verdict (string_bytes reply.text)) }
+        ensures last { IfOk result (λ reply. reply.is_last ≡ is_last verdict) }
+        ensures desk { OnOk result (self.new ≡ settled self.old verdict) }
+        ensures err { OnErr result (self.new ≡ self.old) }
+    {
+        match verdict {
             Verdict::Change(change) => self.accept(change),
             Verdict::Become(player) => self.seat(player),
             Verdict::Refused(refusal) => self.reply(refusal_text(refusal), false),
@@ -104,16 +116,35 @@ impl Solo {
         ensures err { OnErr result (self.new ≡ self.old) }
     {
         if self.is_full() {
-            return Ok(Reply {
-                text: String::from_str(self.alloc, "(history full)")?,
-                is_last: false,
-            });
+            return self.full();
         }
-        let text = reply_text(self.alloc, &self.world, &change)?;
-        let text = numbered(self.alloc, self.version() + 1, &text)?;
+        let reply = self.kept(&change)?;
         self.enter(change)?;
+        Ok(reply)
+    }
+
+    // The reply of a change that the history has no room for.
+    fn full(&self) -> Result<Reply, AllocError>
+        ensures text { IfOk result (λ reply. string_bytes reply.text ≡ codes "(history full)") }
+        ensures last { IfOk result (λ reply. reply.is_last ≡ false) }
+    {
         Ok(Reply {
-            text,
+            text: String::from_str(self.alloc, "(history full)")?,
+            is_last: false,
+        })
+    }
+
+    // The reply of a legal change that is about to be kept.
+    fn kept(&self, change: &Change) -> Result<Reply, AllocError>
+        requires legal { refusal (world_at self.now) change.now ≡ None }
+        requires room { version self.now < self.now.capacity }
+        ensures text { IfOk result (λ reply. string_bytes reply.text
+            ≡ numbered (version self.now + 1) (reply_text (world_at self.now) change.now)) }
+        ensures last { IfOk result (λ reply. reply.is_last ≡ false) }
+    {
+        let text = reply_text(self.alloc, &self.world, change)?;
+        Ok(Reply {
+            text: numbered(self.alloc, self.version() + 1, &text)?,
             is_last: false,
         })
     }
@@ -127,9 +158,9 @@ impl Solo {
     {
         self.history.reserve(1)?;
         let _sound = self.world.next_number();
+        self.world.apply(&change)?;
+        self.player = seated(self.player, &change);
         let entry = Entry::new(1, change);
-        self.world.apply(entry.change())?;
-        self.player = seated(self.player, entry.change());
         self.history.push(entry).unwrap();
         Ok(())
     }

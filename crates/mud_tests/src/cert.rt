@@ -1,7 +1,6 @@
-//! Certificates: texts that are written as they were read, and a walk of half a million exits.
+//! Certificates: texts that are written as they were read.
 
-use crate::village::world;
-use mud_cert::{Doubt, Form, check, read};
+use mud_cert::{Form, read};
 use std::alloc::Global;
 use std::test::Fail;
 
@@ -63,26 +62,5 @@ fn what_a_certificate_says(rt: HostRuntime) -> Result<(), Fail> {
     let member = &cert.members()[0];
     assert_eq!(rt; (member.player(), member.from()), (1, 0));
     assert!(rt; member.labels().len() == 2 && member.walk() == Some([3].as_slice()));
-    Ok(())
-}
-
-const DEAR_LIBRARY: &str = "dig #1 new \"Library\" out \"north\" back \"south\"
-cost #1 #3 8192
-cost #1 #4 8192";
-
-// What is doubted of a round trip that is gone so often.
-fn doubt(alloc: Global, rounds: usize) -> Result<Option<Doubt>, Fail> {
-    let world = world(alloc, DEAR_LIBRARY)?;
-    let walk = " #3 #4".repeat(alloc, rounds)?;
-    let head = "mud proof 1\nversion 3\nmember #1 from #0\nlabels #0:0 #2:8192\nwalk";
-    let text = format!(in alloc; "{head}{walk}\nroute #0 cost 0\nend\n")?;
-    let cert = read(alloc, text.as_bytes())?;
-    Ok(check(alloc, &world, &cert).err())
-}
-
-// The sum of the costs is 2 to the 32nd.
-#[test]
-fn a_sum_past_every_label(rt: HostRuntime) -> Result<(), Fail> {
-    assert!(rt; doubt(rt.alloc(), 262_144)? == Some(Doubt::WalkCost(1)));
     Ok(())
 }

@@ -51,21 +51,32 @@ fn copies(alloc: Global, entries: &[Entry]) -> Result<Vec<Entry>, AllocError> {
     Ok(copies)
 }
 
+// Whether the history of each kind of line is what is written of this text.
+fn is_each_kind(alloc: Global, text: &str) -> Result<bool, Fail> {
+    let written = again(alloc, text)?;
+    Ok(written.as_str() == EACH_KIND)
+}
+
 #[test]
 fn each_kind_is_read_and_written(rt: HostRuntime) -> Result<(), Fail> {
     let alloc = rt.alloc();
     let first = EACH_KIND.replacen(alloc, "mud history 2", "mud history 1", 1)?;
-    assert!(rt; again(alloc, &first)?.as_str() == EACH_KIND);
-    assert!(rt; again(alloc, EACH_KIND)?.as_str() == EACH_KIND);
+    assert!(rt; is_each_kind(alloc, &first)? && is_each_kind(alloc, EACH_KIND)?);
     Ok(())
+}
+
+// What is written of the copies of entries.
+fn copied(alloc: Global, entries: &[Entry]) -> Result<String, Fail> {
+    let copies = copies(alloc, entries)?;
+    written(alloc, &copies)
 }
 
 #[test]
 fn each_kind_is_copied(rt: HostRuntime) -> Result<(), Fail> {
     let alloc = rt.alloc();
     let entries = read_history(alloc, EACH_KIND.as_bytes())?;
-    let copies = copies(alloc, &entries)?;
-    assert!(rt; written(alloc, &copies)?.as_str() == EACH_KIND);
+    let text = copied(alloc, &entries)?;
+    assert!(rt; text.as_str() == EACH_KIND);
     Ok(())
 }
 
@@ -85,13 +96,19 @@ kind 9 => none
 kind 12 => Player { place: 2 } of #12
 ";
 
+// The seventh line of a history, which is this entry, behind a text.
+fn line_of(alloc: Global, entry: &Entry) -> Result<String, Fail> {
+    let mut line = String::from_str(alloc, "> ")?;
+    write_entry(alloc, 7, entry, &mut line)?;
+    Ok(line)
+}
+
 #[test]
 fn an_entry_is_written(rt: HostRuntime) -> Result<(), Fail> {
     let alloc = rt.alloc();
     let entry = entry(alloc, 3, LIBRARY)?;
     assert!(rt; entry.desk() == 3 && entry.change().actor == 1);
-    let mut line = String::from_str(alloc, "> ")?;
-    write_entry(alloc, 7, &entry, &mut line)?;
+    let line = line_of(alloc, &entry)?;
     let wanted = "> 7 3 dig #1 new \"Library\" out \"north\" back \"south\"\n";
     assert!(rt; line.as_str() == wanted);
     Ok(())
@@ -104,33 +121,5 @@ fn an_illegal_change_is_named(rt: HostRuntime) -> Result<(), Fail> {
     let entries = read_history(alloc, text)?;
     let found = replay(alloc, &entries);
     assert!(rt; matches!(found, Err(ChronFault::BadChange(2))));
-    Ok(())
-}
-
-#[test]
-fn a_byte_behind_the_end(rt: HostRuntime) -> Result<(), Fail> {
-    let found = read_history(rt.alloc(), b"mud history 1\n1 1 say #1 hi\nend 1\nx");
-    assert!(rt; matches!(found, Err(ChronFault::BadLine(4))));
-    Ok(())
-}
-
-// A history of the most entries, with this at its end.
-fn longest(alloc: Global, end: &str) -> Result<String, Fail> {
-    let mut text = String::from_str(alloc, "mud history 2\n")?;
-    for number in 1..65_537 {
-        text.push_str(&format!(in alloc; "{number} 1 say #1 hi\n")?)?;
-    }
-    text.push_str(end)?;
-    Ok(text)
-}
-
-#[test]
-fn the_most_entries(rt: HostRuntime) -> Result<(), Fail> {
-    let alloc = rt.alloc();
-    let most = longest(alloc, "end 65536\n")?;
-    assert!(rt; read_history(alloc, most.as_bytes())?.len() == 65_536);
-    let more = longest(alloc, "65537 1 say #1 hi\n")?;
-    let found = read_history(alloc, more.as_bytes());
-    assert!(rt; matches!(found, Err(ChronFault::TooLong)));
     Ok(())
 }

@@ -134,23 +134,3 @@ fn keys_and_names(rt: HostRuntime) -> Result<(), Fail> {
     check(&rt, rt.alloc(), &mut Texts, KEYS)?;
     check(&rt, rt.alloc(), &mut Texts, NAMES)
 }
-
-// What a text is read as, written a million times with these at its end.
-fn place(alloc: Global, often: &str, end: &str) -> Result<Option<KeyFault>, Fail> {
-    let mut text = often.repeat(alloc, 1_000_000)?;
-    text.push_str(end)?;
-    Ok(read(alloc, &text).err())
-}
-
-#[test]
-fn long_texts_are_answered(rt: HostRuntime) -> Result<(), Fail> {
-    let alloc = rt.alloc();
-    let open = place(alloc, "(", "a")?;
-    assert!(rt; matches!(open, Some(KeyFault::BadKey(1_000_001))));
-    let many = place(alloc, "a||", "a")?;
-    assert!(rt; matches!(many, Some(KeyFault::TooManyAtoms)));
-    let mut spaces = " ".repeat(alloc, 1_000_000)?;
-    spaces.push_str("a")?;
-    assert!(rt; Names::read(alloc, &spaces)?.first() == "a");
-    Ok(())
-}

@@ -1,7 +1,7 @@
 //! Travellers: which exits are open to them.
 
 use crate::rows::{Answers, check, number, parted};
-use crate::village::{LIBRARY, act, world};
+use crate::village::{LIBRARY, done, world};
 use mud_roads::{Label, Step, Traveller};
 use mud_world::World;
 use std::alloc::Global;
@@ -55,15 +55,26 @@ fn known(alloc: Global, world: &World, room: u32) -> Result<Vec<Step>, Fail> {
     Ok(traveller.steps_from(room).to_vec(alloc)?)
 }
 
+// The exits that are open to a player, in words.
+fn open(alloc: Global, world: &World, player: u32) -> Result<String, Fail> {
+    let open = passed(alloc, world, player)?;
+    Ok(format!(in alloc; "{open:?}")?)
+}
+
+// Steps in words.
+fn leaves(alloc: Global, steps: Vec<Step>) -> Result<String, Fail> {
+    Ok(format!(in alloc; "{steps:?}")?)
+}
+
 impl Answers for Ways {
     fn answer(&mut self, alloc: Global, asked: &str) -> Result<String, Fail> {
         let (what, rest) = parted(asked);
         match what {
-            "open" => Ok(format!(in alloc; "{:?}", passed(alloc, &self.world, number(rest))?)?),
+            "open" => open(alloc, &self.world, number(rest)),
             "place" => Ok(format!(in alloc; "{:?}", placed(alloc, &self.world, number(rest))?)?),
-            "leave" => Ok(format!(in alloc; "{:?}", left(alloc, &self.world, number(rest))?)?),
-            "know" => Ok(format!(in alloc; "{:?}", known(alloc, &self.world, number(rest))?)?),
-            _ => Ok(format!(in alloc; "{:?}", act(alloc, &mut self.world, asked)?)?),
+            "leave" => leaves(alloc, left(alloc, &self.world, number(rest))?),
+            "know" => leaves(alloc, known(alloc, &self.world, number(rest))?),
+            _ => done(alloc, &mut self.world, asked),
         }
     }
 }

@@ -1,6 +1,6 @@
 //! One history that many know: what one holder sets, the others find.
 
-ghost use Rattle.std.specs.Prelude.{◌≡◌, IfOk};
+ghost use Rattle.std.specs.Prelude.{◌≡◌};
 
 use crate::village::{LIBRARY, entry};
 use mud_chron::Entry;
@@ -9,19 +9,11 @@ use std::alloc::Global;
 use std::process::Abort;
 use std::test::Fail;
 
-// An entry of desk 1: the wizard digs the room #2, with the exit #3 to it and #4 back.
-fn dig(alloc: Global) -> Result<Box<Entry>, Fail> {
-    Ok(Box::new(alloc, entry(alloc, 1, LIBRARY)?)?)
-}
+const WALK: &str = "walk #1 #3";
 
-// An entry of desk 2: the wizard walks through the exit #3.
-fn walk(alloc: Global) -> Result<Box<Entry>, Fail> {
-    Ok(Box::new(alloc, entry(alloc, 2, "walk #1 #3")?)?)
-}
-
-// An entry of desk 3: the wizard says a text.
-fn say(alloc: Global) -> Result<Box<Entry>, Fail> {
-    Ok(Box::new(alloc, entry(alloc, 3, "say #1 hello")?)?)
+// The entry of a change, by a desk.
+fn boxed(alloc: Global, desk: u32, change: &str) -> Result<Box<Entry>, Fail> {
+    Ok(Box::new(alloc, entry(alloc, desk, change)?)?)
 }
 
 // The desk of an entry.
@@ -37,64 +29,123 @@ fn is_shared<T: Send + Sync>(_value: &T) {}
 
 fn is_sent<T: Send>(_value: &T) {}
 
-#[test]
-fn two_passes_of_one_row(rt: HostRuntime) -> Result<(), Fail> {
-    let alloc = rt.alloc();
-    let row = Row::new(alloc, 2)?;
-    let mut a = row.pass(alloc)?;
-    let mut b = row.pass(alloc)?;
-    assert!(rt; matches!(row.publish(&mut a, dig(alloc)?), Ok(1)));
-    let walk = match row.publish(&mut b, walk(alloc)?) {
-        Err((back, RowFault::Unpublished)) => back,
-        _ => return Err("it was published".into()),
-    };
-    assert_eq!(rt; (walk.desk(), a.known(), b.known()), (2, 1, 0));
-    assert_eq!(rt; desk_of(row.next(&mut b)), Some(1));
-    assert!(rt; matches!(row.publish(&mut b, walk), Ok(2)));
-    match row.publish(&mut b, say(alloc)?) {
-        Err((say, fault)) => assert!(rt; say.desk() == 3 && fault == RowFault::HistoryFull),
-        Ok(_) => return Err("it was published".into()),
+// The number that an entry is published as.
+fn set(
+    alloc: Global,
+    row: &Row,
+    pass: &mut Pass,
+    desk: u32,
+    change: &str,
+) -> Result<Option<u32>, Fail>
+    requires { pass.old.row ≡ row.now }
+    ensures { pass.new.row ≡ pass.old.row }
+{
+    match row.publish(pass, boxed(alloc, desk, change)?) {
+        Ok(number) => Ok(Some(number)),
+        Err(_) => Ok(None),
     }
-    assert_eq!(rt; desk_of(row.next(&mut a)), Some(2));
-    a.agree(&mut b);
-    assert_eq!(rt; (a.known(), b.known()), (2, 2));
+}
+
+// The desk of the entry that comes back, and why it does.
+fn refused(
+    alloc: Global,
+    row: &Row,
+    pass: &mut Pass,
+    desk: u32,
+    change: &str,
+) -> Result<Option<(u32, RowFault)>, Fail>
+    requires { pass.old.row ≡ row.now }
+    ensures { pass.new.row ≡ pass.old.row }
+{
+    match row.publish(pass, boxed(alloc, desk, change)?) {
+        Ok(_) => Ok(None),
+        Err((back, fault)) => Ok(Some((back.desk(), fault))),
+    }
+}
+
+// One pass sets the first entry, and the other does not know of it before it looks.
+fn start(rt: &impl Abort, alloc: Global, row: &Row, a: &mut Pass, b: &mut Pass) -> Result<(), Fail>
+    requires a { a.old.row ≡ row.now }
+    requires b { b.old.row ≡ row.now }
+    ensures a { a.new.row ≡ a.old.row }
+    ensures b { b.new.row ≡ b.old.row }
+{
+    assert!(rt; row.next(b).is_none());
+    let number = set(alloc, row, a, 1, LIBRARY)?;
+    let back = refused(alloc, row, b, 2, WALK)?;
+    assert!(rt; number == Some(1) && back == Some((2, RowFault::Unpublished)));
+    assert!(rt; a.known() == 1 && b.known() == 0);
+    assert!(rt; desk_of(row.next(b)) == Some(1));
+    Ok(())
+}
+
+// The other sets the second entry, and then the row is full.
+fn race(rt: &impl Abort, alloc: Global, row: &Row, a: &mut Pass, b: &mut Pass) -> Result<(), Fail>
+    requires a { a.old.row ≡ row.now }
+    requires b { b.old.row ≡ row.now }
+    ensures { a.new.row ≡ a.old.row }
+{
+    start(rt, alloc, row, a, b)?;
+    let number = set(alloc, row, b, 2, WALK)?;
+    let back = refused(alloc, row, b, 3, WALK)?;
+    assert!(rt; number == Some(2) && back == Some((3, RowFault::HistoryFull)));
+    assert!(rt; desk_of(row.next(a)) == Some(2));
+    a.agree(b);
+    assert!(rt; a.known() == 2 && b.known() == 2);
+    Ok(())
+}
+
+// What an early pass learns from a late one.
+fn learn_late(rt: &impl Abort, row: &Row, early: &mut Pass, late: &mut Pass)
+    requires early { early.old.row ≡ row.now }
+    requires late { late.old.row ≡ row.now }
+{
+    assert!(rt; early.known() == 0 && late.known() == 2);
+    early.learn(late);
+    assert!(rt; desk_of(row.entry(early, 1)) == Some(1));
+    assert!(rt; desk_of(row.entry(early, 2)) == Some(2));
+    assert!(rt; row.next(early).is_none());
+}
+
+// What passes know that are copied before and after others set what they set.
+fn know(rt: &impl Abort, alloc: Global, row: &Row, a: &mut Pass, b: &mut Pass) -> Result<(), Fail>
+    requires a { a.old.row ≡ row.now }
+    requires b { b.old.row ≡ row.now }
+{
+    let mut early = a.again(alloc)?;
+    race(rt, alloc, row, a, b)?;
+    let mut late = a.again(alloc)?;
+    learn_late(rt, row, &mut early, &mut late);
     Ok(())
 }
 
 #[test]
-fn what_a_pass_knows(rt: HostRuntime) -> Result<(), Fail> {
+fn passes_of_one_row(rt: HostRuntime) -> Result<(), Fail> {
     let alloc = rt.alloc();
-    let row = Row::new(alloc, 3)?;
+    let row = Row::new(alloc, 2)?;
     is_shared(&row);
     let mut a = row.pass(alloc)?;
     is_sent(&a);
-    let mut early = a.again(alloc)?;
-    assert!(rt; row.publish(&mut a, dig(alloc)?).is_ok());
-    assert!(rt; row.publish(&mut a, walk(alloc)?).is_ok());
-    let mut late = a.again(alloc)?;
-    assert_eq!(rt; (early.known(), late.known()), (0, 2));
-    early.learn(&mut late);
-    assert!(rt; desk_of(row.entry(&mut early, 1)) == Some(1));
-    assert!(rt; desk_of(row.entry(&mut early, 2)) == Some(2));
-    assert!(rt; row.next(&mut early).is_none());
+    let mut b = row.pass(alloc)?;
+    know(&rt, alloc, &row, &mut a, &mut b)
+}
+
+// Sets the entry of a change.
+fn publish(
+    rt: &impl Abort,
+    alloc: Global,
+    row: &Row,
+    replica: &mut Replica,
+    desk: u32,
+    change: &str,
+) -> Result<(), Fail>
+    requires { replica.old.row ≡ row.now }
+    ensures { replica.new.row ≡ replica.old.row }
+{
+    let entry = boxed(alloc, desk, change)?;
+    assert!(rt; replica.publish(row, entry).is_ok());
     Ok(())
 }
-
-// A replica that has set two entries, and took in none.
-fn begun(alloc: Global, row: &Row, first: &str, second: &str) -> Result<Replica, Fail>
-    ensures { IfOk result (λ replica. replica.row ≡ row.now) }
-{
-    let first = Box::new(alloc, entry(alloc, 1, first)?)?;
-    let second = Box::new(alloc, entry(alloc, 2, second)?)?;
-    let mut replica = Replica::new(alloc, row)?;
-    if replica.publish(row, first).is_ok() && replica.publish(row, second).is_ok() {
-        Ok(replica)
-    } else {
-        Err("it was not published".into())
-    }
-}
-
-const WALK: &str = "walk #1 #3";
 
 // What another replica finds, and then takes in.
 fn find(rt: &impl Abort, row: &Row, other: &mut Replica) -> Result<(), Fail>
@@ -109,13 +160,10 @@ fn find(rt: &impl Abort, row: &Row, other: &mut Replica) -> Result<(), Fail>
     Ok(())
 }
 
-#[test]
-fn a_replica_follows_a_row(rt: HostRuntime) -> Result<(), Fail> {
-    let row = Row::new(rt.alloc(), 8)?;
-    let one = begun(rt.alloc(), &row, LIBRARY, WALK)?;
-    is_sent(&one);
-    let mut other = Replica::new(rt.alloc(), &row)?;
-    find(&rt, &row, &mut other)
+// The same of a new replica.
+fn find_alone(rt: &impl Abort, alloc: Global, row: &Row) -> Result<(), Fail> {
+    let mut other = Replica::new(alloc, row)?;
+    find(rt, row, &mut other)
 }
 
 // What another replica learns and tells, and then takes in.
@@ -129,6 +177,7 @@ fn learn(
     requires one { one.old.row ≡ row.now }
     requires other { other.old.row ≡ row.now }
     requires told { told.old.row ≡ row.now }
+    ensures { one.new.row ≡ one.old.row }
 {
     other.learn(one);
     other.tell(told);
@@ -139,13 +188,14 @@ fn learn(
     Ok(())
 }
 
-#[test]
-fn a_replica_learns_from_another(rt: HostRuntime) -> Result<(), Fail> {
-    let row = Row::new(rt.alloc(), 8)?;
-    let mut told = row.pass(rt.alloc())?;
-    let mut one = begun(rt.alloc(), &row, LIBRARY, WALK)?;
-    let mut other = Replica::new(rt.alloc(), &row)?;
-    learn(&rt, &row, &mut one, &mut other, &mut told)
+// The same of a new replica and a new pass.
+fn learn_alone(rt: &impl Abort, alloc: Global, row: &Row, one: &mut Replica) -> Result<(), Fail>
+    requires { one.old.row ≡ row.now }
+    ensures { one.new.row ≡ one.old.row }
+{
+    let mut told = row.pass(alloc)?;
+    let mut other = Replica::new(alloc, row)?;
+    learn(rt, row, one, &mut other, &mut told)
 }
 
 // What a replica is to take in next, and the next number of its world when it did.
@@ -165,25 +215,46 @@ fn step(
     Ok(())
 }
 
+// What comes of two legal changes.
+fn legal(rt: &impl Abort, alloc: Global, row: &Row, one: &mut Replica) -> Result<(), Fail>
+    requires { one.old.row ≡ row.now }
+{
+    publish(rt, alloc, row, one, 1, LIBRARY)?;
+    publish(rt, alloc, row, one, 2, WALK)?;
+    find_alone(rt, alloc, row)?;
+    learn_alone(rt, alloc, row, one)?;
+    step(rt, row, one, Some(1), 5)?;
+    step(rt, row, one, Some(2), 5)?;
+    step(rt, row, one, None, 5)?;
+    assert!(rt; one.world().place(1) == Some(2));
+    Ok(())
+}
+
 #[test]
-fn a_replica_goes_step_by_step(rt: HostRuntime) -> Result<(), Fail> {
+fn replicas_of_one_row(rt: HostRuntime) -> Result<(), Fail> {
     let row = Row::new(rt.alloc(), 8)?;
-    let mut replica = begun(rt.alloc(), &row, LIBRARY, WALK)?;
-    step(&rt, &row, &mut replica, Some(1), 5)?;
-    step(&rt, &row, &mut replica, Some(2), 5)?;
-    step(&rt, &row, &mut replica, None, 5)?;
-    assert!(rt; replica.world().place(1) == Some(2));
+    let mut one = Replica::new(rt.alloc(), &row)?;
+    is_sent(&one);
+    legal(&rt, rt.alloc(), &row, &mut one)
+}
+
+// What comes of a change that is not legal, and of a legal one behind it.
+fn not_legal(rt: &impl Abort, alloc: Global, row: &Row, one: &mut Replica) -> Result<(), Fail>
+    requires { one.old.row ≡ row.now }
+{
+    publish(rt, alloc, row, one, 1, WALK)?;
+    publish(rt, alloc, row, one, 2, LIBRARY)?;
+    step(rt, row, one, Some(1), 2)?;
+    step(rt, row, one, Some(2), 5)?;
+    assert!(rt; one.world().place(1) == Some(0));
     Ok(())
 }
 
 #[test]
 fn what_is_not_legal_changes_nothing(rt: HostRuntime) -> Result<(), Fail> {
     let row = Row::new(rt.alloc(), 8)?;
-    let mut replica = begun(rt.alloc(), &row, WALK, LIBRARY)?;
-    step(&rt, &row, &mut replica, Some(1), 2)?;
-    step(&rt, &row, &mut replica, Some(2), 5)?;
-    assert!(rt; replica.world().place(1) == Some(0));
-    Ok(())
+    let mut one = Replica::new(rt.alloc(), &row)?;
+    not_legal(&rt, rt.alloc(), &row, &mut one)
 }
 
 #[test]

@@ -1,13 +1,13 @@
 //! Rules of lines: what guests may do, what texts match, and what others hear.
 
 use crate::rows::{Answers, check, number, parted};
-use crate::village::{act, entry, world};
+use crate::village::{done, entry, world};
 use mud_rules::{
     Refusal, Verdict, View, decide, heard, is_question, local_match, player_match, refusal_text,
     reply_text, room_match, show, welcome_text,
 };
 use mud_words::parse;
-use mud_world::World;
+use mud_world::{Change, World};
 use std::alloc::{AllocError, Global};
 use std::test::Fail;
 
@@ -77,9 +77,14 @@ fn told(alloc: Global, world: &World, line: &str, player: u32) -> Result<String,
 }
 
 // What the actor of a change is replied.
+fn reply_to(alloc: Global, world: &World, change: &Change) -> Result<String, Fail> {
+    Ok(reply_text(alloc, world, change)?)
+}
+
+// The same of the text of a change.
 fn reply(alloc: Global, world: &World, change: &str) -> Result<String, Fail> {
     let entry = entry(alloc, 1, change)?;
-    Ok(reply_text(alloc, world, entry.change())?)
+    reply_to(alloc, world, entry.change())
 }
 
 // Whether a line is a question.
@@ -107,7 +112,7 @@ impl Answers for Lines {
             "asks" => Ok(format!(in alloc; "{}", is_asking(alloc, rest)?)?),
             "reply" => reply(alloc, &self.world, rest),
             "welcome" => Ok(welcome_text(alloc, number(rest))?),
-            "do" => Ok(format!(in alloc; "{:?}", act(alloc, &mut self.world, rest)?)?),
+            "do" => done(alloc, &mut self.world, rest),
             _ => Ok(told(alloc, &self.world, rest, number(what))?),
         }
     }

@@ -2,7 +2,7 @@
 
 use mud_chron::{Entry, read_history};
 use mud_world::{Refusal, World};
-use std::alloc::{AllocError, Global};
+use std::alloc::Global;
 use std::test::Fail;
 
 /// The entry of a change, by a desk.
@@ -13,7 +13,7 @@ pub(crate) fn entry(alloc: Global, desk: u32, change: &str) -> Result<Entry, Fai
 }
 
 // Does the change of an entry, or answers what refuses it.
-fn take_in(world: &mut World, entry: &Entry) -> Result<Option<Refusal>, AllocError> {
+fn take_in(world: &mut World, entry: &Entry) -> Result<Option<Refusal>, Fail> {
     match world.legal(entry.change()) {
         Ok(()) => {
             world.apply(entry.change())?;
@@ -26,7 +26,13 @@ fn take_in(world: &mut World, entry: &Entry) -> Result<Option<Refusal>, AllocErr
 /// Does the change, or answers what refuses it.
 pub(crate) fn act(alloc: Global, world: &mut World, change: &str) -> Result<Option<Refusal>, Fail> {
     let entry = entry(alloc, 1, change)?;
-    Ok(take_in(world, &entry)?)
+    take_in(world, &entry)
+}
+
+/// The same in words.
+pub(crate) fn done(alloc: Global, world: &mut World, change: &str) -> Result<String, Fail> {
+    let refusal = act(alloc, world, change)?;
+    Ok(format!(in alloc; "{refusal:?}")?)
 }
 
 /// The opening world after these changes, a line each; each must be legal.

@@ -1,7 +1,7 @@
 //! Words: what a line's arguments are, and which lines are blank.
 
 use crate::rows::{Answers, check, parted};
-use mud_words::{is_blank, parse, words};
+use mud_words::{is_blank, parse};
 use std::alloc::Global;
 use std::test::Fail;
 
@@ -34,11 +34,4 @@ args  => []
 #[test]
 fn blank_lines_and_arguments(rt: HostRuntime) -> Result<(), Fail> {
     check(&rt, rt.alloc(), &mut Texts, LINES)
-}
-
-#[test]
-fn a_hundred_thousand_words(rt: HostRuntime) -> Result<(), Fail> {
-    let line = "x ".repeat(rt.alloc(), 100_000)?;
-    assert!(rt; words(rt.alloc(), &line)?.len() == 100_000);
-    Ok(())
 }

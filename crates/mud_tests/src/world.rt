@@ -1,7 +1,7 @@
 //! Worlds: what refuses a change that no line can ask for, and what is asked of a world.
 
 use crate::rows::{Answers, check, number, parted};
-use crate::village::{VILLAGE, act, entry, world};
+use crate::village::{VILLAGE, act, done, entry, world};
 use mud_key::Name;
 use mud_world::{Change, Deed, Refusal, Speech, Target, World, lesser, refused_if};
 use std::alloc::{AllocError, Global};
@@ -60,6 +60,23 @@ fn listed(alloc: Global, world: &World, what: &str, one: u32) -> Result<String, 
     Ok(format!(in alloc; "{list:?}")?)
 }
 
+// The same in words.
+fn tried(alloc: Global, world: &World, change: &str) -> Result<String, Fail> {
+    let refusal = refusal(alloc, world, change)?;
+    Ok(format!(in alloc; "{refusal:?}")?)
+}
+
+// What is asked of one object.
+fn asked_of(alloc: Global, world: &World, what: &str, one: u32) -> Result<String, Fail> {
+    match what {
+        "kind" => kind(alloc, world, one),
+        "open" => open(alloc, world, one),
+        "contents" => Ok(format!(in alloc; "{:?}", world.contents(one))?),
+        "leaving" => Ok(format!(in alloc; "{:?}", world.leaving(one))?),
+        _ => listed(alloc, world, what, one),
+    }
+}
+
 // What is asked of the whole world, and what changes it.
 impl Answers for World {
     fn answer(&mut self, alloc: Global, asked: &str) -> Result<String, Fail> {
@@ -67,13 +84,9 @@ impl Answers for World {
         match what {
             "next" => Ok(format!(in alloc; "{}", self.next_number())?),
             "called" => Ok(format!(in alloc; "{:?}", self.player_named(rest))?),
-            "try" => Ok(format!(in alloc; "{:?}", refusal(alloc, self, rest)?)?),
-            "do" => Ok(format!(in alloc; "{:?}", act(alloc, self, rest)?)?),
-            "kind" => kind(alloc, self, number(rest)),
-            "open" => open(alloc, self, number(rest)),
-            "contents" => Ok(format!(in alloc; "{:?}", self.contents(number(rest)))?),
-            "leaving" => Ok(format!(in alloc; "{:?}", self.leaving(number(rest)))?),
-            _ => listed(alloc, self, what, number(rest)),
+            "try" => tried(alloc, self, rest),
+            "do" => done(alloc, self, rest),
+            _ => asked_of(alloc, self, what, number(rest)),
         }
     }
 }

@@ -1,7 +1,6 @@
 use Rattle.std.proofs.Common.{◌≡◌, ℕ, ◌<◌, List, [], ◌∷◌, ◌++◌, None, sym, ap, subst, ◌∙◌, arith, length, length-append}
 use Rattle.std.specs.Prelude.{is_ok, if◌then◌else◌, IsTrue}
 use Rattle.std.proofs.lemmas.List.{map_push}
-use Rattle.mud_world.specs.declared.change.Change.{Change}
 use Rattle.mud_world.specs.State.{State, is_player}
 use Rattle.mud_world.specs.Legal.{refusal, after}
 use Rattle.mud_world.specs.History.{world_of}
@@ -27,8 +26,6 @@ invariant_of-self-2 c =
     let e = c.args.change in
     let a : Accepted = c.new-entry.result in
     let is : a ≡ record { desk = 1; change = e } = c.new-entry.ensures in
-    let made : c.change.result.now ≡ e = c.change.ensures.change ∙ ap (λ (x : Accepted). x.change) is in
-    let read : c.change-2.result.now ≡ e = c.change-2.ensures.change ∙ ap (λ (x : Accepted). x.change) is in
     let legal : refusal (world_of (changes_of h)) e ≡ None = subst (λ (d : Desk). refusal (world_at d) e ≡ None) (sym c.self.view_is) c.requires.legal in
     let here : refusal w e ≡ None = subst (λ (x : State). refusal x e ≡ None) (sym c.self.invariant.world) legal in
     let room : length h < c.self.inside.capacity = subst (λ (d : Desk). length d.history < d.capacity) (sym c.self.view_is) c.requires.room in
@@ -38,9 +35,8 @@ invariant_of-self-2 c =
     ∙ ap (λ (l : List Accepted). l ++ a ∷ []) c.reserve.ensures.items in
     let changes : changes_of c.push.new.self.items ≡ changes_of h ++ e ∷ [] =
     ap changes_of grown ∙ map_push (λ (x : Accepted). x.change) h a ∙ ap (λ (x : Accepted). changes_of h ++ x.change ∷ []) is in
-    let left : c.apply.new.self ≡ after w e = c.in_ok-apply.ensures.ok ∙ ap (λ (x : Change). after w x) made in
-    let sits : c.seated-self-inside.result ≡ seated c.self.inside.player e.actor e.deed =
-    c.seated-self-inside.ensures ∙ ap (λ (x : Change). seated c.self.inside.player x.actor x.deed) read in
+    let left : c.apply.new.self ≡ after w e = c.in_ok-apply.ensures.ok in
+    let sits : c.seated-self-inside.result ≡ seated c.self.inside.player e.actor e.deed = c.seated-self-inside.ensures in
     let player : IsTrue (is_player (after w e) (seated c.self.inside.player e.actor e.deed)) =
     seated-player w c.self.inside.player e c.next_number-sound.ensures.sound here c.self.invariant.player in
     record {

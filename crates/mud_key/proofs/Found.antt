@@ -1,8 +1,7 @@
 -- What the readers find is what the relations say.
-use Rattle.std.proofs.Common.{◌≡◌, ℕ, ◌≤◌, Bool, true, false, ◌&&◌, List, [], ◌∷◌, ◌++◌, length, Option, Some, None, Ok, Err, Result, refl, sym, ◌∙◌, ap, subst, arith, append-nil}
-use Rattle.std.specs.Prelude.{◌↔◌, nat_le, if◌then◌else◌}
+use Rattle.std.proofs.Common.{◌≡◌, ℕ, Bool, true, false, List, [], ◌∷◌, Option, Some, None, Ok, Err, Result, refl, sym, ◌∙◌, ap, subst, arith, append-nil}
+use Rattle.std.specs.Prelude.{nat_le, if◌then◌else◌}
 use Rattle.std.specs.Option.{option_and_then}
-use Rattle.std.specs.Str.{bytes_eq}
 use Rattle.std.proofs.lemmas.List.Elements.{All-head}
 use Rattle.std.proofs.lemmas.Slice.Eq.{bytes_eq-Decides}
 use Rattle.std.proofs.lemmas.Bool.{leb-true, le-leb, and_parts, and_from, true≢false}
@@ -14,7 +13,7 @@ use Rattle.mud_key.specs.Tree.{Tree, objects_of, nots_of, IsWithinLimits}
 use Rattle.mud_key.specs.Name.{IsName}
 use Rattle.mud_key.specs.Names.{one, IsNamesText, IsNoNamesText, NamesReadAs, NameReadsAs, is_only}
 use Rattle.mud_key.specs.NameReader.{Stand, name_run, name_start, settled}
-use Rattle.mud_key.specs.KeyText.{SpellsKey, ReadsAs, IsNoKeyText}
+use Rattle.mud_key.specs.KeyText.{SpellsKey, ReadsAs}
 use Rattle.mud_key.specs.Machine.{run, start, State, Mode, settled as mode_settled}
 use Rattle.mud_key.specs.Builder.{outer_settled}
 use Rattle.mud_key.specs.Reading.{names_in, name_in, key_in, is_within_limits, FindsNames, FindsName, FindsKey, AreTheNames, IsTheName, IsTheKey}

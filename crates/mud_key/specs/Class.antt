@@ -1,8 +1,9 @@
--- What a byte is for the readers of keys and names. Clauses of private parts alone cite it;
--- `class_means` in proofs/Classes.antt ties it to the bytes that a name may have.
+-- What a byte is for the readers of keys and names. Clauses of private parts cite it, and the readers of Machine.antt
+-- and NameReader.antt compute by it; `class_means` in proofs/Classes.antt ties it to the bytes that a name may have.
 use Rattle.std.specs.Prelude.{ℕ, nat_le, nat_eq, ◌&&◌, if◌then◌else◌}
 use Rattle.mud_key.specs.declared.class.Class.{Class}
-use Rattle.mud_key.specs.declared.class.Class.TheVariants.{Space, Digit, Letter, Sharp, Bang, Question, Open, Close, Ampersand, Bar, Foreign}
+use Rattle.mud_key.specs.declared.class.Class.TheVariants.{Space, Digit, Letter, Sharp, Bang, Question, Open, Close}
+use Rattle.mud_key.specs.declared.class.Class.TheVariants.{Ampersand, Bar, Foreign}
 
 -- the class of a byte
 abbrev pub class_of : ℕ → Class

@@ -35,7 +35,8 @@ pub data Spells : Level → List ℕ → Tree (List ℕ) → Type 0 where
   not : {x : List ℕ} {k : Tree (List ℕ)} → Spells Unary x k → Spells Unary (codes "!" ++ x) (Not k)
   parentheses : {x : List ℕ} {k : Tree (List ℕ)} → Spells Chain x k → Spells Unary (codes "(" ++ x ++ codes ")") k
   unary : {x : List ℕ} {k : Tree (List ℕ)} → Spells Unary x k → Spells Chain x k
-  join : {x y : List ℕ} {a b : Tree (List ℕ)} → Spells Chain x a → (op : Operator) → Spells Unary y b → Spells Chain (x ++ sign op ++ y) (Join op a b)
+  join : {x y : List ℕ} {a b : Tree (List ℕ)} → Spells Chain x a → (op : Operator) → Spells Unary y b
+      → Spells Chain (x ++ sign op ++ y) (Join op a b)
   space_before : {l : Level} {x : List ℕ} {k : Tree (List ℕ)} → Spells l x k → Spells l (codes " " ++ x) k
   space_behind : {l : Level} {x : List ℕ} {k : Tree (List ℕ)} → Spells l x k → Spells l (x ++ codes " ") k
 

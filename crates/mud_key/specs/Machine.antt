@@ -1,13 +1,15 @@
--- A machine that reads a key text byte by byte. Clauses of private parts alone cite it;
--- proofs/Sound.antt and proofs/Complete.antt tie it to the grammar of key texts.
-use Rattle.std.specs.Prelude.{ℕ, zero, suc, Bool, true, false, Option, Some, None, List, [], ◌∷◌, ◌++◌, length, replicate}
+-- A machine that reads a key text byte by byte. Clauses of private parts cite it, and `key_in` in Reading.antt
+-- computes by it; the law `laws::key` ties that to the grammar of key texts.
+use Rattle.std.specs.Prelude.{ℕ, zero, suc, Bool, true, false, Option, Some, None, List, [], ◌∷◌, ◌++◌, length}
+use Rattle.std.specs.Prelude.{replicate}
 use Rattle.std.specs.Prelude.{nat_lt, if◌then◌else◌}
 use Rattle.mud_key.specs.Class.{class_of}
 use Rattle.mud_key.specs.Tree.{Tree, Has, Asks, Not, Join}
 use Rattle.mud_key.specs.declared.operator.Operator.{Operator}
 use Rattle.mud_key.specs.declared.operator.Operator.TheVariants.{And, Or}
 use Rattle.mud_key.specs.declared.class.Class.{Class}
-use Rattle.mud_key.specs.declared.class.Class.TheVariants.{Space, Digit, Letter, Sharp, Bang, Question, Open, Close, Ampersand, Bar}
+use Rattle.mud_key.specs.declared.class.Class.TheVariants.{Space, Digit, Letter, Sharp, Bang, Question, Open, Close}
+use Rattle.mud_key.specs.declared.class.Class.TheVariants.{Ampersand, Bar}
 
 -- a key as it is written
 abbrev pub Reading : Type 0

@@ -1,6 +1,7 @@
--- What the reader of names does at each byte. Clauses of private parts alone cite it;
--- proofs/NamesSound.antt and proofs/NamesTaken.antt tie it to names texts.
-use Rattle.std.specs.Prelude.{ℕ, ◌+◌, List, [], ◌∷◌, ◌++◌, length, map, replicate, Option, Some, None, String, Vec, string_bytes, nat_eq, nat_lt, if◌then◌else◌}
+-- What the reader of names does at each byte. Clauses of private parts cite it, and `names_in` in Reading.antt
+-- computes by it; the law `laws::names` ties that to names texts.
+use Rattle.std.specs.Prelude.{ℕ, ◌+◌, List, [], ◌∷◌, ◌++◌, length, map, replicate, Option, Some, None, String, Vec}
+use Rattle.std.specs.Prelude.{string_bytes, nat_eq, nat_lt, if◌then◌else◌}
 use Rattle.std.specs.declared.alloc.Global.{Global}
 use Rattle.mud_key.specs.declared.class.Class.{Class}
 use Rattle.mud_key.specs.declared.class.Class.TheVariants.{Space, Digit, Letter, Sharp, Foreign}
@@ -37,9 +38,12 @@ space_step s =
 -- behind a byte that a name may have
 abbrev pub letter_step : Stand → ℕ → Option Stand
 letter_step s b =
-    if nat_eq (length s.text) 0 then (if nat_eq b 35 then None else Some (record { list = s.list; text = b ∷ []; spaces = 0 }))
+    if nat_eq (length s.text) 0 then
+    (if nat_eq b 35 then None else Some (record { list = s.list; text = b ∷ []; spaces = 0 }))
     else if nat_lt s.spaces 2 then
-    (if nat_lt (length s.text + s.spaces) 60 then Some (record { list = s.list; text = s.text ++ replicate s.spaces 32 ++ b ∷ []; spaces = 0 }) else None)
+    (if nat_lt (length s.text + s.spaces) 60
+    then Some (record { list = s.list; text = s.text ++ replicate s.spaces 32 ++ b ∷ []; spaces = 0 })
+    else None)
     else None
 
 -- behind a comma, which ends a name

@@ -1,6 +1,7 @@
 -- Names texts: names separated by commas, with spaces round each.
 use Rattle.std.specs.Str.{bytes_eq}
-use Rattle.std.specs.Prelude.{◌≡◌, Bool, true, false, ℕ, ◌<◌, ◌≤◌, List, [], ◌∷◌, ◌++◌, length, replicate, codes, Result, Ok, Err}
+use Rattle.std.specs.Prelude.{◌≡◌, Bool, false, ℕ, ◌<◌, ◌≤◌, List, [], ◌∷◌, ◌++◌, length, replicate, codes}
+use Rattle.std.specs.Prelude.{Result, Ok, Err}
 use Rattle.std.specs.List.{All}
 use Rattle.mud_key.specs.declared.names.NamesFault.{NamesFault}
 use Rattle.mud_key.specs.declared.names.NamesFault.TheVariants.{OutOfMemory, BadName}
@@ -16,7 +17,8 @@ pub record SpellsName (text name : List ℕ) : Type 0 where
 -- the text is these names with a comma between each two
 pub data SpellsNames : List ℕ → List (List ℕ) → Type 0 where
   one : {x n : List ℕ} → SpellsName x n → SpellsNames x (n ∷ [])
-  more : {x n y : List ℕ} {ns : List (List ℕ)} → SpellsName x n → SpellsNames y ns → SpellsNames (x ++ codes "," ++ y) (n ∷ ns)
+  more : {x n y : List ℕ} {ns : List (List ℕ)} → SpellsName x n → SpellsNames y ns
+      → SpellsNames (x ++ codes "," ++ y) (n ∷ ns)
 
 -- the text is a names text, of these names, at most 4
 pub record IsNamesText (text : List ℕ) (names : List (List ℕ)) : Type 0 where

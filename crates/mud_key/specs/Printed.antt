@@ -43,7 +43,8 @@ HasLeastParentheses text key = (other : List ℕ) → SpellsKey other key → op
 -- the text is a key text, and it is read as this key wherever each text `#n` means n
 pub record ReadsBack (text : List ℕ) (key : Tree ℕ) : Type 0 where
   pub is_key_text : (read : Tree (List ℕ)) × SpellsKey text read
-  pub again : (read : Tree (List ℕ)) → SpellsKey text read → (meaning : List ℕ → Result ℕ Miss) → ((n : ℕ) → n ≤ 8191 → meaning (number_text n) ≡ Ok n) → resolved meaning read ≡ Ok key
+  pub again : (read : Tree (List ℕ)) → SpellsKey text read → (meaning : List ℕ → Result ℕ Miss)
+      → ((n : ℕ) → n ≤ 8191 → meaning (number_text n) ≡ Ok n) → resolved meaning read ≡ Ok key
 
 -- the parentheses that `enclosed` puts round a key, or none; clauses of private parts alone cite them
 abbrev pub opening_of : Tree (List ℕ) → List ℕ

@@ -1,6 +1,7 @@
 -- What the readers find, as functions of the text, for definitions that compute with it. By
 -- the laws of this crate they find exactly what the relations say.
-use Rattle.std.specs.Prelude.{◌≡◌, ◌↔◌, ℕ, Bool, ◌&&◌, nat_le, List, [], Option, Some, None, Result, Ok, Err, if◌then◌else◌}
+use Rattle.std.specs.Prelude.{◌≡◌, ◌↔◌, ℕ, Bool, ◌&&◌, nat_le, List, Option, Some, None, Result, Ok, Err}
+use Rattle.std.specs.Prelude.{if◌then◌else◌}
 use Rattle.std.specs.Option.{option_and_then}
 use Rattle.mud_key.specs.declared.names.NamesFault.{NamesFault}
 use Rattle.mud_key.specs.declared.names.NamesFault.TheVariants.{OutOfMemory as NoMemory, BadName}
@@ -14,11 +15,13 @@ use Rattle.mud_key.specs.KeyText.{SpellsKey}
 use Rattle.mud_key.specs.Machine as machine
 use Rattle.mud_key.specs.Builder.{outer_settled}
 
--- the names of a text, where it is a names text
+-- the names of a text, where it is a names text. A reader need not look into this:
+-- `laws::names` says what it finds
 unfoldable pub names_in : List ℕ → Option (List (List ℕ))
 names_in text = option_and_then settled (name_run (Some name_start) text)
 
--- the name that a text is, where it is one
+-- the name that a text is, where it is one. A reader need not look into this:
+-- `laws::name` says what it finds
 unfoldable pub name_in : List ℕ → Option (List ℕ)
 name_in text = option_and_then (λ names. if is_only text names then Some text else None) (names_in text)
 
@@ -26,7 +29,8 @@ name_in text = option_and_then (λ names. if is_only text names then Some text e
 abbrev pub is_within_limits : Tree (List ℕ) → Bool
 is_within_limits key = nat_le (objects_of key) 16 && nat_le (nots_of key) 64
 
--- the key of a text, where it is a key text within the limits
+-- the key of a text, where it is a key text within the limits. A reader need not look into this:
+-- `laws::key` says what it finds
 unfoldable pub key_in : List ℕ → Option (Tree (List ℕ))
 key_in text =
     option_and_then (λ key. if is_within_limits key then Some key else None)

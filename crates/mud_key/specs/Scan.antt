@@ -1,10 +1,12 @@
 -- What the scan keeps of the machine: where it stands, and what it has counted. Clauses of private
 -- parts alone cite it; proofs/Scanned.antt ties it to the grammar of key texts.
-use Rattle.std.specs.Prelude.{ℕ, ◌+◌, ◌-◌, ◌≡◌, Option, Some, None, List, [], ◌∷◌, length, nat_lt, nat_eq, if◌then◌else◌, Bool, true, false, ◌&&◌}
+use Rattle.std.specs.Prelude.{ℕ, ◌+◌, ◌-◌, ◌≡◌, Option, Some, None, List, [], ◌∷◌, length, nat_lt, nat_eq}
+use Rattle.std.specs.Prelude.{if◌then◌else◌, Bool, true, false, ◌&&◌}
 use Rattle.mud_key.specs.declared.operator.Operator.{Operator}
 use Rattle.mud_key.specs.declared.operator.Operator.TheVariants.{And, Or}
 use Rattle.mud_key.specs.declared.class.Class.{Class}
-use Rattle.mud_key.specs.declared.class.Class.TheVariants.{Space, Digit, Letter, Sharp, Bang, Question, Open, Close, Ampersand, Bar}
+use Rattle.mud_key.specs.declared.class.Class.TheVariants.{Space, Digit, Letter, Sharp, Bang, Question, Open, Close}
+use Rattle.mud_key.specs.declared.class.Class.TheVariants.{Ampersand, Bar}
 use Rattle.mud_key.specs.declared.place.Place.{Place}
 use Rattle.mud_key.specs.declared.place.Place.TheVariants as place
 use Rattle.mud_key.specs.declared.scan.Scan.{Scan}

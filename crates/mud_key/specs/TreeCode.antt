@@ -40,15 +40,20 @@ abbrev first_tree : {O : Type 0} → O → List (Tree O) → Tree O
 first_tree o [] = Has o
 first_tree o (k ∷ st) = k
 
-pub built-tokens : {O : Type 0} (k : Tree O) (ts : List (Token O)) (st : List (Tree O)) → built (tokens k ts) st ≡ built ts (k ∷ st)
+pub built-tokens : {O : Type 0} (k : Tree O) (ts : List (Token O)) (st : List (Tree O))
+    → built (tokens k ts) st ≡ built ts (k ∷ st)
 built-tokens (Has o) ts st = refl
 built-tokens (Asks o) ts st = refl
 built-tokens (Not k) ts st = built-tokens k (inr (inr 0) ∷ ts) st
-built-tokens (Join And a b) ts st = built-tokens a (tokens b (inr (inr 1) ∷ ts)) st ∙ built-tokens b (inr (inr 1) ∷ ts) (a ∷ st)
-built-tokens (Join Or a b) ts st = built-tokens a (tokens b (inr (inr 2) ∷ ts)) st ∙ built-tokens b (inr (inr 2) ∷ ts) (a ∷ st)
+built-tokens (Join And a b) ts st =
+    built-tokens a (tokens b (inr (inr 1) ∷ ts)) st ∙ built-tokens b (inr (inr 1) ∷ ts) (a ∷ st)
+built-tokens (Join Or a b) ts st =
+    built-tokens a (tokens b (inr (inr 2) ∷ ts)) st ∙ built-tokens b (inr (inr 2) ∷ ts) (a ∷ st)
 
 abbrev coded_tree : {O : Type 0} → O → Coded O → Coded (Tree O)
-coded_tree {O} o c = code_by (List (Token O)) (coded_list (coded⊎ c (coded⊎ c coded_ℕ))) (λ k. tokens k []) (λ ts. first_tree o (built ts [])) (λ k. ap (first_tree o) (built-tokens k [] []))
+coded_tree {O} o c =
+    code_by (List (Token O)) (coded_list (coded⊎ c (coded⊎ c coded_ℕ))) (λ k. tokens k [])
+    (λ ts. first_tree o (built ts [])) (λ k. ap (first_tree o) (built-tokens k [] []))
 
 -- the codes of the trees of `Key` and of `KeyText`
 abbrev pub coded_number_tree : Coded (Tree ℕ)

@@ -1,10 +1,11 @@
 //! A key over objects.
 
 ghost use Rattle.std.specs.Prelude.{◌≡◌, ◌≤◌, ◌++◌, IfOk, OnOk};
-ghost use Rattle.mud_key.specs.Tree.{IsKey, size_of, atoms_of, asks_of};
+ghost use Rattle.mud_key.specs.Tree.{Not, Join, IsKey, size_of, atoms_of, asks_of};
 ghost use Rattle.mud_key.specs.Node.{key_of};
 
 use crate::node::Node;
+use crate::operator::Operator;
 use std::alloc::{AllocError, Global};
 use std::marker::Model;
 
@@ -63,16 +64,33 @@ fn copy_node(alloc: Global, node: &Node<u32>) -> Result<Node<u32>, AllocError>
     match node {
         Node::Has(n) => Ok(Node::Has(*n)),
         Node::Asks(n) => Ok(Node::Asks(*n)),
-        Node::Not(k) => {
-            let k = copy_node(alloc, k)?;
-            Ok(Node::Not(Box::new(alloc, k)?))
-        }
+        Node::Not(k) => not(alloc, copy_node(alloc, k)?),
         Node::Join(operator, a, b) => {
             let a = copy_node(alloc, a)?;
             let b = copy_node(alloc, b)?;
-            Ok(Node::Join(*operator, Box::new(alloc, a)?, Box::new(alloc, b)?))
+            join(alloc, *operator, a, b)
         }
     }
+}
+
+/// `!` and a key.
+pub(crate) fn not(alloc: Global, k: Node<u32>) -> Result<Node<u32>, AllocError>
+    ensures { IfOk result (λ n. key_of n ≡ Not (key_of k)) }
+{
+    Ok(Node::Not(Box::new(alloc, k)?))
+}
+
+/// Two keys and the sign between them.
+pub(crate) fn join(
+    alloc: Global,
+    operator: Operator,
+    a: Node<u32>,
+    b: Node<u32>,
+) -> Result<Node<u32>, AllocError>
+    ensures { IfOk result (λ n. key_of n ≡ Join operator (key_of a) (key_of b)) }
+{
+    let a = Box::new(alloc, a)?;
+    Ok(Node::Join(operator, a, Box::new(alloc, b)?))
 }
 
 /// The objects, each as often as it stands in the key, in the order of its text.

@@ -6,7 +6,7 @@ ghost use Rattle.mud_key.specs.Tree.{AllObjects};
 ghost use Rattle.mud_key.specs.Node.{reading_of, key_of};
 ghost use Rattle.mud_key.specs.Namer.{ResolvesAs, NodeResolvesAs, resolved, fault_of};
 
-use crate::key::Key;
+use crate::key::{Key, join, not};
 use crate::key_fault::KeyFault;
 use crate::key_text::KeyText;
 use crate::node::Node;
@@ -54,14 +54,11 @@ fn resolve_node<N: Namer>(
     match node {
         Node::Has(text) => Ok(Node::Has(number(text.as_str(), namer)?)),
         Node::Asks(text) => Ok(Node::Asks(number(text.as_str(), namer)?)),
-        Node::Not(k) => {
-            let k = resolve_node(alloc, k, namer)?;
-            Ok(Node::Not(Box::new(alloc, k)?))
-        }
+        Node::Not(k) => Ok(not(alloc, resolve_node(alloc, k, namer)?)?),
         Node::Join(operator, a, b) => {
             let a = resolve_node(alloc, a, namer)?;
             let b = resolve_node(alloc, b, namer)?;
-            Ok(Node::Join(*operator, Box::new(alloc, a)?, Box::new(alloc, b)?))
+            Ok(join(alloc, *operator, a, b)?)
         }
     }
 }

@@ -1,12 +1,15 @@
 -- What the pieces do to the line that is being typed.
-use Rattle.std.specs.Prelude.{ℕ, List, [], ◌∷◌, ◌++◌, length, take, map, ◌-◌, ◌==◌, ◌||◌, ◌&&◌, nat_lt, nat_le, Bool, true, false, if◌then◌else◌}
+use Rattle.std.specs.Prelude.{ℕ, List, [], ◌∷◌, ◌++◌, length, take, map, ◌-◌, ◌==◌, ◌||◌, ◌&&◌, nat_lt, nat_le, Bool}
+use Rattle.std.specs.Prelude.{true, false, if◌then◌else◌}
 use Rattle.std.specs.List.{list_any, zip}
-use Rattle.mud_nvt.specs.declared.codes.TheConstants.{WILL, WONT, DO, DONT, AYT, EC, EL, NUL, BS, HT, LF, CR, DEL, SPACE, TILDE}
+use Rattle.mud_nvt.specs.declared.codes.TheConstants.{WILL, WONT, DO, DONT, AYT, EC, EL, NUL, BS, HT, LF, CR, DEL}
+use Rattle.mud_nvt.specs.declared.codes.TheConstants.{SPACE, TILDE}
 use Rattle.mud_nvt.specs.declared.TheConstants.{MOST}
 use Rattle.mud_nvt.specs.declared.telnet.Piece.{Piece}
 use Rattle.mud_nvt.specs.declared.telnet.Piece.TheVariants.{Data, Command, Request, Subnegotiation}
 use Rattle.mud_nvt.specs.declared.strokes.Stroke.{Stroke}
-use Rattle.mud_nvt.specs.declared.strokes.Stroke.TheVariants.{Character, EraseCharacter, EraseLine, EndLine, AreYouThere, Refuse, Nothing}
+use Rattle.mud_nvt.specs.declared.strokes.Stroke.TheVariants.{Character, EraseCharacter, EraseLine, EndLine}
+use Rattle.mud_nvt.specs.declared.strokes.Stroke.TheVariants.{AreYouThere, Refuse, Nothing}
 
 -- whether the piece is the data byte CR
 abbrev pub is_cr : Piece → Bool

@@ -30,4 +30,5 @@ pub data IsUnfinished : List ℕ → Type 0 where
 -- the bytes are the spellings of these pieces, one after the other, and then less than a whole piece
 pub data Cuts : List ℕ → List Piece → Type 0 where
   to_rest : (rest : List ℕ) → IsUnfinished rest → Cuts rest []
-  to_piece : (p : Piece) (front back : List ℕ) (ps : List Piece) → Spells p front → Cuts back ps → Cuts (front ++ back) (p ∷ ps)
+  to_piece : (p : Piece) (front back : List ℕ) (ps : List Piece) → Spells p front → Cuts back ps
+      → Cuts (front ++ back) (p ∷ ps)

@@ -19,4 +19,5 @@ pub record GrowsAs (before after old new : List Given) : Type 0 where
 -- these, and the caller's units grow as the units of all bytes do
 pub record TakesIn (old new : Held) (before after : List Given) (bytes : List ℕ) : Type 0 where
   pub stands : (earlier : List ℕ) → StandsAfter old earlier → StandsAfter new (earlier ++ bytes)
-  pub grows : (earlier : List ℕ) → StandsAfter old earlier → GrowsAs before after (units earlier) (units (earlier ++ bytes))
+  pub grows : (earlier : List ℕ) → StandsAfter old earlier
+      → GrowsAs before after (units earlier) (units (earlier ++ bytes))

@@ -1,6 +1,7 @@
--- A machine that mirrors the code: the same units, a byte at a time. Only private clauses cite its steps,
--- and the law byte_by_byte ties it to the definition: what it gives for all bytes is their units.
-use Rattle.std.specs.Prelude.{ℕ, List, [], ◌∷◌, ◌++◌, length, Option, Some, None, ◌==◌, nat_lt, Bool, true, false, if◌then◌else◌}
+-- A machine that mirrors the code: the same units, a byte at a time. Only private clauses cite its steps; a lemma ties
+-- it to the definition: what it gives for all bytes is their units.
+use Rattle.std.specs.Prelude.{ℕ, List, [], ◌∷◌, ◌++◌, length, Option, Some, None, ◌==◌, nat_lt, Bool, true, false}
+use Rattle.std.specs.Prelude.{if◌then◌else◌}
 use Rattle.mud_nvt.specs.declared.codes.TheConstants.{IAC, SE, SB}
 use Rattle.mud_nvt.specs.declared.TheConstants.{MOST}
 use Rattle.mud_nvt.specs.declared.telnet.Piece.{Piece}
@@ -8,7 +9,8 @@ use Rattle.mud_nvt.specs.declared.telnet.Piece.TheVariants.{Data, Command, Reque
 use Rattle.mud_nvt.specs.declared.telnet.Place.{Place}
 use Rattle.mud_nvt.specs.declared.telnet.Place.TheVariants.{Between, BehindIac, BehindVerb, Inside, InsideBehindIac}
 use Rattle.mud_nvt.specs.declared.strokes.Stroke.{Stroke}
-use Rattle.mud_nvt.specs.declared.strokes.Stroke.TheVariants.{Character, EraseCharacter, EraseLine, EndLine, AreYouThere, Refuse, Nothing}
+use Rattle.mud_nvt.specs.declared.strokes.Stroke.TheVariants.{Character, EraseCharacter, EraseLine, EndLine}
+use Rattle.mud_nvt.specs.declared.strokes.Stroke.TheVariants.{AreYouThere, Refuse, Nothing}
 use Rattle.mud_nvt.specs.Telnet.{is_verb}
 use Rattle.mud_nvt.specs.Editing.{stroke, is_cr, without_last}
 use Rattle.mud_nvt.specs.Units.{Given, Text, TooLong, Ayt, Answer}
@@ -16,7 +18,11 @@ use Rattle.mud_nvt.specs.Units.{Given, Text, TooLong, Ayt, Answer}
 -- where the byte leads
 abbrev pub next_place : Place → ℕ → Place
 next_place Between b = if b == IAC then BehindIac else Between
-next_place BehindIac b = if b == IAC then Between else (if b == SB then Inside else (if is_verb b then BehindVerb b else Between))
+next_place BehindIac b =
+    if b == IAC then Between
+    else if b == SB then Inside
+    else if is_verb b then BehindVerb b
+    else Between
 next_place (BehindVerb verb) b = Between
 next_place Inside b = if b == IAC then InsideBehindIac else Inside
 next_place InsideBehindIac b = if b == SE then Between else Inside
@@ -24,7 +30,11 @@ next_place InsideBehindIac b = if b == SE then Between else Inside
 -- the piece that the byte finishes, if it finishes one
 abbrev pub finished_piece : Place → ℕ → Option Piece
 finished_piece Between b = if b == IAC then None else Some (Data b)
-finished_piece BehindIac b = if b == IAC then Some (Data IAC) else (if b == SB then None else (if is_verb b then None else Some (Command b)))
+finished_piece BehindIac b =
+    if b == IAC then Some (Data IAC)
+    else if b == SB then None
+    else if is_verb b then None
+    else Some (Command b)
 finished_piece (BehindVerb verb) b = Some (Request verb b)
 finished_piece Inside b = None
 finished_piece InsideBehindIac b = if b == SE then Some Subnegotiation else None
@@ -57,7 +67,8 @@ next_text too_long text Nothing = text
 
 -- whether the line is too long after a stroke
 abbrev pub next_too_long : Bool → List ℕ → Stroke → Bool
-next_too_long too_long text (Character c) = if too_long then true else (if nat_lt (length text) MOST then false else true)
+next_too_long too_long text (Character c) =
+    if too_long then true else (if nat_lt (length text) MOST then false else true)
 next_too_long too_long text EraseCharacter = too_long
 next_too_long too_long text EraseLine = false
 next_too_long too_long text EndLine = false
@@ -77,7 +88,12 @@ stroke_units too_long text Nothing = []
 
 -- what is held after a stroke
 abbrev pub after_stroke : Held → Stroke → Held
-after_stroke h s = record { place = h.place; after_cr = h.after_cr; text = next_text h.too_long h.text s; too_long = next_too_long h.too_long h.text s }
+after_stroke h s = record {
+  place = h.place;
+  after_cr = h.after_cr;
+  text = next_text h.too_long h.text s;
+  too_long = next_too_long h.too_long h.text s;
+}
 
 -- what is held after a piece, if there is one
 abbrev pub after_piece : Held → Option Piece → Held
@@ -97,7 +113,9 @@ piece_units h (Some p) = stroke_units h.too_long h.text (stroke h.after_cr p)
 
 -- what is held after a byte
 abbrev pub next : Held → ℕ → Held
-next h b = let g = after_piece h (finished_piece h.place b) in record { place = next_place h.place b; after_cr = g.after_cr; text = g.text; too_long = g.too_long }
+next h b =
+    let g = after_piece h (finished_piece h.place b) in
+    record { place = next_place h.place b; after_cr = g.after_cr; text = g.text; too_long = g.too_long }
 
 -- the units that a byte gives
 abbrev pub byte_units : Held → ℕ → List Given

@@ -9,7 +9,8 @@ use Rattle.mud_nvt.specs.declared.telnet.Piece.TheVariants.{Data, Command, Reque
 abbrev pub behind_end : List ℕ → Option (List ℕ)
 behind_end [] = None
 behind_end (a ∷ []) = None
-behind_end (a ∷ b ∷ bytes) = if a == IAC then (if b == SE then Some bytes else behind_end bytes) else behind_end (b ∷ bytes)
+behind_end (a ∷ b ∷ bytes) =
+    if a == IAC then (if b == SE then Some bytes else behind_end bytes) else behind_end (b ∷ bytes)
 
 -- whether the byte is one of the four that ask about an option
 abbrev pub is_verb : ℕ → Bool
@@ -44,6 +45,7 @@ abbrev pub pieces_up_to : ℕ → List ℕ → List Piece
 pieces_up_to zero bytes = []
 pieces_up_to (suc n) bytes = elim (first_piece bytes) [ None ↦ [] | Some p ↦ p.0 ∷ pieces_up_to n p.1 ]
 
--- the whole pieces of these bytes: there are no more pieces than bytes, and what is unfinished is none
+-- the whole pieces of these bytes: there are no more pieces than bytes, and what is unfinished is none.
+-- A reader need not look into this: `laws::cutting` says that they are those of the grammar
 abbrev pub pieces : List ℕ → List Piece
 pieces bytes = pieces_up_to (length bytes) bytes

@@ -6,7 +6,6 @@ ghost use Rattle.mud_nvt.specs.Telnet.{pieces};
 ghost use Rattle.mud_nvt.specs.Grammar.{Cuts};
 ghost use Rattle.mud_nvt.specs.Units.{Given, units};
 ghost use Rattle.mud_nvt.specs.Lines.{IsSound};
-ghost use Rattle.mud_nvt.specs.Machine.{start, run_units};
 
 /// The pieces of any bytes are those that the grammar allows, and no others are.
 pub fn cutting()
@@ -21,9 +20,4 @@ pub fn lasting()
 /// Each line among the units is of bytes 32 to 126, and of 1,000 at most.
 pub fn soundness()
     ensures { (bytes : List ℕ) → All IsSound (units bytes) }
-{}
-
-/// The units of all bytes are what the terminal gives that takes them in one at a time.
-pub fn byte_by_byte()
-    ensures { (bytes : List ℕ) → units bytes ≡ run_units start bytes }
 {}

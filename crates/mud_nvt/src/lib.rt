@@ -37,11 +37,12 @@
 //! of a subnegotiation.
 #![tactic(auto)]
 
-ghost use Rattle.std.specs.Prelude.{◌≡◌, ◌≤◌, List, ℕ, [], ◌∷◌, ◌++◌, length, OnOk, OnErr, IfErr, IsTrue, take, ◌<◌, slice_index, All};
+ghost use Rattle.std.specs.Prelude.{◌≡◌, ◌≤◌, List, ℕ, [], ◌∷◌, ◌++◌, length, OnOk, OnErr, IfOk, IfErr, IsTrue, take};
+ghost use Rattle.std.specs.Prelude.{◌<◌, slice_index, All};
 ghost use Rattle.std.specs.List.{list_any};
 ghost use Rattle.mud_nvt.specs.Machine.{next, byte_units, byte_strokes, after_stroke, stroke_units};
 ghost use Rattle.mud_nvt.specs.Memory.{takes_memory, StopsBefore};
-ghost use Rattle.mud_nvt.specs.Shown.{all_shown};
+ghost use Rattle.mud_nvt.specs.Shown.{shown, all_shown};
 ghost use Rattle.mud_nvt.specs.Lines.{IsPlain, IsPrintable, IsSound};
 ghost use Rattle.mud_nvt.specs.History.{StandsAfter, TakesIn};
 
@@ -166,7 +167,8 @@ impl<A: Allocator + Clone + Drop> Nvt<A> {
 
     fn take_byte(&mut self, byte: u8, units: &mut Vec<Unit<A>, A>) -> Result<(), AllocError>
         ensures state { OnOk result (self.new ≡ next self.old byte) }
-        ensures given { OnOk result (all_shown units.new.items ≡ all_shown units.old.items ++ byte_units self.old byte) }
+        ensures given { let fresh = byte_units self.old byte in
+            OnOk result (all_shown units.new.items ≡ all_shown units.old.items ++ fresh) }
         ensures sound { All IsSound (all_shown units.old.items) → All IsSound (all_shown units.new.items) }
         ensures err { OnErr result (self.new ≡ self.old) }
         ensures err_units { OnErr result (all_shown units.new.items ≡ all_shown units.old.items) }
@@ -192,23 +194,36 @@ impl<A: Allocator + Clone + Drop> Nvt<A> {
         ensures memory { OnErr result (IsTrue (takes_memory stroke)) }
     {
         match stroke {
-            Stroke::Character(byte) => self.add_character(byte)?,
+            Stroke::Character(byte) => self.add_character(byte),
             Stroke::EraseCharacter => {
-                let len = self.line.len();
-                if len > 0 {
-                    self.line.truncate(len - 1);
-                }
+                self.erase_character();
+                Ok(())
             }
             Stroke::EraseLine => {
-                self.line.clear();
-                self.is_too_long = false;
+                self.erase_line();
+                Ok(())
             }
-            Stroke::EndLine => self.end_line(units)?,
-            Stroke::AreYouThere => units.push(Unit::Ayt)?,
-            Stroke::Refuse(verb, option) => units.push(Unit::Answer([IAC, verb, option]))?,
-            Stroke::Nothing => {}
+            Stroke::EndLine => self.end_line(units),
+            Stroke::AreYouThere => give(units, Unit::Ayt),
+            Stroke::Refuse(verb, option) => give(units, Unit::Answer([IAC, verb, option])),
+            Stroke::Nothing => Ok(()),
         }
-        Ok(())
+    }
+
+    fn erase_character(&mut self)
+        ensures { self.new ≡ after_stroke self.old Stroke.EraseCharacter }
+    {
+        let len = self.line.len();
+        if len > 0 {
+            self.line.truncate(len - 1);
+        }
+    }
+
+    fn erase_line(&mut self)
+        ensures { self.new ≡ after_stroke self.old Stroke.EraseLine }
+    {
+        self.line.clear();
+        self.is_too_long = false;
     }
 
     fn add_character(&mut self, byte: u8) -> Result<(), AllocError>
@@ -216,15 +231,11 @@ impl<A: Allocator + Clone + Drop> Nvt<A> {
         ensures state { OnOk result (self.new ≡ after_stroke self.old (Stroke.Character byte)) }
         ensures err { OnErr result (self.new ≡ self.old) }
     {
-        if self.is_too_long {
+        if self.is_too_long || self.line.len() >= MOST {
+            self.is_too_long = true;
             return Ok(());
         }
-        if self.line.len() < MOST {
-            self.line.push(char::from(byte))?;
-        } else {
-            self.is_too_long = true;
-        }
-        Ok(())
+        self.line.push(char::from(byte))
     }
 
     fn end_line(&mut self, units: &mut Vec<Unit<A>, A>) -> Result<(), AllocError>
@@ -236,20 +247,42 @@ impl<A: Allocator + Clone + Drop> Nvt<A> {
         ensures err_units { OnErr result (all_shown units.new.items ≡ all_shown units.old.items) }
     {
         units.reserve(1)?;
-        let empty = String::new(self.line.allocator().clone()?);
-        let line = mem::replace(&mut self.line, empty);
-        let unit = if self.is_too_long {
-            Unit::TooLong
-        } else {
-            Unit::Text(line)
-        };
-        self.is_too_long = false;
+        let unit = self.take_line()?;
         units.push(unit)?;
         Ok(())
     }
+
+    // What the end of the line gives; the next line begins.
+    fn take_line(&mut self) -> Result<Unit<A>, AllocError>
+        ensures state { OnOk result (self.new ≡ after_stroke self.old Stroke.EndLine) }
+        ensures given { IfOk result (λ unit.
+            shown unit ∷ [] ≡ stroke_units self.old.too_long self.old.text Stroke.EndLine) }
+        ensures sound { IfOk result (λ unit. IsSound (shown unit)) }
+        ensures err { OnErr result (self.new ≡ self.old) }
+    {
+        let empty = String::new(self.line.allocator().clone()?);
+        let line = mem::replace(&mut self.line, empty);
+        if mem::take(&mut self.is_too_long) {
+            return Ok(Unit::TooLong);
+        }
+        Ok(Unit::Text(line))
+    }
+}
+
+// Adds a unit at the end.
+fn give<A: Allocator + Drop>(units: &mut Vec<Unit<A>, A>, unit: Unit<A>) -> Result<(), AllocError>
+    ensures given { OnOk result (all_shown units.new.items ≡ all_shown units.old.items ++ shown unit ∷ []) }
+    ensures err { OnErr result (all_shown units.new.items ≡ all_shown units.old.items) }
+{
+    units.push(unit)?;
+    Ok(())
 }
 
 /// Adds a line that is sent: the text, CR and LF (RFC 854, "The NVT printer and keyboard").
+///
+/// [`Nvt::feed`] takes in what a terminal sends, and this is the other direction, for those who
+/// write lines to a terminal. A program that writes to a file ends its lines with LF alone, and
+/// has no use for it.
 ///
 /// The text is sent as it is, so it should be of bytes 32 to 126. Where memory is refused `out`
 /// stays as it was.

@@ -8,7 +8,7 @@ use crate::codes::{AYT, BS, CR, DEL, DO, DONT, EC, EL, HT, LF, NUL, SPACE, TILDE
 use crate::telnet::Piece;
 
 /// What a piece does.
-#[derive(Clone, Copy, Debug, PartialEq, Eq)]
+#[derive(Clone, Copy)]
 pub enum Stroke {
     /// A character at the end of the line.
     Character(u8),

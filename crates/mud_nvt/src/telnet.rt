@@ -6,7 +6,7 @@ ghost use Rattle.mud_nvt.specs.Machine.{next_place, finished_piece};
 use crate::codes::{DO, DONT, IAC, SB, SE, WILL, WONT};
 
 /// A whole piece of what comes over the connection.
-#[derive(Clone, Copy, Debug, PartialEq, Eq)]
+#[derive(Clone, Copy)]
 pub enum Piece {
     /// A data byte. 255 came as two.
     Data(u8),
@@ -19,7 +19,7 @@ pub enum Piece {
 }
 
 /// How far the piece that has begun has come.
-#[derive(Clone, Copy, Debug, PartialEq, Eq)]
+#[derive(Clone, Copy)]
 pub enum Place {
     /// No piece has begun.
     Between,

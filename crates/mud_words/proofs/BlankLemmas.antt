@@ -37,7 +37,7 @@ begun true c ps none = has_word Mark (slice_split is_gap ps) none
 begun false c ps none = has_word (Char c) (slice_split is_gap ps) none
 
 some_word : (b : ℕ) (bs : List ℕ) → is_space b ≡ false → plain_words (b ∷ bs) ≡ [] → ⊥
-some_word b bs other none = begun (b == 92 || b == 34) b (pieces_from (quoted_after false false b) (escaped_after false b) bs) (rw other at none)
+some_word b bs other none = begun _ b (pieces_from (quoted_after false false b) (escaped_after false b) bs) (rw other at none)
 
 spelled : (b : ℕ) (bs : List ℕ) (say emote eval : Bool) → is_space b ≡ false → plain_words (cond say (115 ∷ 97 ∷ 121 ∷ 32 ∷ []) (cond emote (101 ∷ 109 ∷ 111 ∷ 116 ∷ 101 ∷ 32 ∷ []) (cond eval (101 ∷ 118 ∷ 97 ∷ 108 ∷ 32 ∷ []) (b ∷ []))) ++ bs) ≡ [] → ⊥
 spelled b bs true emote eval other none = some_word 115 (97 ∷ 121 ∷ 32 ∷ bs) refl none

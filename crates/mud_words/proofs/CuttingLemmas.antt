@@ -16,7 +16,7 @@ pub goes_on-chars : (word xs : List ℕ) (ps : List Piece) → goes_on word (sli
 goes_on-chars word [] ps = ap (λ (w : List ℕ). goes_on w (slice_split is_gap ps)) (sym (append-nil word))
 goes_on-chars word (x ∷ xs) ps = onto word x (slice_split is_gap (map Char xs ++ ps)) ∙ goes_on-chars (word ++ x ∷ []) xs ps ∙ ap (λ (w : List ℕ). goes_on w (slice_split is_gap ps)) (append_assoc word (x ∷ []) xs)
 
-first : (c : ℕ) (parts : List (List Piece)) → texts_of (onto_first (Char c) parts) ≡ goes_on (c ∷ []) parts
+pub first : (c : ℕ) (parts : List (List Piece)) → texts_of (onto_first (Char c) parts) ≡ goes_on (c ∷ []) parts
 first c [] = refl
 first c (part ∷ parts) = refl
 

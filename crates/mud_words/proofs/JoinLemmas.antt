@@ -1,21 +1,17 @@
--- One word more, joined by a space.
-use Rattle.std.proofs.Common.{◌≡◌, ℕ, ◌+◌, ◌<◌, List, [], ◌∷◌, ◌++◌, length, map, take, drop, get_or, Option, Some, None, option_map, refl, sym, ap, ◌∙◌, append_assoc}
-use Rattle.std.proofs.lemmas.List.{take_more, map_push, take-map, drop-map}
+-- Words that are joined by spaces.
+use Rattle.std.proofs.Common.{◌≡◌, ℕ, List, [], ◌∷◌, ◌++◌, map, take, drop, Option, Some, None, option_map, refl, ap}
+use Rattle.std.specs.List.{join_by}
+use Rattle.std.proofs.lemmas.List.{append-nil, take-map, drop-map}
 use Rattle.mud_words.specs.declared.prepositions.Spot.{Spot}
 use Rattle.mud_words.specs.Prepositions.{Found, counted}
 use Rattle.mud_words.specs.Parse.{joined, round, split}
 use Rattle.mud_words.specs.Searching.{spot_of}
 
-pub joined-push : (w : List ℕ) (ws : List (List ℕ)) (x : List ℕ) → joined ((w ∷ ws) ++ x ∷ []) ≡ joined (w ∷ ws) ++ (32 ∷ x)
-joined-push w [] x = refl
-joined-push w (v ∷ ws) x = ap (λ (l : List ℕ). w ++ (32 ∷ l)) (joined-push v ws x) ∙ sym (append_assoc w (32 ∷ joined (v ∷ ws)) (32 ∷ x))
-
--- the same in a loop over the words after the first
-pub joined-more : {X : Type 0} (f : X → List ℕ) (w : List ℕ) (xs : List X) (i : ℕ) (x : X) (old mid new : List ℕ) → i < length xs → x ≡ get_or xs i x → old ≡ joined (w ∷ map f (take i xs))
-    → mid ≡ old ++ 32 ∷ [] → new ≡ mid ++ f x → new ≡ joined (w ∷ map f (take (i + 1) xs))
-joined-more f w xs i x old mid new lt here so_far space word =
-    word ∙ ap (λ (l : List ℕ). l ++ f x) (space ∙ ap (λ (l : List ℕ). l ++ 32 ∷ []) so_far) ∙ append_assoc (joined (w ∷ map f (take i xs))) (32 ∷ []) (f x)
-    ∙ sym (rw (take_more xs i x lt, map_push, ← here) (joined-push w (map f (take i xs)) (f x)))
+-- the library's words for the same
+pub joined_by : {X : Type 0} (f : X → List ℕ) (xs : List X) → join_by f (32 ∷ []) xs ≡ joined (map f xs)
+joined_by f [] = refl
+joined_by f (x ∷ []) = append-nil (f x)
+joined_by f (x ∷ y ∷ xs) = ap (λ (l : List ℕ). f x ++ (32 ∷ l)) (joined_by f (y ∷ xs))
 
 round_is : {X : Type 0} (f : X → List ℕ) (verb rest direct indirect : List ℕ) (xs : List X) (spot : Spot) (o : Option Found) → Some spot ≡ option_map spot_of o → direct ≡ joined (map f (take spot.start xs)) → indirect ≡ joined (map f (drop spot.end xs))
     → record { verb = verb; args = map f xs; direct = direct; prep = Some spot.prep; indirect = indirect; rest = rest } ≡ round verb (map f xs) rest o

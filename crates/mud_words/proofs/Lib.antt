@@ -6,3 +6,4 @@ pub mod LawLemmas
 pub mod CountingLemmas
 pub mod BlankLemmas
 pub mod JoinLemmas
+pub mod GrammarLemmas

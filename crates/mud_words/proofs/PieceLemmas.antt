@@ -84,7 +84,7 @@ one_byte quoted escaped c other = elim (cases_lt c 128) [ inl low ↦ encode_asc
 abbrev pub from_gap : List Piece → List ℕ → List ℕ
 from_gap ps text = drop (position_or_len is_gap ps + 1) text
 
-drop-past_one : (n x : ℕ) (xs : List ℕ) → drop (1 + n + 1) (x ∷ xs) ≡ drop (n + 1) xs
+pub drop-past_one : (n x : ℕ) (xs : List ℕ) → drop (1 + n + 1) (x ∷ xs) ≡ drop (n + 1) xs
 drop-past_one n x xs = let e : 1 + n + 1 ≡ suc (n + 1) = omega arith in rw e refl
 
 past_chars : (xs rest : List ℕ) (ps : List Piece) → drop (position_or_len is_gap (map Char xs ++ ps) + 1) (xs ++ rest) ≡ drop (position_or_len is_gap ps + 1) rest

@@ -1,7 +1,8 @@
 -- What the laws of the words of a line say.
-use Rattle.std.specs.Prelude.{◌≡◌, ℕ, Bool, true, false, not, ◌||◌, ◌==◌, if◌then◌else◌, List, [], ◌∷◌, ◌++◌, take, filter, map}
-use Rattle.std.specs.List.{slice_split, flat_map, join_with_byte, list_all, position_or_len}
-use Rattle.mud_words.specs.Words.{pieces, is_gap, text_of, plain_words, after_first_word, is_space, is_blank, without_front, spelled_out, words}
+use Rattle.std.specs.Prelude.{◌≡◌, ℕ, Bool, true, false, not, ◌||◌, ◌==◌, if◌then◌else◌, List, [], ◌∷◌, ◌++◌, filter}
+use Rattle.std.specs.Prelude.{map}
+use Rattle.std.specs.List.{slice_split, flat_map, join_with_byte, list_all}
+use Rattle.mud_words.specs.Words.{plain_words, is_space}
 
 -- a double quote or a backslash
 abbrev pub is_mark : ℕ → Bool
@@ -25,12 +26,6 @@ is_empty (b ∷ bs) = false
 
 -- a line without quotes and backslashes has the words that stand between its spaces
 abbrev pub PlainLinesSplitAtSpaces : Type 0
-PlainLinesSplitAtSpaces = (line : List ℕ) → list_all (λ b. not (is_mark b)) line ≡ true → plain_words line ≡ filter (λ word. not (is_empty word)) (slice_split is_space line)
-
--- the text of the first word
-abbrev pub first_word : List ℕ → List ℕ
-first_word line = text_of (take (position_or_len is_gap (pieces line)) (pieces line))
-
--- the words of a line are its first word and the words of what stands behind that
-abbrev pub RestHasTheOtherWords : Type 0
-RestHasTheOtherWords = (line : List ℕ) → is_blank line ≡ false → let text : List ℕ = spelled_out (without_front line) in words line ≡ first_word text ∷ plain_words (after_first_word text)
+PlainLinesSplitAtSpaces =
+    (line : List ℕ) → list_all (λ b. not (is_mark b)) line ≡ true
+    → plain_words line ≡ filter (λ word. not (is_empty word)) (slice_split is_space line)

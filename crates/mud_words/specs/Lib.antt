@@ -5,3 +5,4 @@ pub mod Parse
 pub mod Cutting
 pub mod Searching
 pub mod Laws
+pub mod Grammar

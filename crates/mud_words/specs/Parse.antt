@@ -15,7 +15,14 @@ rest_of text = without_back (without_front (after_first_word text))
 
 -- the objects round a preposition: the words before it are direct, those behind it indirect; without one all are direct
 abbrev pub round : List ℕ → List (List ℕ) → List ℕ → Option Found → Line
-round verb args rest None = record { verb = verb; args = args; direct = joined args; prep = None; indirect = []; rest = rest }
+round verb args rest None = record {
+  verb = verb;
+  args = args;
+  direct = joined args;
+  prep = None;
+  indirect = [];
+  rest = rest;
+}
 round verb args rest (Some f) = record {
   verb = verb;
   args = args;

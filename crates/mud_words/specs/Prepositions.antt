@@ -1,11 +1,13 @@
 -- The prepositions, and which one counts among the words of a line.
-use Rattle.std.specs.Prelude.{◌≡◌, ℕ, ◌+◌, ◌≤◌, ◌==◌, Bool, List, [], ◌∷◌, ◌++◌, length, take, drop, filter, map, codes, Option, None, Some}
+use Rattle.std.specs.Prelude.{◌≡◌, ℕ, ◌+◌, ◌≤◌, ◌==◌, Bool, List, [], ◌∷◌, ◌++◌, length, take, drop, filter, map, codes}
+use Rattle.std.specs.Prelude.{Option, None, Some}
 use Rattle.std.specs.Char.{to_ascii_lowercase}
 use Rattle.std.specs.List.{slice_split, starts_with, find, Contains}
 use Rattle.std.specs.Str.{bytes_eq}
 use Rattle.mud_words.specs.Words.{is_space}
 use Rattle.mud_words.specs.declared.Prep.{Prep}
-use Rattle.mud_words.specs.declared.Prep.TheVariants.{With, To, InFrontOf, In, OnTopOf, OutOf, Over, Through, Under, Behind, Beside, For, Is, As, Off}
+use Rattle.mud_words.specs.declared.Prep.TheVariants.{With, To, InFrontOf, In, OnTopOf, OutOf, Over, Through, Under}
+use Rattle.mud_words.specs.declared.Prep.TheVariants.{Behind, Beside, For, Is, As, Off}
 
 -- a preposition as it is said: which one, and its words
 pub record Phrase : Type 0 where
@@ -73,7 +75,8 @@ or_later (Some phrase) later = Some (record { place = 0; phrase = phrase })
 or_later None None = None
 or_later None (Some f) = Some (record f { place = f.place + 1 })
 
--- the preposition that counts, sought word by word: the law `laws::preposition` says that it is the one of `Counts`
+-- the preposition that counts, sought word by word. A reader need not look into this:
+-- `laws::preposition` says that it is the one of `Counts`
 unfoldable pub counted : List (List ℕ) → Option Found
 counted [] = None
 counted (w ∷ ws) = or_later (phrase_at (w ∷ ws)) (counted ws)

@@ -1,8 +1,10 @@
 -- What the code's own values are seen as, cited by private clauses alone.
-use Rattle.std.specs.Prelude.{ℕ, ◌+◌, List, map, length}
+use Rattle.std.specs.Prelude.{ℕ, ◌+◌, List, map, length, string_bytes}
 use Rattle.std.specs.Borrow.{Bor}
 use Rattle.mud_words.specs.Prepositions.{Phrase, Found}
+use Rattle.mud_words.specs.Line.{Line}
 use Rattle.mud_words.specs.declared.Prep.{Prep}
+use Rattle.mud_words.specs.declared.split.Objects.{Objects}
 use Rattle.mud_words.specs.declared.prepositions.Spot.{Spot}
 
 -- which preposition it is, and the places before and behind its words
@@ -20,3 +22,14 @@ texts phrase = map (λ t. t.now) phrase
 -- a row of the code's table
 abbrev pub shown : Prep × Bor (List (Bor (List ℕ))) → Phrase
 shown p = record { prep = p.0; words = texts p.1.now }
+
+-- a line with these objects
+abbrev pub line_with : List ℕ → List (List ℕ) → List ℕ → Objects → Line
+line_with verb args rest o = record {
+  verb = verb;
+  args = args;
+  direct = string_bytes o.direct;
+  prep = o.prep;
+  indirect = string_bytes o.indirect;
+  rest = rest;
+}

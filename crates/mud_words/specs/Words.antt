@@ -1,12 +1,15 @@
 -- The words of a line, a list of bytes.
-use Rattle.std.specs.Prelude.{ℕ, ◌+◌, Bool, true, false, not, ◌&&◌, ◌||◌, ◌==◌, if◌then◌else◌, List, [], ◌∷◌, ◌++◌, drop, filter, map, reverse, codes}
+use Rattle.std.specs.Prelude.{ℕ, ◌+◌, Bool, true, false, not, ◌&&◌, ◌||◌, ◌==◌, if◌then◌else◌, List, [], ◌∷◌, ◌++◌}
+use Rattle.std.specs.Prelude.{drop, filter, map, reverse, codes}
 use Rattle.std.specs.List.{slice_split, flat_map, list_all, position_or_len}
 use Rattle.mud_words.specs.declared.piece.Piece.{Piece}
 use Rattle.mud_words.specs.declared.piece.Piece.TheVariants.{Gap, Mark, Char}
 
 -- ---- what each byte is
--- A byte is a gap (a space between words), a mark (a quote or a backslash, which belongs to a word and is no character of it)
--- or a character, by whether a quote is open and whether a backslash stands right before; 92 is a backslash, 34 a quote, 32 a space.
+-- A byte is a gap (a space between words), a mark (a quote or a backslash, which belongs to a word and is no character
+-- of it)
+-- or a character, by whether a quote is open and whether a backslash stands right before; 92 is a backslash, 34 a
+-- quote, 32 a space.
 abbrev pub piece : Bool → Bool → ℕ → Piece
 piece quoted escaped b =
     if not escaped && (b == 92 || b == 34) then Mark
@@ -21,10 +24,11 @@ quoted_after quoted escaped b = if not escaped && b == 34 then not quoted else q
 abbrev pub escaped_after : Bool → ℕ → Bool
 escaped_after escaped b = not escaped && b == 92
 
--- what each byte of a line is; the laws of `laws.rt` say the same of whole lines
+-- what each byte of a line is; the laws of `laws.rt` say the same of whole lines, by the grammar in Grammar.antt
 abbrev pub pieces_from : Bool → Bool → List ℕ → List Piece
 pieces_from quoted escaped [] = []
-pieces_from quoted escaped (b ∷ bs) = piece quoted escaped b ∷ pieces_from (quoted_after quoted escaped b) (escaped_after escaped b) bs
+pieces_from quoted escaped (b ∷ bs) =
+    piece quoted escaped b ∷ pieces_from (quoted_after quoted escaped b) (escaped_after escaped b) bs
 
 abbrev pub pieces : List ℕ → List Piece
 pieces line = pieces_from false false line
@@ -53,11 +57,13 @@ text_of stretch = flat_map chars_of stretch
 abbrev pub texts_of : List (List Piece) → List (List ℕ)
 texts_of stretches = map text_of (filter is_word stretches)
 
--- the words of a line as it stands: the stretches between its gaps
+-- the words of a line as it stands: the stretches between its gaps. A reader need not look into this:
+-- `laws::grammar` says that they are those of the grammar
 abbrev pub plain_words : List ℕ → List (List ℕ)
 plain_words line = texts_of (slice_split is_gap (pieces line))
 
--- what stands behind the first gap, the one that ends the first word of a line without spaces in front
+-- what stands behind the first gap, the one that ends the first word of a line without spaces in front.
+-- A reader need not look into this: `laws::rest` says what it is
 abbrev pub after_first_word : List ℕ → List ℕ
 after_first_word line = drop (position_or_len is_gap (pieces line) + 1) line
 
@@ -76,7 +82,11 @@ without_back text = reverse (without_front (reverse text))
 
 -- what a first byte `"`, `:` or `;` stands for; each other stands for itself
 abbrev pub shorthand : ℕ → List ℕ
-shorthand b = if b == 34 then codes "say " else if b == 58 then codes "emote " else if b == 59 then codes "eval " else b ∷ []
+shorthand b =
+    if b == 34 then codes "say "
+    else if b == 58 then codes "emote "
+    else if b == 59 then codes "eval "
+    else b ∷ []
 
 -- the line that a line stands for
 abbrev pub spelled_out : List ℕ → List ℕ

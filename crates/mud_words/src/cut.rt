@@ -25,6 +25,20 @@ impl Cut {
         }
     }
 
+    /// Takes all pieces of a line.
+    fn take_line(&mut self, alloc: Global, line: &str) -> Result<(), AllocError>
+        requires words { self.now.words.items ≡ [] }
+        requires word { self.now.word ≡ None }
+        ensures { OnOk result (map string_bytes self.new.words.items
+            ++ rest_words (option_map string_bytes self.new.word) [] ≡ plain_words line.now) }
+    {
+        let mut quotes = Quotes::new();
+        for c in line.chars() {
+            self.take_piece(alloc, quotes.take_char(c))?;
+        }
+        Ok(())
+    }
+
     /// Takes the next piece of the line.
     fn take_piece(&mut self, alloc: Global, piece: Piece) -> Result<(), AllocError>
         ensures { OnOk result ((ps : List Piece) →
@@ -81,10 +95,7 @@ fn grown(alloc: Global, word: Option<String>, piece: Piece) -> Result<String, Al
 pub(crate) fn plain_words(alloc: Global, line: &str) -> Result<Vec<String>, AllocError>
     ensures { IfOk result (λ v. map string_bytes v.items ≡ plain_words line.now) }
 {
-    let mut quotes = Quotes::new();
     let mut cut = Cut::new(alloc);
-    for c in line.chars() {
-        cut.take_piece(alloc, quotes.take_char(c))?;
-    }
+    cut.take_line(alloc, line)?;
     cut.finish()
 }

@@ -2,7 +2,8 @@
 
 ghost use Rattle.std.specs.Prelude.{◌≡◌, ◌↔◌, List, ℕ, Some, None};
 ghost use Rattle.mud_words.specs.Prepositions.{Found, Stands, Counts, counted};
-ghost use Rattle.mud_words.specs.Laws.{QuotedWordsReadBack, PlainLinesSplitAtSpaces, RestHasTheOtherWords};
+ghost use Rattle.mud_words.specs.Laws.{QuotedWordsReadBack, PlainLinesSplitAtSpaces};
+ghost use Rattle.mud_words.specs.Grammar.{WordsAreSpelled, RestFollowsFirstWord};
 
 /// The preposition that the words are searched for is the one that counts: of those that stand
 /// at the earliest place the longest. There is none exactly where no preposition stands at all.
@@ -23,8 +24,14 @@ pub fn plain_words()
     ensures { PlainLinesSplitAtSpaces }
 {}
 
-/// What stands behind the first word has the other words: both readings of a line agree on where
-/// the first word ends.
+/// The words of a line are those that the grammar gives it, and no others: a word is of characters
+/// that stand for themselves, of backslashes each with the character behind it, and of what stands
+/// between two quotes; an open quote or a lone backslash stands at the end of the line alone.
+pub fn grammar()
+    ensures { WordsAreSpelled }
+{}
+
+/// What stands behind the first word is what follows the space that ends it, to the last byte.
 pub fn rest()
-    ensures { RestHasTheOtherWords }
+    ensures { RestFollowsFirstWord }
 {}

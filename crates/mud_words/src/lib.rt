@@ -31,15 +31,16 @@
 //!
 //! Proved: the answers are exactly those of the definitions in `specs/`, [`words`] those of
 //! `Words.antt` and [`parse`] those of `Parse.antt` with the table in `Prepositions.antt`. The
-//! functions of [`laws`] prove that these definitions say what they are meant to: which
-//! preposition counts, that words written between quotes read back, that a line without quotes
-//! is cut at its spaces, and that what stands behind the first word has the other words.
+//! functions of [`laws`] prove that these definitions say what they are meant to: that a line has
+//! exactly the words that the grammar in `Grammar.antt` gives it, that what stands behind the first
+//! word is what follows the space that ends it, that words written between quotes read back, that
+//! a line without quotes is cut at its spaces, and which preposition counts.
 #![tactic(auto)]
 
 ghost use Rattle.std.specs.Prelude.{◌≡◌, ◌↔◌, [], IsTrue, map, string_bytes, IfOk};
-ghost use Rattle.mud_words.specs.Words.{words, is_blank};
+ghost use Rattle.mud_words.specs.Words.{words, plain_words, is_blank};
 ghost use Rattle.mud_words.specs.Line.{line_of};
-ghost use Rattle.mud_words.specs.Parse.{parsed};
+ghost use Rattle.mud_words.specs.Parse.{parsed, said, rest_of};
 
 mod cut;
 pub mod laws;
@@ -52,7 +53,7 @@ mod split;
 use crate::cut::plain_words;
 use crate::rest::rest_of;
 use crate::spaces::{spelled_out, without_front};
-use crate::split::split;
+use crate::split::said;
 use std::alloc::{AllocError, Global};
 
 /// A preposition: one variant for all phrases that say the same (LambdaMOO Programmer's Manual,
@@ -135,21 +136,16 @@ pub fn parse(alloc: Global, line: &str) -> Result<Parsed, AllocError>
     ensures { IfOk result (λ p. line_of p ≡ parsed line.now) }
 {
     let text = spelled_out(alloc, line)?;
-    let mut args = plain_words(alloc, text.as_str())?;
-    let rest = String::from_str(alloc, rest_of(text.as_str()))?;
-    if args.is_empty() {
-        return Ok(Parsed {
-            verb: String::new(alloc),
-            args,
-            direct: String::new(alloc),
-            prep: None,
-            indirect: String::new(alloc),
-            rest,
-        });
-    }
-    let mut verb = args.remove(0);
-    verb.make_ascii_lowercase();
-    split(alloc, verb, args, rest)
+    parse_text(alloc, text.as_str())
+}
+
+// What a line without shorthand says.
+fn parse_text(alloc: Global, text: &str) -> Result<Parsed, AllocError>
+    ensures { IfOk result (λ p. line_of p ≡ said (plain_words text.now) (rest_of text.now)) }
+{
+    let words = plain_words(alloc, text)?;
+    let rest = String::from_str(alloc, rest_of(text))?;
+    said(alloc, words, rest)
 }
 
 /// Whether a line has no words: it is empty, or of spaces alone. A lone backslash is a word, and

@@ -7,22 +7,14 @@ use std::alloc::{AllocError, Global};
 pub(crate) fn without_front(text: &str) -> &str
     ensures { result.now ≡ without_front text.now }
 {
-    let mut trimmed = text;
-    while let Some(rest) = trimmed.strip_prefix(' ') {
-        trimmed = rest;
-    }
-    trimmed
+    text.trim_start_matches(' ')
 }
 
 /// The text without the spaces at its end.
 pub(crate) fn without_back(text: &str) -> &str
     ensures { result.now ≡ without_back text.now }
 {
-    let mut trimmed = text;
-    while let Some(front) = trimmed.strip_suffix(' ') {
-        trimmed = front;
-    }
-    trimmed
+    text.trim_end_matches(' ')
 }
 
 /// The line without the spaces at its front, and without shorthand.

@@ -1,5 +1,5 @@
-use Rattle.mud_words.proofs.LawLemmas.{other_words}
+use Rattle.mud_words.proofs.GrammarLemmas.{behind_first, behind_last}
 use Rattle.mud_words.proofs.laws.rest.Goals as goal
 
 pub returns : goal.returns
-returns c = other_words
+returns c = record { follows = behind_first; nothing = behind_last }

@@ -1,6 +1,5 @@
-use Rattle.std.proofs.Common.{sym, ◌∙◌}
-use Rattle.mud_words.proofs.SpaceLemmas.{without_back-bare}
+use Rattle.mud_words.proofs.SpaceLemmas.{trimmed_behind}
 use Rattle.mud_words.proofs.spaces.without_back.Goals as goal
 
 pub returns : goal.returns
-returns c = sym (without_back-bare _ c.in_default.ensures.cases) ∙ c.loop-front.invariant.0
+returns c = trimmed_behind _ _ c.trim_end_matches.ensures.matches

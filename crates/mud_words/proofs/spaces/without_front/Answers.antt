@@ -1,6 +1,5 @@
-use Rattle.std.proofs.Common.{sym, ◌∙◌}
-use Rattle.mud_words.proofs.SpaceLemmas.{without_front-bare}
+use Rattle.mud_words.proofs.SpaceLemmas.{trimmed_in_front}
 use Rattle.mud_words.proofs.spaces.without_front.Goals as goal
 
 pub returns : goal.returns
-returns c = sym (without_front-bare _ c.in_default.ensures.cases) ∙ c.loop-rest.invariant.0
+returns c = trimmed_in_front _ _ c.trim_start_matches.ensures.matches

@@ -1,4 +1,4 @@
-use Rattle.std.proofs.Common.{◌≡◌, subst, sym, ap, ◌∙◌, Err, Ok, true}
+use Rattle.std.proofs.Common.{◌≡◌, subst, sym, ap, ◌∙◌, Err, true}
 use Rattle.mud_key.specs.declared.names.NamesFault.TheVariants.{BadName}
 use Rattle.mud_key.specs.Name.{IsName}
 use Rattle.mud_key.specs.Names.{is_only}

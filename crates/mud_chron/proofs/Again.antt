@@ -16,8 +16,9 @@ use Rattle.mud_chron.specs.declared.verb.Verb.{Verb}
 use Rattle.mud_chron.specs.declared.verb.Verb.TheVariants as verb
 use Rattle.mud_chron.specs.Entry.{Accepted, IsEntry, IsInRange, HasParts, AreDoors, AreBackNames, IsTarget}
 use Rattle.mud_chron.specs.Text.{quoted, listed, target_text, back_text, doors_text, deed_text, change_text, entry_line}
-use Rattle.mud_chron.specs.Fields.{◌>>=◌, cut, object_in, object_before, number_up_to, number_key_in}
-use Rattle.mud_chron.specs.Guess.{names_before, quoted_in, back_in, doors_behind, doors_in, new_in, way_to, old_in, dig_in, make_in, player_in, lock_in, unlock_in, move_in, walk_in, cost_in, rename_in, recycle_in, say_in, emote_in, deed_in, verb_in, change_in, desk_in, entry_in}
+use Rattle.mud_chron.specs.Fields.{object_in}
+use Rattle.mud_chron.proofs.Reader.{◌>>=◌, cut, object_before, number_up_to, number_key_in}
+use Rattle.mud_chron.proofs.Reader.{names_before, quoted_in, back_in, doors_behind, doors_in, new_in, way_to, old_in, dig_in, make_in, player_in, lock_in, unlock_in, move_in, walk_in, cost_in, rename_in, recycle_in, say_in, emote_in, deed_in, verb_in, change_in, desk_in, entry_in}
 use Rattle.mud_chron.proofs.Cutting.{lacks, cut_again}
 use Rattle.mud_chron.proofs.Digits.{decimal_lacks, number_again, object_again, object_before_again}
 use Rattle.mud_chron.proofs.Spelled.{plain, both, plain_decimal, plain_names, plain_quoted, names_before_again, quoted_again, quoted_end, name_again, plain_key, key_again, speech_again, plain_speech}
@@ -78,21 +79,21 @@ then_again {A = A} n rest find make x le found =
     ∙ ap (λ (o : Option A). o >>= (λ x. Some (make n x))) found
 
 -- the word of a deed, and what stands behind the actor
-abbrev word_of : Deed → List ℕ
-word_of (Dig target doors) = codes "dig"
-word_of (Make names) = codes "make"
-word_of (Player name) = codes "player"
-word_of (Lock object key) = codes "lock"
-word_of (Unlock object) = codes "unlock"
-word_of (Move thing to) = codes "move"
-word_of (Walk exit) = codes "walk"
-word_of (Cost exit cost) = codes "cost"
-word_of (Rename object names) = codes "rename"
-word_of (Recycle object) = codes "recycle"
-word_of (Say text) = codes "say"
-word_of (Emote text) = codes "emote"
+abbrev pub deed_word : Deed → List ℕ
+deed_word (Dig target doors) = codes "dig"
+deed_word (Make names) = codes "make"
+deed_word (Player name) = codes "player"
+deed_word (Lock object key) = codes "lock"
+deed_word (Unlock object) = codes "unlock"
+deed_word (Move thing to) = codes "move"
+deed_word (Walk exit) = codes "walk"
+deed_word (Cost exit cost) = codes "cost"
+deed_word (Rename object names) = codes "rename"
+deed_word (Recycle object) = codes "recycle"
+deed_word (Say text) = codes "say"
+deed_word (Emote text) = codes "emote"
 
-abbrev rest_of : Deed → List ℕ
+abbrev pub rest_of : Deed → List ℕ
 rest_of (Dig target doors) = target_text target ++ doors_text doors
 rest_of (Make names) = quoted names
 rest_of (Player name) = quoted (name ∷ [])
@@ -115,7 +116,7 @@ second word actor x y = append_assoc (word ++ actor ++ codes " ") x y ∙ first 
 third : (word actor x y : List ℕ) → word ++ actor ++ codes " " ++ x ++ codes " " ++ y ≡ word ++ (actor ++ 32 ∷ (x ++ 32 ∷ y))
 third word actor x y = append_assoc (word ++ actor ++ codes " " ++ x) (codes " ") y ∙ second word actor x (32 ∷ y)
 
-shape : (actor : List ℕ) (d : Deed) → deed_text actor d ≡ word_of d ++ 32 ∷ (actor ++ 32 ∷ rest_of d)
+pub shape : (actor : List ℕ) (d : Deed) → deed_text actor d ≡ deed_word d ++ 32 ∷ (actor ++ 32 ∷ rest_of d)
 shape actor (Dig target doors) = second (codes "dig ") actor (target_text target) (doors_text doors)
 shape actor (Make names) = first (codes "make ") actor (quoted names)
 shape actor (Player name) = first (codes "player ") actor (quoted (name ∷ []))
@@ -129,7 +130,7 @@ shape actor (Recycle object) = first (codes "recycle ") actor (number_text objec
 shape actor (Say text) = first (codes "say ") actor (text)
 shape actor (Emote text) = first (codes "emote ") actor (text)
 
-deed_again : (actor : ℕ) (d : Deed) → actor ≤ 8191 → IsInRange d → HasParts d → change_in (word_of d ++ 32 ∷ (number_text actor ++ 32 ∷ rest_of d)) ≡ Some (record { actor = actor; deed = d })
+deed_again : (actor : ℕ) (d : Deed) → actor ≤ 8191 → IsInRange d → HasParts d → change_in (deed_word d ++ 32 ∷ (number_text actor ++ 32 ∷ rest_of d)) ≡ Some (record { actor = actor; deed = d })
 unfolding verb_in deed_in make_in player_in lock_in unlock_in move_in walk_in cost_in rename_in recycle_in say_in emote_in
 deed_again actor (Dig target doors) le r h = parts_again verb.Dig (codes "dig") (target_text target ++ doors_text doors) actor (Dig target doors) le refl refl (dig_again target doors r h)
 deed_again actor (Make names) le r h = parts_again verb.Make (codes "make") (quoted names) actor (Make names) le refl refl (ap (λ (o : Option (List (List ℕ) × List ℕ)). o >>= (λ names. Some (Make names.0))) (quoted_end names h))
@@ -210,7 +211,7 @@ plain_rest (Recycle object) r h = plain_number object r
 plain_rest (Say text) r h = plain_speech text h
 plain_rest (Emote text) r h = plain_speech text h
 
-plain_word : (d : Deed) → list_all plain (word_of d) ≡ true
+plain_word : (d : Deed) → list_all plain (deed_word d) ≡ true
 plain_word (Dig target doors) = refl
 plain_word (Make names) = refl
 plain_word (Player name) = refl
@@ -225,7 +226,7 @@ plain_word (Say text) = refl
 plain_word (Emote text) = refl
 
 plain_deed : (actor : List ℕ) (d : Deed) → list_all plain actor ≡ true → IsInRange d → HasParts d → list_all plain (deed_text actor d) ≡ true
-plain_deed actor d a r h = ap (list_all plain) (shape actor d) ∙ plain_behind (word_of d) (actor ++ 32 ∷ rest_of d) (plain_word d) (plain_behind actor (rest_of d) a (plain_rest d r h))
+plain_deed actor d a r h = ap (list_all plain) (shape actor d) ∙ plain_behind (deed_word d) (actor ++ 32 ∷ rest_of d) (plain_word d) (plain_behind actor (rest_of d) a (plain_rest d r h))
 
 -- a line has bytes from 32 to 126 alone
 pub plain_line : (version : ℕ) (e : Accepted) → version < 2 ^ 64 → IsEntry e → list_all plain (entry_line version e) ≡ true

@@ -1,6 +1,6 @@
 -- What is spelled of a number is found as the number.
-use Rattle.std.proofs.Common.{◌≡◌, ℕ, ◌+◌, ◌-◌, ◌*◌, ◌/◌, ◌%◌, ◌^◌, ◌<◌, ◌≤◌, true, List, [], ◌∷◌, ◌++◌, Option, Some, None, cond, leb, ltb, refl, sym, ◌∙◌, ap, arith, append_assoc, eqb}
-use Rattle.std.specs.Prelude.{◌&&◌, not}
+use Rattle.std.proofs.Common.{◌≡◌, ℕ, ◌+◌, ◌-◌, ◌*◌, ◌/◌, ◌%◌, ◌^◌, ◌<◌, ◌≤◌, true, List, [], ◌∷◌, ◌++◌, Bool, false, Option, Some, None, Result, Ok, Err, cond, leb, ltb, refl, sym, ◌∙◌, ap, arith, append_assoc, eqb}
+use Rattle.std.specs.Prelude.{◌&&◌, not, IfOk}
 use Rattle.std.specs.List.{list_all}
 use Rattle.std.specs.Fmt.{decimal}
 use Rattle.std.proofs.lemmas.Fmt.{decimal_by_steps}
@@ -8,7 +8,9 @@ use Rattle.std.proofs.lemmas.List.{append-nil}
 use Rattle.std.proofs.lemmas.List.Folds.{list_all-append}
 use Rattle.std.proofs.lemmas.Bool.{cond-true, and_from, and_parts, le-leb, leb-true, lt-ltb, ne_eqb}
 use Rattle.mud_key.specs.Printed.{number_text}
-use Rattle.mud_chron.specs.Fields.{◌>>=◌, is_digit, digits_on, number_up_to, object_in, object_before}
+use Rattle.mud_chron.specs.declared.fields.Unread.{Unread}
+use Rattle.mud_chron.specs.Fields.{is_digit, digits_on, up_to, object_in, Gives, Finds}
+use Rattle.mud_chron.proofs.Reader.{◌>>=◌, object_before}
 use Rattle.mud_chron.proofs.Cutting.{lacks, cut_again, implied}
 
 step : (n b : ℕ) (bs : List ℕ) → is_digit b ≡ true → n < 100000000 → digits_on n (b ∷ bs) ≡ digits_on (n * 10 + (b - 48)) bs
@@ -45,15 +47,28 @@ digits n fits = decimal_by_steps (λ n ds. list_all is_digit ds ≡ true)
 pub decimal_lacks : (c n : ℕ) → c < 48 → n < 2 ^ 64 → lacks c (decimal n) ≡ true
 decimal_lacks c n low fits = implied is_digit (λ b. not (eqb b c)) (λ b e. ap not (ne_eqb b c (λ same. let p = and_parts (leb 48 b) (leb b 57) e in absurd (omega (arith, leb-true 48 b p.0))))) (decimal n) (digits n fits)
 
-pub number_again : (most n : ℕ) → n ≤ most → n < 1000000000 → number_up_to most (decimal n) ≡ Some n
-unfolding number_up_to
+pub number_again : (most n : ℕ) → n ≤ most → n < 1000000000 → up_to most (digits_on 0 (decimal n)) ≡ Some n
 number_again most n le few =
-    ap (λ (o : Option ℕ). o >>= (λ n. cond (leb n most) (Some n) None)) (ap (digits_on 0) (sym (append-nil (decimal n))) ∙ reads-on n few [])
+    ap (up_to most) (ap (digits_on 0) (sym (append-nil (decimal n))) ∙ reads-on n few [])
     ∙ cond-true (leb n most) (Some n) None (le-leb n most le)
 
 pub object_again : (n : ℕ) → n ≤ 8191 → object_in (number_text n) ≡ Some n
-unfolding object_in
 object_again n le = number_again 8191 n le (omega arith)
+
+-- what was answered is the number that was spelled
+pub given : (r : Result ℕ Unread) (found : Option ℕ) (n : ℕ) → Gives r found → found ≡ Some n → Finds (λ m. m ≡ n) r
+given (Ok m) found n h is = let both : Some m ≡ Some n = sym h ∙ is in cc
+given (Err e) found n h is = let bad : ◌≡◌ {A = Option ℕ} None (Some n) = sym h ∙ is in absurd (cc)
+
+-- a number that was answered is at most this
+pub given_most : (r : Result ℕ Unread) (most : ℕ) (found : Option ℕ) → Gives r (up_to most found) → IfOk r (λ n. n ≤ most)
+given_most (Ok m) most None h = absurd (let bad : ◌≡◌ {A = Option ℕ} None (Some m) = h in cc)
+given_most (Ok m) most (Some n) h = go (leb n most) refl h
+  where
+    go : (b : Bool) → leb n most ≡ b → cond b (Some n) None ≡ Some m → m ≤ most
+    go true e i = let same : n ≡ m = cc in let le = leb-true n most e in omega (arith, le, same)
+    go false e i = absurd (let bad : ◌≡◌ {A = Option ℕ} None (Some m) = i in cc)
+given_most (Err e) most found h = tt
 
 pub object_before_again : (n : ℕ) (rest : List ℕ) → n ≤ 8191 → object_before (number_text n ++ 32 ∷ rest) ≡ Some (n, rest)
 unfolding object_before

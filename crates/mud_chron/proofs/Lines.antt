@@ -1,29 +1,15 @@
 -- What is found of a line is the only entry that may have it.
-use Rattle.std.proofs.Common.{◌≡◌, ℕ, zero, suc, ◌<◌, true, List, [], ◌∷◌, Option, Some, None, Result, Ok, Err, sym, ◌∙◌, ap, arith, ltb, get_or}
+use Rattle.std.proofs.Common.{◌≡◌, ℕ, zero, suc, ◌<◌, true, List, [], ◌∷◌, arith, ltb, get_or}
 use Rattle.std.specs.Prelude.{not, ◌^◌}
 use Rattle.std.specs.List.{list_all}
 use Rattle.std.specs.Str.{IsUtf8}
 use Rattle.std.proofs.lemmas.Str.{IsUtf8-from_ascii}
 use Rattle.std.proofs.lemmas.Bool.{and_parts, ltb-false}
-use Rattle.mud_chron.specs.declared.fields.Unread.{Unread}
-use Rattle.mud_chron.specs.declared.fields.Unread.TheVariants.{OutOfMemory, NoEntry}
 use Rattle.mud_chron.specs.Entry.{Accepted, IsEntry}
 use Rattle.mud_chron.specs.Text.{entry_line}
-use Rattle.mud_chron.specs.Fields.{Gives}
-use Rattle.mud_chron.specs.Guess.{entry_in}
-use Rattle.mud_chron.specs.Lines.{Finds}
 use Rattle.mud_chron.proofs.Cutting.{not_true}
 use Rattle.mud_chron.proofs.Spelled.{plain}
-use Rattle.mud_chron.proofs.Again.{entry_again, plain_line}
-
-pub finds : (line : List ℕ) (result : Result Accepted Unread) → Gives (λ (e : Accepted). e) result (entry_in line) → Finds line result
-finds line (Ok found) h = λ version e fits is same.
-    let both : ◌≡◌ {A = Option Accepted} (Some e) (Some found) = sym (ap entry_in same ∙ entry_again version e (omega arith) is) ∙ h in
-    cc
-finds line (Err OutOfMemory) h = tt
-finds line (Err NoEntry) h = λ version e fits is same.
-    let both : ◌≡◌ {A = Option Accepted} (Some e) None = sym (ap entry_in same ∙ entry_again version e (omega arith) is) ∙ h in
-    absurd (cc)
+use Rattle.mud_chron.proofs.Again.{plain_line}
 
 ascii : (text : List ℕ) → list_all plain text ≡ true → (i : ℕ) → get_or text i 0 < 128
 ascii [] h i = omega arith

@@ -11,19 +11,21 @@ use Rattle.mud_key.specs.Name.{IsName, IsNameByte}
 use Rattle.mud_key.specs.Names.{AreNames, SpellsName, SpellsNames, one, more}
 use Rattle.mud_key.specs.Reading.{names_in, name_in}
 use Rattle.mud_key.specs.Tree.{Tree, Has, Asks, Not, Join, objects_of, nots_of, AllObjects, IsWithinLimits, IsKey}
-use Rattle.mud_key.specs.KeyText.{sign}
-use Rattle.mud_key.specs.Printed.{number_text, by_text, enclosed, printed, ReadsBack}
+use Rattle.mud_key.specs.KeyText.{sign, SpellsKey}
+use Rattle.mud_key.specs.Printed.{number_text, by_text, enclosed, printed}
 use Rattle.mud_key.specs.Namer.{result_map, joined_result, resolved}
 use Rattle.mud_key.specs.declared.namer.Miss.{Miss}
+use Rattle.mud_key.specs.declared.namer.Miss.TheVariants.{NoSuch}
+use Rattle.std.specs.Option.{ok_or}
 use Rattle.mud_key.specs.declared.operator.Operator.{Operator}
 use Rattle.mud_key.specs.declared.operator.Operator.TheVariants.{And, Or}
 use Rattle.mud_key.proofs.Found.{names_law, name_law, key_law}
 use Rattle.mud_key.proofs.LeastParentheses.{reads_back}
 use Rattle.mud_world.specs.Speech.{is_printable, is_trimmed, is_speech}
 use Rattle.mud_chron.specs.Text.{listed, quoted}
-use Rattle.mud_chron.specs.Fields.{◌>>=◌, is_digit, cut, object_in, or_miss, without_miss, number_key_in, speech_in}
-use Rattle.mud_chron.specs.Guess.{names_before, quoted_in, quoted_name_in}
-use Rattle.mud_chron.proofs.Cutting.{lacks, cut_again, implied, tested}
+use Rattle.mud_chron.specs.Fields.{Lacks, is_digit}
+use Rattle.mud_chron.proofs.Reader.{◌>>=◌, cut, without_miss, number_key_in, speech_in, meaning, names_before, quoted_in, quoted_name_in}
+use Rattle.mud_chron.proofs.Cutting.{lacks, lacks_all, cut_again, implied, tested}
 use Rattle.mud_chron.proofs.Digits.{digits, object_again}
 
 -- ---- bytes
@@ -105,6 +107,13 @@ name_again name is =
     ap (λ (o : Option (List ℕ × List ℕ)). o >>= (λ q. name_in q.0)) (cut_again 34 (listed (name ∷ [])) [] (listed_lacks (name ∷ []) (is, tt)))
     ∙ ap name_in (append-nil name) ∙ (name_law name name).1 (refl, is)
 
+-- no quote stands among names
+pub names_lack : (names : List (List ℕ)) → AreNames names → Lacks 34 (listed names)
+names_lack names h = lacks_all 34 (listed names) (listed_lacks names (each_of names h))
+
+pub name_lacks : (name : List ℕ) → IsName name → Lacks 34 name
+name_lacks name is = lacks_all 34 name (all_names (λ b. not (eqb b 34)) no_quote name is)
+
 -- ---- keys
 
 plain_sign : (op : Operator) → list_all plain (sign op) ≡ true
@@ -162,17 +171,24 @@ resolved_counts meaning (Join op a b) = join_counts op (objects_of a) (nots_of a
 counted : (t : Tree (List ℕ)) (k : Tree ℕ) → CountsAs (objects_of t) (nots_of t) (Ok k) → IsKey k → IsWithinLimits t
 counted t k c is = record { objects = omega (arith, c.0, is.limits.objects); nots = omega (arith, c.1, is.limits.nots) }
 
+-- what is read of a key's text is resolved to that key
+pub key_resolved : (key : Tree ℕ) (read : Tree (List ℕ)) → IsKey key → SpellsKey (printed (by_text key)) read → resolved meaning read ≡ Ok key
+key_resolved key read is spells = (reads_back key (printed (by_text key)) is refl).again read spells meaning (λ n le. ap (λ o. ok_or o NoSuch) (object_again n le))
+
+-- a key's text is a key text within the limits
+pub key_text : (key : Tree ℕ) → IsKey key → (read : Tree (List ℕ)) × SpellsKey (printed (by_text key)) read
+key_text key is = (reads_back key (printed (by_text key)) is refl).is_key_text
+
+pub key_limits : (key : Tree ℕ) (read : Tree (List ℕ)) → IsKey key → SpellsKey (printed (by_text key)) read → IsWithinLimits read
+key_limits key read is spells = counted read key (subst (λ r. CountsAs (objects_of read) (nots_of read) r) (key_resolved key read is spells) (resolved_counts meaning read)) is
+
 pub key_again : (key : Tree ℕ) → IsKey key → number_key_in (printed (by_text key)) ≡ Some key
 unfolding number_key_in
 key_again key is =
     let text : List ℕ = printed (by_text key) in
-    let back : ReadsBack text key = reads_back key text is refl in
-    let meaning : List ℕ → Result ℕ Miss = λ o. or_miss (object_in o) in
-    let read : Tree (List ℕ) = back.is_key_text.0 in
-    let same : resolved meaning read ≡ Ok key = back.again read back.is_key_text.1 meaning (λ n le. ap or_miss (object_again n le)) in
-    let limits : IsWithinLimits read = counted read key (subst (λ r. CountsAs (objects_of read) (nots_of read) r) same (resolved_counts meaning read)) is in
-    ap (λ (o : Option (Tree (List ℕ))). o >>= (λ k. without_miss (resolved meaning k))) ((key_law text read).1 (back.is_key_text.1, limits))
-    ∙ ap without_miss same
+    let read = key_text key is in
+    ap (λ (o : Option (Tree (List ℕ))). o >>= (λ k. without_miss (resolved meaning k))) ((key_law text read.0).1 (read.1, key_limits key read.0 is read.1))
+    ∙ ap without_miss (key_resolved key read.0 is read.1)
 
 -- ---- speech
 

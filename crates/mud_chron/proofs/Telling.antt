@@ -15,8 +15,8 @@ use Rattle.mud_chron.specs.Text.{line_feed, head_line, change_text, entry_line, 
 use Rattle.mud_chron.specs.History.{HasLine, IsEntryOf, AreEntriesOf, SpellsHistory}
 use Rattle.mud_chron.specs.Faults.{IsNoHistory, Begins, IsBad, HasFault}
 use Rattle.mud_chron.specs.Laws.{SpellsOne, HasOneFault, FaultsAreNoTexts, IsWrittenAgain}
-use Rattle.mud_chron.specs.Fields.{cut, is_digit}
-use Rattle.mud_chron.specs.Guess.{entry_in}
+use Rattle.mud_chron.specs.Fields.{is_digit}
+use Rattle.mud_chron.proofs.Reader.{cut, entry_in}
 use Rattle.mud_chron.proofs.Cutting.{lacks, cut_again, cut_lacks, lacks_from, implied}
 use Rattle.mud_chron.proofs.Digits.{digits, decimal_lacks}
 use Rattle.mud_chron.proofs.Spelled.{plain}

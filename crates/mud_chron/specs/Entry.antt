@@ -1,15 +1,11 @@
 -- Entries of a history, and which there are.
-use Rattle.std.specs.Prelude.{ℕ, ◌≤◌, List, Option, Some, None, IsTrue}
-use Rattle.mud_key.specs.Name.{IsName}
-use Rattle.mud_key.specs.Names.{AreNames}
-use Rattle.mud_key.specs.Tree.{IsKey}
-use Rattle.mud_world.specs.Speech.{is_speech}
+use Rattle.std.specs.Prelude.{ℕ, ◌≤◌, Some, None}
+pub use Rattle.mud_world.specs.Parts.{AreBackNames, AreDoors, IsTarget, HasParts}
 use Rattle.mud_world.specs.declared.change.Change.{Change}
-use Rattle.mud_world.specs.declared.change.Doors.{Doors}
-use Rattle.mud_world.specs.declared.change.Target.{Target}
 use Rattle.mud_world.specs.declared.change.Target.TheVariants.{New, Old}
 use Rattle.mud_world.specs.declared.change.Deed.{Deed}
-use Rattle.mud_world.specs.declared.change.Deed.TheVariants.{Dig, Make, Lock, Unlock, Move, Walk, Cost, Player, Rename, Recycle, Say, Emote}
+use Rattle.mud_world.specs.declared.change.Deed.TheVariants.{Dig, Make, Lock, Unlock, Move, Walk, Cost, Player, Rename}
+use Rattle.mud_world.specs.declared.change.Deed.TheVariants.{Recycle, Say, Emote}
 
 -- an accepted change, and the number of the desk that made it
 pub record Accepted : Type 0 where
@@ -43,36 +39,6 @@ pub record IsSpellable (desk : ℕ) (change : Change) : Type 0 where
   pub desk_to : desk ≤ 64
   pub actor : IsNumber change.actor
   pub deed : IsInRange change.deed
-
--- the names of an exit back, where there is one
-abbrev pub AreBackNames : Option (List (List ℕ)) → Type 0
-AreBackNames None = Unit {0}
-AreBackNames (Some names) = AreNames names
-
--- the names of the exits of a dig
-abbrev pub AreDoors : Option Doors → Type 0
-AreDoors None = Unit {0}
-AreDoors (Some doors) = AreNames doors.out × AreBackNames doors.back
-
--- the names of a new room
-abbrev pub IsTarget : Target → Type 0
-IsTarget (New names) = AreNames names
-IsTarget (Old room) = Unit {0}
-
--- names, keys and texts of a deed are such; their types keep it of every change that is built
-abbrev pub HasParts : Deed → Type 0
-HasParts (Dig target doors) = IsTarget target × AreDoors doors
-HasParts (Make names) = AreNames names
-HasParts (Player name) = IsName name
-HasParts (Lock object key) = IsKey key
-HasParts (Unlock object) = Unit {0}
-HasParts (Move thing to) = Unit {0}
-HasParts (Walk exit) = Unit {0}
-HasParts (Cost exit cost) = Unit {0}
-HasParts (Rename object names) = AreNames names
-HasParts (Recycle object) = Unit {0}
-HasParts (Say text) = IsTrue (is_speech text)
-HasParts (Emote text) = IsTrue (is_speech text)
 
 -- what is true of every entry
 pub record IsEntry (e : Accepted) : Type 0 where

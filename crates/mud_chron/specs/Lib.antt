@@ -5,5 +5,4 @@ pub mod Faults
 pub mod Replay
 pub mod Laws
 pub mod Fields
-pub mod Guess
 pub mod Lines

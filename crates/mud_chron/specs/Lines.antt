@@ -1,11 +1,9 @@
 -- What one line is. Clauses of private parts alone cite this file.
-use Rattle.std.specs.Prelude.{◌≡◌, ◌≢◌, ℕ, ◌+◌, ◌<◌, ◌^◌, List, Result, Ok, Err}
-use Rattle.mud_chron.specs.declared.fields.Unread.{Unread}
-use Rattle.mud_chron.specs.declared.fields.Unread.TheVariants.{OutOfMemory, NoEntry}
+use Rattle.std.specs.Prelude.{◌≡◌, ◌≢◌, ℕ, ◌+◌, List}
 use Rattle.mud_chron.specs.declared.format.Format.{Format}
 use Rattle.mud_chron.specs.declared.line.Line.{Line}
 use Rattle.mud_chron.specs.declared.line.Line.TheVariants.{Entry, End, Bad}
-use Rattle.mud_chron.specs.Entry.{Accepted, IsEntry}
+use Rattle.mud_chron.specs.Entry.{Accepted}
 use Rattle.mud_chron.specs.Text.{entry_line, end_line}
 use Rattle.mud_chron.specs.History.{IsEntryOf}
 use Rattle.mud_chron.specs.Faults.{IsBad}
@@ -13,12 +11,6 @@ use Rattle.mud_chron.specs.Faults.{IsBad}
 -- the line is that of no entry which makes the version
 abbrev pub IsNoEntryLine : Format → ℕ → List ℕ → Type 0
 IsNoEntryLine format version line = (e : Accepted) → IsEntryOf format e → line ≢ entry_line version e
-
--- the only entry that may have the line, or that there is none
-abbrev pub Finds : List ℕ → Result Accepted Unread → Type 0
-Finds line (Ok found) = (version : ℕ) (e : Accepted) → version < 2 ^ 32 → IsEntry e → line ≡ entry_line version e → e ≡ found
-Finds line (Err OutOfMemory) = Unit {0}
-Finds line (Err NoEntry) = (version : ℕ) (e : Accepted) → version < 2 ^ 32 → IsEntry e → line ≢ entry_line version e
 
 -- what the line is behind so many entries
 abbrev pub IsLine : Format → ℕ → List ℕ → Line → Type 0

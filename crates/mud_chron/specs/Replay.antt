@@ -6,7 +6,8 @@ use Rattle.mud_world.specs.History.{world_of}
 use Rattle.mud_world.specs.Legal.{refusal, after}
 use Rattle.mud_world.specs.declared.change.Change.{Change}
 use Rattle.mud_chron.specs.declared.fault.ChronFault.{ChronFault}
-use Rattle.mud_chron.specs.declared.fault.ChronFault.TheVariants.{OutOfMemory, NotHistory, BadLine, BadChange, TooLong, NoEnd}
+use Rattle.mud_chron.specs.declared.fault.ChronFault.TheVariants.{OutOfMemory, NotHistory, BadLine, BadChange, TooLong}
+use Rattle.mud_chron.specs.declared.fault.ChronFault.TheVariants.{NoEnd}
 use Rattle.mud_chron.specs.Entry.{Accepted}
 
 -- the changes of entries

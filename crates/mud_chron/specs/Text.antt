@@ -8,7 +8,8 @@ use Rattle.mud_world.specs.declared.change.Doors.{Doors}
 use Rattle.mud_world.specs.declared.change.Target.{Target}
 use Rattle.mud_world.specs.declared.change.Target.TheVariants.{New, Old}
 use Rattle.mud_world.specs.declared.change.Deed.{Deed}
-use Rattle.mud_world.specs.declared.change.Deed.TheVariants.{Dig, Make, Lock, Unlock, Move, Walk, Cost, Player, Rename, Recycle, Say, Emote}
+use Rattle.mud_world.specs.declared.change.Deed.TheVariants.{Dig, Make, Lock, Unlock, Move, Walk, Cost, Player, Rename}
+use Rattle.mud_world.specs.declared.change.Deed.TheVariants.{Recycle, Say, Emote}
 use Rattle.mud_chron.specs.declared.format.Format.{Format}
 use Rattle.mud_chron.specs.declared.format.Format.TheVariants.{One, Two}
 use Rattle.mud_chron.specs.Entry.{Accepted}
@@ -46,12 +47,15 @@ abbrev pub deed_text : List ℕ → Deed → List ℕ
 deed_text actor (Dig target doors) = codes "dig " ++ actor ++ codes " " ++ target_text target ++ doors_text doors
 deed_text actor (Make names) = codes "make " ++ actor ++ codes " " ++ quoted names
 deed_text actor (Player name) = codes "player " ++ actor ++ codes " " ++ quoted (name ∷ [])
-deed_text actor (Lock object key) = codes "lock " ++ actor ++ codes " " ++ number_text object ++ codes " " ++ printed (by_text key)
+deed_text actor (Lock object key) =
+    codes "lock " ++ actor ++ codes " " ++ number_text object ++ codes " " ++ printed (by_text key)
 deed_text actor (Unlock object) = codes "unlock " ++ actor ++ codes " " ++ number_text object
-deed_text actor (Move thing to) = codes "move " ++ actor ++ codes " " ++ number_text thing ++ codes " " ++ number_text to
+deed_text actor (Move thing to) =
+    codes "move " ++ actor ++ codes " " ++ number_text thing ++ codes " " ++ number_text to
 deed_text actor (Walk exit) = codes "walk " ++ actor ++ codes " " ++ number_text exit
 deed_text actor (Cost exit cost) = codes "cost " ++ actor ++ codes " " ++ number_text exit ++ codes " " ++ decimal cost
-deed_text actor (Rename object names) = codes "rename " ++ actor ++ codes " " ++ number_text object ++ codes " " ++ quoted names
+deed_text actor (Rename object names) =
+    codes "rename " ++ actor ++ codes " " ++ number_text object ++ codes " " ++ quoted names
 deed_text actor (Recycle object) = codes "recycle " ++ actor ++ codes " " ++ number_text object
 deed_text actor (Say text) = codes "say " ++ actor ++ codes " " ++ text
 deed_text actor (Emote text) = codes "emote " ++ actor ++ codes " " ++ text

@@ -1,9 +1,16 @@
 //! The fields of a line. What is found here counts only where it is spelled as the line
 //! (`line.rt`), so that a field may be found in more than its own spelling.
 
-ghost use Rattle.std.specs.Prelude.{◌≡◌, ◌≤◌, ◌<◌, ℕ, IfOk, IfErr};
-ghost use Rattle.mud_key.specs.Reading.{names_in, name_in};
-ghost use Rattle.mud_chron.specs.Fields.{Gives, cut, digits_on, number_up_to, object_in, object_before, speech_in, or_miss, number_key_in};
+ghost use Rattle.std.specs.Prelude.{◌≡◌, ◌≢◌, ◌⊎◌, ◌≤◌, ◌<◌, ◌++◌, ◌∷◌, ℕ, List, codes, IfOk, IsTrue};
+ghost use Rattle.std.specs.Fmt.{decimal};
+ghost use Rattle.mud_key.specs.Name.{IsName};
+ghost use Rattle.mud_key.specs.Names.{AreNames};
+ghost use Rattle.mud_key.specs.Tree.{Tree, IsKey};
+ghost use Rattle.mud_key.specs.Printed.{number_text, by_text, printed};
+ghost use Rattle.mud_world.specs.Speech.{is_speech};
+ghost use Rattle.mud_chron.specs.Entry.{IsNumber};
+ghost use Rattle.mud_chron.specs.Text.{listed};
+ghost use Rattle.mud_chron.specs.Fields.{Finds, Gives, Lacks, digits_on, up_to, object_in};
 
 use mud_key::{Key, KeyFault, Miss, Name, Namer, Names, NamesFault, read, resolve};
 use mud_world::Speech;
@@ -32,8 +39,8 @@ impl From<AllocError> for Unread {
 // What stands in front of the first such sign, and what stands behind it.
 pub(crate) fn cut(text: &str, sign: char) -> Result<(&str, &str), Unread>
     requires { sign < 128 }
-    ensures found { Gives (λ p. (p.0.now, p.1.now)) result (cut sign text.now) }
-    ensures memory { IfErr result (λ e. e ≡ Unread.NoEntry) }
+    ensures { (front rest : List ℕ) → Lacks sign front → text.now ≡ front ++ sign ∷ rest
+        → Finds (λ p. (p.0.now ≡ front) × (p.1.now ≡ rest)) result }
 {
     match text.split_once(sign) {
         Some(parts) => Ok(parts),
@@ -43,8 +50,7 @@ pub(crate) fn cut(text: &str, sign: char) -> Result<(&str, &str), Unread>
 
 // The number of at most nine digits.
 fn digits(text: &[u8]) -> Result<u32, Unread>
-    ensures found { Gives (λ n. n) result (digits_on 0 text.now) }
-    ensures memory { IfErr result (λ e. e ≡ Unread.NoEntry) }
+    ensures { Gives result (digits_on 0 text.now) }
 {
     let mut number = 0;
     for byte in text {
@@ -58,13 +64,10 @@ fn digits(text: &[u8]) -> Result<u32, Unread>
 }
 
 // The number, up to this one.
-#[tactic(auto, unfolding(crate::specs::Fields::number_up_to))]
-pub(crate) fn number(text: &str, most: u32) -> Result<u32, Unread>
-    ensures found { Gives (λ n. n) result (number_up_to most text.now) }
-    ensures most { IfOk result (λ n. n ≤ most) }
-    ensures memory { IfErr result (λ e. e ≡ Unread.NoEntry) }
+fn number_up_to(text: &[u8], most: u32) -> Result<u32, Unread>
+    ensures { Gives result (up_to most (digits_on 0 text.now)) }
 {
-    let number = digits(text.as_bytes())?;
+    let number = digits(text)?;
     if number <= most {
         Ok(number)
     } else {
@@ -72,22 +75,32 @@ pub(crate) fn number(text: &str, most: u32) -> Result<u32, Unread>
     }
 }
 
-// The number of an object.
-#[tactic(auto, unfolding(crate::specs::Fields::object_in))]
-pub(crate) fn object(text: &str) -> Result<u32, Unread>
-    ensures found { Gives (λ n. n) result (object_in text.now) }
-    ensures number { IfOk result (λ n. n ≤ 8191) }
-    ensures memory { IfErr result (λ e. e ≡ Unread.NoEntry) }
+// The number, up to this one.
+pub(crate) fn number(text: &str, most: u32) -> Result<u32, Unread>
+    requires { most < 1000000000 }
+    ensures found { (n : ℕ) → n ≤ most → text.now ≡ decimal n → Finds (λ m. m ≡ n) result }
+    ensures most { IfOk result (λ n. n ≤ most) }
 {
-    let (_, digits) = cut(text, '#')?;
-    number(digits, 8191)
+    number_up_to(text.as_bytes(), most)
+}
+
+// The number of an object.
+pub(crate) fn object(text: &str) -> Result<u32, Unread>
+    ensures means { Gives result (object_in text.now) }
+    ensures found { (n : ℕ) → IsNumber n → text.now ≡ number_text n → Finds (λ m. m ≡ n) result }
+    ensures number { IfOk result IsNumber }
+{
+    match text.as_bytes() {
+        [b'#', digits @ ..] => number_up_to(digits, 8191),
+        _ => Err(Unread::NoEntry),
+    }
 }
 
 // The number of an object up to a space, and what stands behind it.
-#[tactic(auto, unfolding(crate::specs::Fields::object_before))]
 pub(crate) fn object_before(text: &str) -> Result<(u32, &str), Unread>
-    ensures found { Gives (λ p. (p.0, p.1.now)) result (object_before text.now) }
-    ensures number { IfOk result (λ p. p.0 ≤ 8191) }
+    ensures found { (n : ℕ) (rest : List ℕ) → IsNumber n → text.now ≡ number_text n ++ codes " " ++ rest
+        → Finds (λ p. (p.0 ≡ n) × (p.1.now ≡ rest)) result }
+    ensures number { IfOk result (λ p. IsNumber p.0) }
 {
     let (front, rest) = cut(text, ' ')?;
     Ok((object(front)?, rest))
@@ -95,7 +108,7 @@ pub(crate) fn object_before(text: &str) -> Result<(u32, &str), Unread>
 
 // The names of a names text.
 pub(crate) fn names(alloc: Global, text: &str) -> Result<Names, Unread>
-    ensures { Gives (λ n. n) result (names_in text.now) }
+    ensures { (names : List (List ℕ)) → AreNames names → text.now ≡ listed names → Finds (λ n. n ≡ names) result }
 {
     match Names::read(alloc, text) {
         Ok(names) => Ok(names),
@@ -106,7 +119,7 @@ pub(crate) fn names(alloc: Global, text: &str) -> Result<Names, Unread>
 
 // The name that a text is.
 pub(crate) fn name(alloc: Global, text: &str) -> Result<Name, Unread>
-    ensures { Gives (λ n. n) result (name_in text.now) }
+    ensures { IsName text.now → Finds (λ n. n ≡ text.now) result }
 {
     match Name::read(alloc, text) {
         Ok(name) => Ok(name),
@@ -116,9 +129,8 @@ pub(crate) fn name(alloc: Global, text: &str) -> Result<Name, Unread>
 }
 
 // What can be said.
-#[tactic(auto, unfolding(crate::specs::Fields::speech_in))]
 pub(crate) fn speech(alloc: Global, text: &str) -> Result<Speech, Unread>
-    ensures { Gives (λ s. s) result (speech_in text.now) }
+    ensures { IsTrue (is_speech text.now) → Finds (λ s. s ≡ text.now) result }
 {
     match Speech::read(alloc, text)? {
         Some(speech) => Ok(speech),
@@ -130,9 +142,11 @@ pub(crate) fn speech(alloc: Global, text: &str) -> Result<Speech, Unread>
 struct Numbers;
 
 impl Namer for Numbers {
-    ghost use Rattle.mud_chron.specs.Fields.{or_miss, object_in};
+    ghost use Rattle.mud_key.specs.declared.namer.Miss.TheVariants.{NoSuch};
+    ghost use Rattle.std.specs.Option.{ok_or};
+    ghost use Rattle.mud_chron.specs.Fields.{object_in};
 
-    ghost meaning = { λ _ text. or_miss (object_in text) };
+    ghost meaning = { λ _ text. ok_or (object_in text) NoSuch };
 
     fn name(&self, text: &str) -> Result<u32, Miss> {
         match object(text) {
@@ -142,19 +156,26 @@ impl Namer for Numbers {
     }
 }
 
+// Why no key was read or resolved.
+fn why_none(fault: KeyFault) -> Unread
+    ensures { (fault ≢ KeyFault.OutOfMemory) ⊎ (result ≡ Unread.OutOfMemory) }
+{
+    match fault {
+        KeyFault::OutOfMemory => Unread::OutOfMemory,
+        _ => Unread::NoEntry,
+    }
+}
+
 // The key whose objects are numbers.
-#[tactic(auto, unfolding(crate::specs::Fields::number_key_in))]
 pub(crate) fn key(alloc: Global, text: &str) -> Result<Key, Unread>
-    ensures { Gives (λ k. k) result (number_key_in text.now) }
+    ensures { (key : Tree ℕ) → IsKey key → text.now ≡ printed (by_text key) → Finds (λ k. k ≡ key) result }
 {
     let written = match read(alloc, text) {
         Ok(written) => written,
-        Err(KeyFault::OutOfMemory) => return Err(Unread::OutOfMemory),
-        Err(_) => return Err(Unread::NoEntry),
+        Err(fault) => return Err(why_none(fault)),
     };
     match resolve(alloc, &written, &Numbers) {
         Ok(key) => Ok(key),
-        Err(KeyFault::OutOfMemory) => Err(Unread::OutOfMemory),
-        Err(_) => Err(Unread::NoEntry),
+        Err(fault) => Err(why_none(fault)),
     }
 }

@@ -1,9 +1,16 @@
 //! The entry that may have a line.
 
-ghost use Rattle.std.specs.Prelude.{◌≡◌, ◌≤◌, IfOk};
-ghost use Rattle.mud_chron.specs.Entry.{IsInRange, IsSpellable, IsEntry};
-ghost use Rattle.mud_chron.specs.Fields.{Gives};
-ghost use Rattle.mud_chron.specs.Guess.{names_before, quoted_in, quoted_name_in, back_in, doors_in, new_in, old_in, dig_in, make_in, player_in, lock_in, unlock_in, move_in, walk_in, cost_in, rename_in, recycle_in, say_in, emote_in, deed_in, change_in, desk_in, entry_in};
+ghost use Rattle.std.specs.Prelude.{◌≡◌, ◌≤◌, ◌<◌, ◌^◌, ◌++◌, ◌∷◌, [], ℕ, List, Option, None, Some, codes, IfOk};
+ghost use Rattle.std.specs.Fmt.{decimal};
+ghost use Rattle.mud_key.specs.Name.{IsName};
+ghost use Rattle.mud_key.specs.Printed.{number_text};
+ghost use Rattle.mud_key.specs.Names.{AreNames};
+ghost use Rattle.mud_world.specs.declared.change.Doors.{Doors as DoorsSeen};
+ghost use Rattle.mud_world.specs.declared.change.Change.{Change as ChangeSeen};
+ghost use Rattle.mud_chron.specs.Entry.{Accepted, IsNumber, IsInRange, IsSpellable, IsEntry, HasParts, AreDoors};
+ghost use Rattle.mud_chron.specs.Entry.{AreBackNames};
+ghost use Rattle.mud_chron.specs.Text.{quoted, back_text, doors_text, change_text, entry_line};
+ghost use Rattle.mud_chron.specs.Fields.{Finds, Lacks, FindsDeed};
 
 use crate::entry::Entry;
 use crate::fields::{Unread, cut, key, name, names, number, object, object_before, speech};
@@ -12,68 +19,55 @@ use mud_key::{Name, Names};
 use mud_world::{Change, Deed, Doors, Target};
 use std::alloc::Global;
 
-// The names up to a quote, and what stands behind it.
-#[tactic(auto, unfolding(crate::specs::Guess::names_before))]
-fn names_before(alloc: Global, text: &str) -> Result<(Names, &str), Unread>
-    ensures { Gives (λ p. (p.0, p.1.now)) result (names_before text.now) }
+// The names between the first two quotes, and what stands behind them.
+fn quoted(alloc: Global, text: &str) -> Result<(Names, &str), Unread>
+    ensures { (front : List ℕ) (names : List (List ℕ)) (rest : List ℕ) → Lacks 34 front → AreNames names
+        → text.now ≡ front ++ quoted names ++ rest → Finds (λ p. (p.0 ≡ names) × (p.1.now ≡ rest)) result }
 {
-    let (inside, rest) = cut(text, '"')?;
+    let (_, rest) = cut(text, '"')?;
+    let (inside, rest) = cut(rest, '"')?;
     Ok((names(alloc, inside)?, rest))
 }
 
-// The names between the first two quotes, and what stands behind them.
-#[tactic(auto, unfolding(crate::specs::Guess::quoted_in))]
-fn quoted(alloc: Global, text: &str) -> Result<(Names, &str), Unread>
-    ensures { Gives (λ p. (p.0, p.1.now)) result (quoted_in text.now) }
-{
-    let (_, rest) = cut(text, '"')?;
-    names_before(alloc, rest)
-}
-
 // The name between the first two quotes.
-#[tactic(auto, unfolding(crate::specs::Guess::quoted_name_in))]
 fn quoted_name(alloc: Global, text: &str) -> Result<Name, Unread>
-    ensures { Gives (λ n. n) result (quoted_name_in text.now) }
+    ensures { (name : List ℕ) → IsName name → text.now ≡ quoted (name ∷ []) → Finds (λ n. n ≡ name) result }
 {
     let (_, rest) = cut(text, '"')?;
     let (inside, _) = cut(rest, '"')?;
     name(alloc, inside)
 }
 
-// The names of the exit back; none where no quote stands.
-#[tactic(auto, unfolding(crate::specs::Guess::back_in))]
+// The names of the exit back; none where nothing is left.
 fn back_of(alloc: Global, text: &str) -> Result<Option<Names>, Unread>
-    ensures { Gives (λ b. b) result (back_in text.now) }
+    ensures { (back : Option (List (List ℕ))) → AreBackNames back → text.now ≡ back_text back
+        → Finds (λ b. b ≡ back) result }
 {
-    match cut(text, '"') {
-        Ok((_, rest)) => {
-            let (names, _) = names_before(alloc, rest)?;
-            Ok(Some(names))
-        }
-        Err(Unread::NoEntry) => Ok(None),
-        Err(Unread::OutOfMemory) => Err(Unread::OutOfMemory),
+    if text.is_empty() {
+        return Ok(None);
     }
+    let (names, _) = quoted(alloc, text)?;
+    Ok(Some(names))
 }
 
-// The exits of a dig; none where no quote stands.
-#[tactic(auto, unfolding(crate::specs::Guess::doors_in))]
+// The exits of a dig; none where nothing is left.
 fn doors_of(alloc: Global, text: &str) -> Result<Option<Doors>, Unread>
-    ensures { Gives (λ d. d) result (doors_in text.now) }
+    ensures none { text.now ≡ [] → Finds (λ d. d ≡ None) result }
+    ensures some { (front : List ℕ) (doors : DoorsSeen) → Lacks 34 front → AreDoors (Some doors)
+        → text.now ≡ front ++ quoted doors.out ++ back_text doors.back → Finds (λ d. d ≡ Some doors) result }
 {
-    match cut(text, '"') {
-        Ok((_, rest)) => {
-            let (out, rest) = names_before(alloc, rest)?;
-            let back = back_of(alloc, rest)?;
-            Ok(Some(Doors { out, back }))
-        }
-        Err(Unread::NoEntry) => Ok(None),
-        Err(Unread::OutOfMemory) => Err(Unread::OutOfMemory),
+    if text.is_empty() {
+        return Ok(None);
     }
+    let (out, rest) = quoted(alloc, text)?;
+    let back = back_of(alloc, rest)?;
+    Ok(Some(Doors { out, back }))
 }
 
-#[tactic(auto, unfolding(crate::specs::Guess::new_in))]
+// A dig of a new room.
 fn dig_new(alloc: Global, text: &str) -> Result<Deed, Unread>
-    ensures found { Gives (λ d. d) result (new_in text.now) }
+    ensures found { (names : List (List ℕ)) (doors : Option DoorsSeen) → AreNames names → AreDoors doors
+        → text.now ≡ quoted names ++ doors_text doors → Finds (λ d. d ≡ Deed.Dig (Target.New names) doors) result }
     ensures range { IfOk result (λ d. IsInRange d) }
 {
     let (names, rest) = quoted(alloc, text)?;
@@ -81,9 +75,11 @@ fn dig_new(alloc: Global, text: &str) -> Result<Deed, Unread>
     Ok(Deed::Dig(Target::New(names), doors))
 }
 
-#[tactic(auto, unfolding(crate::specs::Guess::old_in))]
+// A way to an old room.
 fn dig_old(alloc: Global, text: &str) -> Result<Deed, Unread>
-    ensures found { Gives (λ d. d) result (old_in text.now) }
+    ensures found { (room : ℕ) (doors : DoorsSeen) → IsNumber room → AreDoors (Some doors)
+        → text.now ≡ number_text room ++ doors_text (Some doors)
+        → Finds (λ d. d ≡ Deed.Dig (Target.Old room) (Some doors)) result }
     ensures range { IfOk result (λ d. IsInRange d) }
 {
     let (room, rest) = object_before(text)?;
@@ -93,9 +89,9 @@ fn dig_old(alloc: Global, text: &str) -> Result<Deed, Unread>
     }
 }
 
-#[tactic(auto, unfolding(crate::specs::Guess::dig_in))]
+// A dig.
 fn dig(alloc: Global, text: &str) -> Result<Deed, Unread>
-    ensures found { Gives (λ d. d) result (dig_in text.now) }
+    ensures found { FindsDeed Verb.Dig text.now result }
     ensures range { IfOk result (λ d. IsInRange d) }
 {
     let (word, rest) = cut(text, ' ')?;
@@ -106,26 +102,26 @@ fn dig(alloc: Global, text: &str) -> Result<Deed, Unread>
     }
 }
 
-#[tactic(auto, unfolding(crate::specs::Guess::make_in))]
+// A thing that is made.
 fn make(alloc: Global, text: &str) -> Result<Deed, Unread>
-    ensures found { Gives (λ d. d) result (make_in text.now) }
+    ensures found { FindsDeed Verb.Make text.now result }
     ensures range { IfOk result (λ d. IsInRange d) }
 {
     let (names, _) = quoted(alloc, text)?;
     Ok(Deed::Make(names))
 }
 
-#[tactic(auto, unfolding(crate::specs::Guess::player_in))]
+// A new player.
 fn player(alloc: Global, text: &str) -> Result<Deed, Unread>
-    ensures found { Gives (λ d. d) result (player_in text.now) }
+    ensures found { FindsDeed Verb.Player text.now result }
     ensures range { IfOk result (λ d. IsInRange d) }
 {
     Ok(Deed::Player(quoted_name(alloc, text)?))
 }
 
-#[tactic(auto, unfolding(crate::specs::Guess::lock_in))]
+// A lock.
 fn lock(alloc: Global, text: &str) -> Result<Deed, Unread>
-    ensures found { Gives (λ d. d) result (lock_in text.now) }
+    ensures found { FindsDeed Verb.Lock text.now result }
     ensures range { IfOk result (λ d. IsInRange d) }
 {
     let (object, rest) = object_before(text)?;
@@ -133,18 +129,18 @@ fn lock(alloc: Global, text: &str) -> Result<Deed, Unread>
     Ok(Deed::Lock { object, key })
 }
 
-#[tactic(auto, unfolding(crate::specs::Guess::unlock_in))]
+// An unlocking.
 fn unlock(text: &str) -> Result<Deed, Unread>
-    ensures found { Gives (λ d. d) result (unlock_in text.now) }
+    ensures found { FindsDeed Verb.Unlock text.now result }
     ensures range { IfOk result (λ d. IsInRange d) }
 {
     let object = object(text)?;
     Ok(Deed::Unlock { object })
 }
 
-#[tactic(auto, unfolding(crate::specs::Guess::move_in))]
+// A move.
 fn carry(text: &str) -> Result<Deed, Unread>
-    ensures found { Gives (λ d. d) result (move_in text.now) }
+    ensures found { FindsDeed Verb.Move text.now result }
     ensures range { IfOk result (λ d. IsInRange d) }
 {
     let (thing, rest) = object_before(text)?;
@@ -152,18 +148,18 @@ fn carry(text: &str) -> Result<Deed, Unread>
     Ok(Deed::Move { thing, to })
 }
 
-#[tactic(auto, unfolding(crate::specs::Guess::walk_in))]
+// A walk.
 fn walk(text: &str) -> Result<Deed, Unread>
-    ensures found { Gives (λ d. d) result (walk_in text.now) }
+    ensures found { FindsDeed Verb.Walk text.now result }
     ensures range { IfOk result (λ d. IsInRange d) }
 {
     let exit = object(text)?;
     Ok(Deed::Walk { exit })
 }
 
-#[tactic(auto, unfolding(crate::specs::Guess::cost_in))]
+// A cost.
 fn cost(text: &str) -> Result<Deed, Unread>
-    ensures found { Gives (λ d. d) result (cost_in text.now) }
+    ensures found { FindsDeed Verb.Cost text.now result }
     ensures range { IfOk result (λ d. IsInRange d) }
 {
     let (exit, rest) = object_before(text)?;
@@ -171,9 +167,9 @@ fn cost(text: &str) -> Result<Deed, Unread>
     Ok(Deed::Cost { exit, cost })
 }
 
-#[tactic(auto, unfolding(crate::specs::Guess::rename_in))]
+// New names.
 fn rename(alloc: Global, text: &str) -> Result<Deed, Unread>
-    ensures found { Gives (λ d. d) result (rename_in text.now) }
+    ensures found { FindsDeed Verb.Rename text.now result }
     ensures range { IfOk result (λ d. IsInRange d) }
 {
     let (object, rest) = object_before(text)?;
@@ -181,35 +177,34 @@ fn rename(alloc: Global, text: &str) -> Result<Deed, Unread>
     Ok(Deed::Rename { object, names })
 }
 
-#[tactic(auto, unfolding(crate::specs::Guess::recycle_in))]
+// A recycling.
 fn recycle(text: &str) -> Result<Deed, Unread>
-    ensures found { Gives (λ d. d) result (recycle_in text.now) }
+    ensures found { FindsDeed Verb.Recycle text.now result }
     ensures range { IfOk result (λ d. IsInRange d) }
 {
     let object = object(text)?;
     Ok(Deed::Recycle { object })
 }
 
-#[tactic(auto, unfolding(crate::specs::Guess::say_in))]
+// What is said.
 fn say(alloc: Global, text: &str) -> Result<Deed, Unread>
-    ensures found { Gives (λ d. d) result (say_in text.now) }
+    ensures found { FindsDeed Verb.Say text.now result }
     ensures range { IfOk result (λ d. IsInRange d) }
 {
     Ok(Deed::Say(speech(alloc, text)?))
 }
 
-#[tactic(auto, unfolding(crate::specs::Guess::emote_in))]
+// What is emoted.
 fn emote(alloc: Global, text: &str) -> Result<Deed, Unread>
-    ensures found { Gives (λ d. d) result (emote_in text.now) }
+    ensures found { FindsDeed Verb.Emote text.now result }
     ensures range { IfOk result (λ d. IsInRange d) }
 {
     Ok(Deed::Emote(speech(alloc, text)?))
 }
 
 // The deed that stands behind a verb.
-#[tactic(auto, unfolding(crate::specs::Guess::deed_in))]
 fn deed_of(alloc: Global, verb: Verb, text: &str) -> Result<Deed, Unread>
-    ensures found { Gives (λ d. d) result (deed_in verb text.now) }
+    ensures found { FindsDeed verb text.now result }
     ensures range { IfOk result (λ d. IsInRange d) }
 {
     match verb {
@@ -229,9 +224,9 @@ fn deed_of(alloc: Global, verb: Verb, text: &str) -> Result<Deed, Unread>
 }
 
 // The change of a text.
-#[tactic(auto, unfolding(crate::specs::Guess::change_in))]
 fn change_of(alloc: Global, text: &str) -> Result<Change, Unread>
-    ensures found { Gives (λ c. c) result (change_in text.now) }
+    ensures found { (change : ChangeSeen) → IsNumber change.actor → IsInRange change.deed → HasParts change.deed
+        → text.now ≡ change_text change → Finds (λ c. c ≡ change) result }
     ensures actor { IfOk result (λ c. c.actor ≤ 8191) }
     ensures range { IfOk result (λ c. IsInRange c.deed) }
 {
@@ -243,9 +238,8 @@ fn change_of(alloc: Global, text: &str) -> Result<Change, Unread>
 }
 
 // A desk.
-#[tactic(auto, unfolding(crate::specs::Guess::desk_in))]
 fn desk_of(text: &str) -> Result<u32, Unread>
-    ensures found { Gives (λ n. n) result (desk_in text.now) }
+    ensures found { (desk : ℕ) → 1 ≤ desk → desk ≤ 64 → text.now ≡ decimal desk → Finds (λ n. n ≡ desk) result }
     ensures from { IfOk result (λ n. 1 ≤ n) }
     ensures to { IfOk result (λ n. n ≤ 64) }
 {
@@ -258,9 +252,9 @@ fn desk_of(text: &str) -> Result<u32, Unread>
 }
 
 // The entry of a line, whatever version it makes.
-#[tactic(auto, unfolding(crate::specs::Guess::entry_in))]
 pub(crate) fn guess(alloc: Global, line: &str) -> Result<Entry, Unread>
-    ensures { Gives (λ e. e) result (entry_in line.now) }
+    ensures { (version : ℕ) (e : Accepted) → version < 2 ^ 32 → IsEntry e → line.now ≡ entry_line version e
+        → Finds (λ found. found ≡ e) result }
 {
     let (_, rest) = cut(line, ' ')?;
     let (desk, rest) = cut(rest, ' ')?;

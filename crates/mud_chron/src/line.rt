@@ -1,9 +1,11 @@
 //! One line of a history.
 
-ghost use Rattle.std.specs.Prelude.{◌≡◌, ◌≤◌, ◌+◌, ◌↔◌, true, IfOk, MatchOption, MatchBool};
+ghost use Rattle.std.specs.Prelude.{◌≡◌, ◌≤◌, ◌<◌, ◌^◌, ◌+◌, ◌↔◌, ℕ, true, IfOk, MatchOption, MatchBool};
 ghost use Rattle.mud_chron.specs.Text.{entry_line, end_line};
+ghost use Rattle.mud_chron.specs.Entry.{Accepted, IsEntry};
+ghost use Rattle.mud_chron.specs.Fields.{Finds};
 ghost use Rattle.mud_chron.specs.History.{HasLine, IsEntryOf};
-ghost use Rattle.mud_chron.specs.Lines.{IsNoEntryLine, Finds, IsLine};
+ghost use Rattle.mud_chron.specs.Lines.{IsNoEntryLine, IsLine};
 
 use crate::entry::Entry;
 use crate::fields::Unread;
@@ -36,7 +38,8 @@ fn has_line(format: Format, deed: &Deed) -> bool
 
 // The entry that may have the line, whatever is spelled there.
 fn candidate(alloc: Global, line: &[u8]) -> Result<Entry, Unread>
-    ensures { Finds line.now result }
+    ensures { (version : ℕ) (e : Accepted) → version < 2 ^ 32 → IsEntry e → line.now ≡ entry_line version e
+        → Finds (λ found. found ≡ e) result }
 {
     match str::from_utf8(line) {
         Ok(text) => guess(alloc, text),
@@ -53,6 +56,21 @@ fn is_line_of(alloc: Global, version: u32, entry: &Entry, line: &[u8]) -> Result
     Ok(text.as_bytes() == line)
 }
 
+// Whether the entry has this line in the format.
+fn is_allowed_line(
+    alloc: Global,
+    format: Format,
+    version: u32,
+    entry: &Entry,
+    line: &[u8],
+) -> Result<bool, AllocError>
+    ensures { IfOk result (λ b. (b ≡ true)
+        ↔ (HasLine format entry.now.change.deed × (line.now ≡ entry_line version entry.now))) }
+{
+    let is_allowed = has_line(format, &entry.change().deed);
+    Ok(is_allowed && is_line_of(alloc, version, entry, line)?)
+}
+
 // The entry of the line, where it is that of one which makes the version.
 fn entry_of(
     alloc: Global,
@@ -63,16 +81,14 @@ fn entry_of(
     ensures { IfOk result (λ found. MatchOption found (IsNoEntryLine format version line.now)
         (λ e. IsEntryOf format e × (line.now ≡ entry_line version e))) }
 {
-    let entry = match candidate(alloc, line) {
-        Ok(entry) => entry,
-        Err(Unread::NoEntry) => return Ok(None),
-        Err(Unread::OutOfMemory) => return Err(AllocError),
-    };
-    let is_allowed = has_line(format, &entry.change().deed);
-    if is_allowed && is_line_of(alloc, version, &entry, line)? {
-        Ok(Some(entry))
-    } else {
-        Ok(None)
+    match candidate(alloc, line) {
+        Ok(entry) => match is_allowed_line(alloc, format, version, &entry, line) {
+            Ok(true) => Ok(Some(entry)),
+            Ok(false) => Ok(None),
+            Err(AllocError) => Err(AllocError),
+        },
+        Err(Unread::NoEntry) => Ok(None),
+        Err(Unread::OutOfMemory) => Err(AllocError),
     }
 }
 

@@ -1,8 +1,8 @@
 //! The words of a history's lines.
 
 ghost use Rattle.std.specs.Prelude.{◌≡◌};
-ghost use Rattle.mud_chron.specs.Guess.{verb_in};
-ghost use Rattle.mud_chron.specs.Fields.{Gives};
+ghost use Rattle.mud_chron.specs.declared.verb.Verb.{Verb as VerbSeen};
+ghost use Rattle.mud_chron.specs.Fields.{Finds, word_of};
 
 use crate::fields::Unread;
 
@@ -24,9 +24,8 @@ pub(crate) enum Verb {
 }
 
 // The verb of a word.
-#[tactic(auto, unfolding(crate::specs::Guess::verb_in))]
 pub(crate) fn verb_of(word: &str) -> Result<Verb, Unread>
-    ensures { Gives (λ v. v) result (verb_in word.now) }
+    ensures { (verb : VerbSeen) → word.now ≡ word_of verb → Finds (λ v. v ≡ verb) result }
 {
     match word {
         "dig" => Ok(Verb::Dig),

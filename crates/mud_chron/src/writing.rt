@@ -1,16 +1,18 @@
 //! The text of entries, and of a history.
 
-ghost use Rattle.std.specs.Prelude.{◌≡◌, ◌≤◌, ◌+◌, ◌^◌, ◌<◌, ◌++◌, [], ◌∷◌, List, codes, drop, length, map, IfOk, OnOk, OnErr, string_bytes};
+ghost use Rattle.std.specs.Prelude.{◌≡◌, ◌≤◌, ◌+◌, ◌^◌, ◌<◌, ◌++◌, [], ◌∷◌, List, codes, drop, length, map, IfOk, OnOk};
+ghost use Rattle.std.specs.Prelude.{OnErr, string_bytes};
 ghost use Rattle.std.specs.Fmt.{decimal};
 ghost use Rattle.std.specs.List.{flat_map};
 ghost use Rattle.mud_key.specs.Printed.{number_text, by_text, printed};
 ghost use Rattle.mud_chron.specs.declared.format.Format.TheVariants.{Two};
-ghost use Rattle.mud_chron.specs.Text.{listed, quoted, target_text, back_text, doors_text, deed_text, change_text, entry_line, entry_text, entries_text, end_line, history_text};
+ghost use Rattle.mud_chron.specs.Text.{listed, quoted, target_text, back_text, doors_text, deed_text, change_text};
+ghost use Rattle.mud_chron.specs.Text.{entry_line, entry_text, entries_text, end_line, history_text};
 
 use crate::entry::Entry;
 use itoa::Buffer;
 use mud_key::{Key, Name, Names, print};
-use mud_world::{Change, Deed, Doors, Target};
+use mud_world::{Change, Deed, Doors, Speech, Target};
 use std::alloc::{AllocError, Global};
 
 fn push_decimal(out: &mut String, number: u32) -> Result<(), AllocError>
@@ -34,6 +36,19 @@ fn push_object(out: &mut String, word: &str, actor: u32, object: u32) -> Result<
     push_number(out, actor)?;
     out.push_str(" ")?;
     push_number(out, object)
+}
+
+fn push_object_before(
+    out: &mut String,
+    word: &str,
+    actor: u32,
+    object: u32,
+) -> Result<(), AllocError>
+    ensures { OnOk result (string_bytes out.new
+        ≡ string_bytes out.old ++ word.now ++ number_text actor ++ codes " " ++ number_text object ++ codes " ") }
+{
+    push_object(out, word, actor, object)?;
+    out.push_str(" ")
 }
 
 fn push_others(out: &mut String, names: &[String]) -> Result<(), AllocError>
@@ -130,6 +145,14 @@ fn push_word(out: &mut String, word: &str, actor: u32) -> Result<(), AllocError>
     out.push_str(" ")
 }
 
+fn push_speech(out: &mut String, word: &str, actor: u32, speech: &Speech) -> Result<(), AllocError>
+    ensures { OnOk result (string_bytes out.new
+        ≡ string_bytes out.old ++ word.now ++ number_text actor ++ codes " " ++ speech.now) }
+{
+    push_word(out, word, actor)?;
+    out.push_str(speech.as_str())
+}
+
 fn push_deed(alloc: Global, out: &mut String, actor: u32, deed: &Deed) -> Result<(), AllocError>
     ensures { OnOk result (string_bytes out.new ≡ string_bytes out.old ++ deed_text (number_text actor) deed.now) }
 {
@@ -148,36 +171,26 @@ fn push_deed(alloc: Global, out: &mut String, actor: u32, deed: &Deed) -> Result
             push_name(out, name)
         }
         Deed::Lock { object, key } => {
-            push_object(out, "lock ", actor, *object)?;
-            out.push_str(" ")?;
+            push_object_before(out, "lock ", actor, *object)?;
             push_key(alloc, out, key)
         }
         Deed::Unlock { object } => push_object(out, "unlock ", actor, *object),
         Deed::Move { thing, to } => {
-            push_object(out, "move ", actor, *thing)?;
-            out.push_str(" ")?;
+            push_object_before(out, "move ", actor, *thing)?;
             push_number(out, *to)
         }
         Deed::Walk { exit } => push_object(out, "walk ", actor, *exit),
         Deed::Cost { exit, cost } => {
-            push_object(out, "cost ", actor, *exit)?;
-            out.push_str(" ")?;
+            push_object_before(out, "cost ", actor, *exit)?;
             push_decimal(out, *cost)
         }
         Deed::Rename { object, names } => {
-            push_object(out, "rename ", actor, *object)?;
-            out.push_str(" ")?;
+            push_object_before(out, "rename ", actor, *object)?;
             push_names(out, names)
         }
         Deed::Recycle { object } => push_object(out, "recycle ", actor, *object),
-        Deed::Say(text) => {
-            push_word(out, "say ", actor)?;
-            out.push_str(text.as_str())
-        }
-        Deed::Emote(text) => {
-            push_word(out, "emote ", actor)?;
-            out.push_str(text.as_str())
-        }
+        Deed::Say(text) => push_speech(out, "say ", actor, text),
+        Deed::Emote(text) => push_speech(out, "emote ", actor, text),
     }
 }
 

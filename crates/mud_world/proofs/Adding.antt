@@ -1,10 +1,11 @@
 -- A world stays sound when new objects are added.
 use Rattle.std.proofs.Common.{◌≡◌, ℕ, zero, suc, ◌+◌, ◌≤◌, Bool, true, false, cond, List, [], ◌∷◌, ◌++◌, length, Some, None, refl, sym, ◌∙◌, ap, subst, arith}
-use Rattle.std.specs.Prelude.{nat_eq, is_some}
+use Rattle.std.specs.Prelude.{nat_eq, is_some, IfSome}
 use Rattle.std.specs.Option.{option_map_or, option_and_then}
 use Rattle.std.specs.List.{list_all}
 use Rattle.std.specs.Map.{lookup}
 use Rattle.std.proofs.lemmas.Bool.{and_from, and_parts, true≢false, ne_eqb}
+use Rattle.mud_key.specs.Tree.{IsKey}
 use Rattle.mud_world.specs.declared.record.Record.{Record}
 use Rattle.mud_world.specs.declared.record.Kind.{Kind}
 use Rattle.mud_world.specs.declared.record.Kind.TheVariants.{Room, Exit, Thing, Player}
@@ -150,6 +151,7 @@ module _ (w : State) (sound : IsSound w) (rs : List Record) (room : w.next + len
       placed = λ n r at. either_at n r at (λ old. kept_well r.kind (sound.placed n r old)) (λ gone is. is.well);
       no_circle = λ m k. let ends = all_end m in no_circle-from_end w' ends.0 m k ends.1;
       keyless = λ n r at. either_at n r at (λ old. sound.keyless n r old) (λ gone is place e. is.keyless);
+      locked = λ n r at. either_at n r at (λ old. sound.locked n r old) (λ gone is. subst (λ k. IfSome k IsKey) (sym is.keyless) tt);
       nesting =
           list_all-append _ w.objects (numbered_from w.next rs)
           (list_all-agree _ _ (λ e. option_map_or-agree_keys w w' same_key 3 e.1.key) w.objects ∙ sound.nesting)

@@ -8,7 +8,7 @@ use Rattle.mud_world.specs.declared.record.Kind.{Kind}
 use Rattle.mud_world.specs.declared.record.Kind.TheVariants.{Room, Exit, Thing, Player}
 use Rattle.mud_world.specs.Kinds.{kind_place, is_room_kind, is_exit_kind}
 use Rattle.mud_world.specs.State.{State, record_at, place_of, follow, all_nest}
-use Rattle.mud_world.specs.Sound.{IsPlacedWell, IsKeyless, IsSound, AreNamedApart}
+use Rattle.mud_world.specs.Sound.{IsPlacedWell, IsKeyless, IsLockedWell, IsSound, AreNamedApart}
 use Rattle.mud_world.specs.Legal.{with_record}
 use Rattle.mud_world.proofs.Places.{option_cases, follow_by, no_circle-from_end}
 use Rattle.mud_world.proofs.Records.{lookup-set_value_same, lookup-set_value_other, IsRising-set_value}
@@ -21,6 +21,7 @@ pub record IsLike (w : State) (r r' : Record) : Type 0 where
   pub place : kind_place r'.kind ≡ kind_place r.kind
   pub well : IsPlacedWell w r'.kind
   pub keyless : IsKeyless r'
+  pub locked : IsLockedWell r'
 
 module _ (w : State) (sound : IsSound w) (n : ℕ) (r r' : Record) (at : record_at w n ≡ Some r) (like : IsLike w r r') where
   abbrev w' : State
@@ -74,6 +75,7 @@ module _ (w : State) (sound : IsSound w) (n : ℕ) (r r' : Record) (at : record_
     placed = each-kept (λ s. IsPlacedWell w' s.kind) (well_kept r'.kind like.well) (λ q s is. well_kept s.kind (sound.placed q s is));
     no_circle = λ m k. let first = ends_before w sound m in no_circle-from_end w' first.0 m k (follow_kept first.0 m first.1);
     keyless = each-kept IsKeyless like.keyless sound.keyless;
+    locked = each-kept IsLockedWell like.locked sound.locked;
     nesting = nesting;
     named = named;
     hall = answer-kept (λ v. option_map_or (λ r. is_room_kind r.kind) v false) like.room 0 ∙ sound.hall;

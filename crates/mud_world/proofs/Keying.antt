@@ -1,19 +1,19 @@
 -- A world stays sound when an object gets a key, or loses it.
-use Rattle.std.proofs.Common.{◌≡◌, ℕ, Bool, true, false, List, [], ◌∷◌, Option, Some, None, refl, sym, ◌∙◌, ap, subst, ⊎_elim, inl, inr}
-use Rattle.std.specs.Prelude.{nat_eq, is_some, IsTrue}
+use Rattle.std.proofs.Common.{◌≡◌, ℕ, ◌≤◌, Bool, true, false, not, ◌||◌, List, [], ◌∷◌, ◌++◌, Option, Some, None, refl, sym, ◌∙◌, ap, subst, arith, ⊎_elim, inl, inr}
+use Rattle.std.specs.Prelude.{nat_eq, nat_lt, is_some, IsTrue}
 use Rattle.std.specs.Option.{option_map_or, option_and_then}
-use Rattle.std.specs.List.{list_all}
+use Rattle.std.specs.List.{list_all, list_any}
 use Rattle.std.specs.Map.{set_value}
-use Rattle.std.proofs.lemmas.Bool.{cases_eq, and_from, and_parts, or_parts, not-false, true≢false}
-use Rattle.mud_key.specs.Tree.{Tree}
+use Rattle.std.proofs.lemmas.Bool.{cases_eq, and_from, and_parts, or_parts, not-false, true≢false, ltb-false}
+use Rattle.mud_key.specs.Tree.{Tree, Has, Asks, Not, Join, IsKey, AllObjects, objects_of, nots_of, atoms_of}
 use Rattle.mud_world.specs.declared.record.Record.{Record}
 use Rattle.mud_world.specs.declared.change.Deed.TheVariants.{Lock, Unlock}
 use Rattle.mud_world.specs.Kinds.{is_player_kind}
 use Rattle.mud_world.specs.State.{State, record_at, exists, key_of, nests, all_nest}
 use Rattle.mud_world.specs.Sound.{IsSound}
-use Rattle.mud_world.specs.Legal.{with_record, keyed, refusal}
+use Rattle.mud_world.specs.Legal.{with_record, keyed, is_bad_key, refusal}
 use Rattle.mud_world.specs.Going.{CanKey}
-use Rattle.mud_world.proofs.Records.{record_cases, bool_cases, lookup-set_value_same, lookup-set_value_other}
+use Rattle.mud_world.proofs.Records.{record_cases, bool_cases, in_bounds, lookup-set_value_same, lookup-set_value_other}
 use Rattle.mud_world.proofs.Numbering.{set_here, set_past}
 use Rattle.mud_world.proofs.Editing.{changed_by}
 use Rattle.mud_world.proofs.Changing.{IsLike, sound-changed}
@@ -41,6 +41,7 @@ sound-keyed w sound n key can =
       place = refl;
       well = sound.placed n r it.1;
       keyless = λ place e. absurd (true≢false (sym (ap is_player_kind e) ∙ sym (ap (λ v. option_map_or (λ r. is_player_kind r.kind) v false) it.1) ∙ can.no_player));
+      locked = can.limits;
     } in
     subst IsSound (sym is) (sound-changed w sound n r (with_this_key key r) it.1 like (subst (λ (v : State). IsTrue (all_nest v)) is can.nesting) (named-same w n r (with_this_key key r) sound.named it.1 refl refl))
 
@@ -72,14 +73,48 @@ CanKey-unlock w sound a n legal =
     record {
       there = there;
       no_player = (or_parts _ _ none_holds.1.0).1;
+      limits = tt;
       nesting = nesting-unlocked w sound n it.0 it.1;
     }
 
-pub CanKey-lock : (w : State) (a n : ℕ) (key : Tree ℕ) → refusal w (record { actor = a; deed = Lock n key }) ≡ None → CanKey w n (Some key)
-CanKey-lock w a n key legal =
+-- ---- a legal key
+any-parts : (p : ℕ → Bool) (xs ys : List ℕ) → list_any p (xs ++ ys) ≡ false → (list_any p xs ≡ false) × (list_any p ys ≡ false)
+any-parts p [] ys none = (refl, none)
+any-parts p (x ∷ xs) ys none =
+    let parts = or_parts (p x) (list_any p (xs ++ ys)) none in
+    let rest = any-parts p xs ys parts.1 in
+    (ap (λ b. b || list_any p xs) parts.0 ∙ rest.0, rest.1)
+
+number-below : (w : State) → IsSound w → (n : ℕ) → list_any (λ o. not (exists w o)) (n ∷ []) ≡ false → n ≤ 8191
+number-below w sound n none =
+    let it = found w n (not-false _ (or_parts (not (exists w n)) false none).0) in
+    let within = in_bounds 0 w.next n it.0 w.objects sound.rising it.1 in
+    let limit = sound.limit in
+    omega (arith, within.1)
+
+numbers-below : (w : State) → IsSound w → (key : Tree ℕ) → list_any (λ o. not (exists w o)) (atoms_of key) ≡ false → AllObjects (λ n. n ≤ 8191) key
+numbers-below w sound (Has n) none = number-below w sound n none
+numbers-below w sound (Asks n) none = number-below w sound n none
+numbers-below w sound (Not k) none = numbers-below w sound k none
+numbers-below w sound (Join op a b) none =
+    let parts = any-parts _ (atoms_of a) (atoms_of b) none in
+    (numbers-below w sound a parts.0, numbers-below w sound b parts.1)
+
+key-within : (w : State) → IsSound w → (key : Tree ℕ) → is_bad_key w key ≡ false → IsKey key
+key-within w sound key good =
+    let parts = or_parts (list_any (λ o. not (exists w o)) (atoms_of key)) _ good in
+    let counts = or_parts (nat_lt 16 (objects_of key)) (nat_lt 64 (nots_of key)) parts.1 in
+    record {
+      limits = record { objects = ltb-false 16 (objects_of key) counts.0; nots = ltb-false 64 (nots_of key) counts.1 };
+      numbers = numbers-below w sound key parts.0;
+    }
+
+pub CanKey-lock : (w : State) → IsSound w → (a n : ℕ) (key : Tree ℕ) → refusal w (record { actor = a; deed = Lock n key }) ≡ None → CanKey w n (Some key)
+CanKey-lock w sound a n key legal =
     let none_holds = nothing_fails w (record { actor = a; deed = Lock n key }) legal in
     record {
       there = not-false _ (or_parts _ _ none_holds.0).1;
       no_player = (or_parts _ _ none_holds.1.0).1;
+      limits = key-within w sound key none_holds.1.1.1.1.1.1.0;
       nesting = not-false _ none_holds.1.1.1.1.1.1.1.0;
     }

@@ -32,3 +32,4 @@ pub mod Sounding
 pub mod Histories
 pub mod Halving
 pub mod Players
+pub mod Worlds

@@ -7,7 +7,7 @@ use Rattle.mud_world.specs.declared.record.Record.{Record}
 use Rattle.mud_world.specs.declared.record.Kind.{Kind}
 use Rattle.mud_world.specs.declared.record.Kind.TheVariants.{Room, Exit, Thing, Player}
 use Rattle.mud_world.specs.State.{State, record_at, place_of, kind_place, key_of, nests, all_nest, exists, has, follow, is_room, is_exit, is_room_kind, is_exit_kind, is_player_kind}
-use Rattle.mud_world.specs.Sound.{IsPlacedWell, IsKeyless, IsSound}
+use Rattle.mud_world.specs.Sound.{IsPlacedWell, IsKeyless, IsLockedWell, IsSound}
 use Rattle.mud_world.specs.Legal.{with_record, kind_at}
 use Rattle.mud_world.proofs.Naming.{named-same}
 use Rattle.mud_world.proofs.Places.{follow_by, option_cases, no_circle-from_end, ends-off, ends-moved, ends_by-bound}
@@ -136,6 +136,16 @@ module _ (w : State) (sound : IsSound w) (t y : ℕ) (r : Record) (at : record_a
       (λ apart. sound.keyless n s (sym (there n apart) ∙ is))
       (cases_eq n t)
 
+  locked : (n : ℕ) (s : Record) → record_at w' n ≡ Some s → IsLockedWell s
+  locked n s is =
+      ⊎_elim
+      (λ (e : n ≡ t).
+      let found : Some r' ≡ Some s = sym here ∙ ap (record_at w') (sym e) ∙ is in
+      let same : r' ≡ s = cc in
+      subst IsLockedWell same (sound.locked t r at))
+      (λ apart. sound.locked n s (sym (there n apart) ∙ is))
+      (cases_eq n t)
+
   same_place : (a : ℕ) → a ≢ t → place_of w' a ≡ place_of w a
   same_place a apart = ap (option_and_then (λ r. kind_place r.kind)) (there a apart)
 
@@ -158,6 +168,7 @@ module _ (w : State) (sound : IsSound w) (t y : ℕ) (r : Record) (at : record_a
         let all = ends-moved w w' t same_place y way.0 (ap (option_and_then (λ r. kind_place r.kind)) here ∙ new_place r.kind placed) (ends-off w w' t same_place way.0 y off way.1) first.0 m first.1 in
         no_circle-from_end w' all.0 m k all.1;
     keyless = keyless;
+    locked = locked;
     nesting = nesting;
     hall = kept_room 0 ∙ sound.hall;
     named = named-same w t r r' sound.named at (same_player r.kind) refl;

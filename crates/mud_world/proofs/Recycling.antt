@@ -99,6 +99,7 @@ sound-cost w sound a n cost legal =
       place = (links-cost cost r.kind).place;
       well = fits r.kind low (sound.placed n r it.1);
       keyless = λ place e. sound.keyless n r it.1 place (same-player cost r.kind place e);
+      locked = sound.locked n r it.1;
     } in
     let w' = with_record w n r' in
     subst IsSound (sym (changed_by w n (with_this_cost cost) r it.1)) (sound-changed w sound n r r' it.1 like
@@ -121,7 +122,7 @@ sound-renamed w sound n names can =
     let it = found w n can.there in
     let r = it.0 in
     let r' = with_these_names names r in
-    let like : IsLike w r r' = record { room = refl; exit = refl; place = refl; well = sound.placed n r it.1; keyless = sound.keyless n r it.1 } in
+    let like : IsLike w r r' = record { room = refl; exit = refl; place = refl; well = sound.placed n r it.1; keyless = sound.keyless n r it.1; locked = sound.locked n r it.1 } in
     let w' = with_record w n r' in
     subst IsSound (sym (changed_by w n (with_these_names names) r it.1)) (sound-changed w sound n r r' it.1 like
     (list_all-agree _ _ (λ e. option_map_or-agree_keys w w' (answer-kept w sound n r r' it.1 like (option_and_then (λ r. r.key)) refl) 3 e.1.key) w'.objects

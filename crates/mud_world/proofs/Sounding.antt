@@ -115,7 +115,7 @@ sound-after w sound a (Dig (New names) doors) legal =
 sound-after w sound a (Dig (Old room) doors) legal =
     sound-doors w sound a (unwrap_or (place_of w a) 0) room doors (CanJoin-dig_old w sound a room doors legal) (enough w sound a (Old room) doors legal)
 sound-after w sound a (Make names) legal = sound-added w sound (new_record a names (Thing a)) (CanAdd-make w a names legal)
-sound-after w sound a (Lock n key) legal = sound-keyed w sound n (Some key) (CanKey-lock w a n key legal)
+sound-after w sound a (Lock n key) legal = sound-keyed w sound n (Some key) (CanKey-lock w sound a n key legal)
 sound-after w sound a (Unlock n) legal = sound-keyed w sound n None (CanKey-unlock w sound a n legal)
 sound-after w sound a (Move t y) legal =
     option_cases (place_of w t)

@@ -1,11 +1,12 @@
 -- What the conditions of changes ask.
-use Rattle.std.specs.Prelude.{ℕ, ◌+◌, Bool, false, ◌&&◌, ◌||◌, nat_eq, nat_lt}
+use Rattle.std.specs.Prelude.{ℕ, ◌+◌, Bool, false, not, ◌&&◌, ◌||◌, nat_eq, nat_lt}
 use Rattle.std.specs.Option.{option_map_or}
 use Rattle.std.specs.List.{list_any}
+use Rattle.mud_key.specs.Tree.{Tree, objects_of, nots_of, atoms_of}
 use Rattle.mud_world.specs.declared.change.Target.{Target}
 use Rattle.mud_world.specs.declared.change.Target.TheVariants.{New, Old}
 use Rattle.mud_world.specs.Kinds.{kind_needs}
-use Rattle.mud_world.specs.State.{State, record_at, is_thing, is_player, place_of, is_number, source_of}
+use Rattle.mud_world.specs.State.{State, record_at, exists, is_thing, is_player, place_of, is_number, source_of}
 use Rattle.mud_world.specs.Reach.{in_reach}
 
 -- the actor owns object n, or is the wizard, #1
@@ -38,3 +39,8 @@ is_full w count = nat_lt 8192 (w.next + count)
 abbrev pub of_old : Target → (ℕ → Bool) → Bool
 of_old (New names) test = false
 of_old (Old room) test = test room
+
+-- an object of the key is missing, or the key has more than 16 objects or 64 `!`
+abbrev pub is_bad_key : State → Tree ℕ → Bool
+is_bad_key w key =
+    list_any (λ o. not (exists w o)) (atoms_of key) || (nat_lt 16 (objects_of key) || nat_lt 64 (nots_of key))

@@ -1,7 +1,7 @@
--- When an object can get another place or another key, be added, or be taken away. Private clauses alone cite this file: a legal
--- change has what is asked here.
-use Rattle.std.specs.Prelude.{◌≡◌, ◌≢◌, ℕ, List, false, ◌<◌, [], ◌∷◌, Option, Some, None, IsTrue}
-use Rattle.mud_key.specs.Tree.{Tree}
+-- When an object can get another place or another key, be added, or be taken away. Private clauses alone cite this
+-- file: a legal change has what is asked here.
+use Rattle.std.specs.Prelude.{◌≡◌, ◌≢◌, ℕ, List, false, ◌<◌, [], ◌∷◌, Option, Some, None, IfSome, IsTrue}
+use Rattle.mud_key.specs.Tree.{Tree, IsKey}
 use Rattle.mud_world.specs.declared.record.Record.{Record}
 use Rattle.mud_world.specs.declared.record.Kind.{Kind}
 use Rattle.mud_world.specs.declared.record.Kind.TheVariants.{Room, Exit, Thing, Player}
@@ -38,6 +38,7 @@ pub record CanJoin (w : State) (a b : ℕ) : Type 0 where
 pub record CanKey (w : State) (n : ℕ) (key : Option (Tree ℕ)) : Type 0 where
   pub there : IsTrue (exists w n)
   pub no_player : is_player w n ≡ false
+  pub limits : IfSome key IsKey
   pub nesting : IsTrue (all_nest (keyed w n key))
 
 -- object n can have these names

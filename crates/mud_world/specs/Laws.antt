@@ -9,26 +9,30 @@ use Rattle.mud_world.specs.declared.change.Deed.TheVariants.{Player}
 use Rattle.mud_world.specs.declared.refusal.Refusal.{Refusal}
 use Rattle.mud_world.specs.Truth.{key_true}
 use Rattle.mud_world.specs.Numbers.{IsRisingFrom}
-use Rattle.mud_world.specs.State.{State, has, is_player, place_of, contents_of, within, source_of, leaving_of, key_of, nests, unlocked}
+use Rattle.mud_world.specs.State.{State, has, is_player, place_of, contents_of, within, source_of, leaving_of, key_of}
+use Rattle.mud_world.specs.State.{nests, unlocked}
 use Rattle.mud_world.specs.Sound.{IsSound}
 use Rattle.mud_world.specs.Nesting.{Questions}
 use Rattle.mud_world.specs.Refusals.{number}
 use Rattle.mud_world.specs.Legal.{fails, refusal, after}
+use Rattle.mud_world.specs.History.{world_of}
 
 -- in a sound world an object is in the contents of c exactly where its place is c, and contents rise
 abbrev pub AreContents : Type 0
 AreContents =
     (w : State) → IsSound w → (c : ℕ)
-    → ((n : ℕ) → IsTrue (list_any (nat_eq n) (contents_of w c)) ↔ (place_of w n ≡ Some c)) × IsRisingFrom 0 (contents_of w c)
+    → ((n : ℕ) → IsTrue (list_any (nat_eq n) (contents_of w c)) ↔ (place_of w n ≡ Some c))
+    × IsRisingFrom 0 (contents_of w c)
 
 -- in a sound world an exit leaves c exactly where its source is c, and the exits that leave c rise
 abbrev pub AreLeaving : Type 0
 AreLeaving =
     (w : State) → IsSound w → (c : ℕ)
-    → ((n : ℕ) → IsTrue (list_any (nat_eq n) (leaving_of w c)) ↔ (source_of w n ≡ Some c)) × IsRisingFrom 0 (leaving_of w c)
+    → ((n : ℕ) → IsTrue (list_any (nat_eq n) (leaving_of w c)) ↔ (source_of w n ≡ Some c))
+    × IsRisingFrom 0 (leaving_of w c)
 
--- in a sound world the levels of a key never run out: o is unlocked for c exactly where it exists and has no key, or its key is
--- true, an object in it meaning that the object is within c, and `?x` that x is unlocked for c
+-- in a sound world the levels of a key never run out: o is unlocked for c exactly where it exists and has no key, or
+-- its key is true, an object in it meaning that the object is within c, and `?x` that x is unlocked for c
 abbrev pub AreLevelsEnough : Type 0
 AreLevelsEnough =
     (w : State) → IsSound w → (c o : ℕ)
@@ -42,7 +46,8 @@ IsNesting =
 
 -- a key in a circle of questions nests more than any number of levels
 abbrev pub CirclesNestOn : Type 0
-CirclesNestOn = (w : State) (a m : ℕ) (k : Tree ℕ) → Questions w (suc m) a a → key_of w a ≡ Some k → (n : ℕ) → nests w n k ≡ false
+CirclesNestOn =
+    (w : State) (a m : ℕ) (k : Tree ℕ) → Questions w (suc m) a a → key_of w a ≡ Some k → (n : ℕ) → nests w n k ≡ false
 
 -- the refusal's condition holds of the change, and that of no refusal of lower number does
 pub record IsLeastRefusal (w : State) (e : Change) (f : Refusal) : Type 0 where
@@ -53,17 +58,25 @@ pub record IsLeastRefusal (w : State) (e : Change) (f : Refusal) : Type 0 where
 abbrev pub AreRefusalsLeast : Type 0
 AreRefusalsLeast =
     (w : State) (e : Change)
-    → ((f : Refusal) → (refusal w e ≡ Some f) ↔ IsLeastRefusal w e f) × ((refusal w e ≡ None) ↔ ((f : Refusal) → fails w e f ≡ false))
+    → ((f : Refusal) → (refusal w e ≡ Some f) ↔ IsLeastRefusal w e f)
+    × ((refusal w e ≡ None) ↔ ((f : Refusal) → fails w e f ≡ false))
 
 -- the world after a legal change of a sound world is sound
 abbrev pub StaysSound : Type 0
 StaysSound = (w : State) (e : Change) → IsSound w → refusal w e ≡ None → IsSound (after w e)
 
+-- the world of any changes is sound, for those that aren't legal change nothing
+abbrev pub WorldsAreSound : Type 0
+WorldsAreSound = (changes : List Change) → IsSound (world_of changes)
+
 -- who is a player stays one in each legal change
 abbrev pub PlayersStay : Type 0
-PlayersStay = (w : State) (e : Change) → IsSound w → refusal w e ≡ None → (p : ℕ) → IsTrue (is_player w p) → IsTrue (is_player (after w e) p)
+PlayersStay =
+    (w : State) (e : Change) → IsSound w → refusal w e ≡ None → (p : ℕ) → IsTrue (is_player w p)
+    → IsTrue (is_player (after w e) p)
 
 -- who comes as a new player is one
 abbrev pub NewPlayersArePlayers : Type 0
 NewPlayersArePlayers =
-    (w : State) (name : List ℕ) → IsSound w → IsTrue (is_player (after w (record { actor = w.next; deed = Player name })) w.next)
+    (w : State) (name : List ℕ) → IsSound w
+    → IsTrue (is_player (after w (record { actor = w.next; deed = Player name })) w.next)

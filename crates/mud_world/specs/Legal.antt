@@ -1,19 +1,24 @@
 -- The table of changes: what refuses each. What each leaves is the table of `Results`.
-use Rattle.std.specs.Prelude.{ℕ, Bool, true, false, not, ◌&&◌, ◌||◌, nat_eq, nat_lt, List, [], ◌∷◌, length, find, Option, is_some}
+use Rattle.std.specs.Prelude.{ℕ, Bool, true, false, not, ◌&&◌, ◌||◌, nat_eq, nat_lt, List, [], ◌∷◌, length, find}
+use Rattle.std.specs.Prelude.{Option, is_some}
 use Rattle.std.specs.Option.{option_map_or}
-use Rattle.std.specs.List.{list_any}
-use Rattle.mud_key.specs.Tree.{atoms_of}
 use Rattle.mud_world.specs.declared.change.Change.{Change}
 use Rattle.mud_world.specs.declared.change.Deed.{Deed}
-use Rattle.mud_world.specs.declared.change.Deed.TheVariants.{Dig, Make, Lock, Unlock, Move, Walk, Cost, Player, Rename, Recycle, Say, Emote}
+use Rattle.mud_world.specs.declared.change.Deed.TheVariants.{Dig, Make, Lock, Unlock, Move, Walk, Cost, Player, Rename}
+use Rattle.mud_world.specs.declared.change.Deed.TheVariants.{Recycle, Say, Emote}
 use Rattle.mud_world.specs.declared.refusal.Refusal.{Refusal}
-use Rattle.mud_world.specs.declared.refusal.Refusal.TheVariants.{NoSuch, WrongKind, NotHere, Denied, BadName, NameTaken, BadKey, KeyNesting, BadCost, RecursiveMove, LockedExit, LockedRoom, LockedThing, InUse, WorldFull}
+use Rattle.mud_world.specs.declared.refusal.Refusal.TheVariants.{NoSuch, WrongKind, NotHere, Denied, BadName, NameTaken}
+use Rattle.mud_world.specs.declared.refusal.Refusal.TheVariants.{BadKey, KeyNesting, BadCost, RecursiveMove, LockedExit}
+use Rattle.mud_world.specs.declared.refusal.Refusal.TheVariants.{LockedRoom, LockedThing, InUse, WorldFull}
 pub use Rattle.mud_world.specs.Speech.{is_printable, is_trimmed, is_speech}
 pub use Rattle.mud_world.specs.Kinds.{kind_at, kind_costing, kind_needs}
 pub use Rattle.mud_world.specs.Reach.{InReach, arrives, in_reach}
-pub use Rattle.mud_world.specs.Conditions.{owns, shares_room, is_offered, leaves_from, in_use, is_full, of_old}
-pub use Rattle.mud_world.specs.Results.{with_record, changed, numbered_from, with_new, removed, moved, keyed, locked, costing, renamed, new_record, new_exit, new_exits, dug, deed_result, after}
-use Rattle.mud_world.specs.State.{State, exists, is_room, is_exit, is_thing, is_player, place_of, is_number, within, destination_of, unlocked, all_nest, is_taken}
+pub use Rattle.mud_world.specs.Conditions.{owns, shares_room, is_offered, leaves_from, in_use, is_full, is_bad_key}
+pub use Rattle.mud_world.specs.Conditions.{of_old}
+pub use Rattle.mud_world.specs.Results.{with_record, changed, numbered_from, with_new, removed, moved, keyed, locked}
+pub use Rattle.mud_world.specs.Results.{costing, renamed, new_record, new_exit, new_exits, dug, deed_result, after}
+use Rattle.mud_world.specs.State.{State, exists, is_room, is_exit, is_thing, is_player, place_of, is_number, within}
+use Rattle.mud_world.specs.State.{destination_of, unlocked, all_nest, is_taken}
 
 -- what refuses the actor of each kind of change but Player: he is no player of the world
 abbrev pub actor_fails : State → ℕ → Refusal → Bool
@@ -37,7 +42,7 @@ deed_fails w actor (Player name) WorldFull = is_full w 1
 deed_fails w actor (Lock object key) NoSuch = not (exists w object)
 deed_fails w actor (Lock object key) WrongKind = is_player w object
 deed_fails w actor (Lock object key) Denied = not (owns w actor object)
-deed_fails w actor (Lock object key) BadKey = list_any (λ o. not (exists w o)) (atoms_of key)
+deed_fails w actor (Lock object key) BadKey = is_bad_key w key
 deed_fails w actor (Lock object key) KeyNesting = not (all_nest (locked w object key))
 -- no key
 deed_fails w actor (Unlock object) NoSuch = not (exists w object)
@@ -46,7 +51,8 @@ deed_fails w actor (Unlock object) Denied = not (owns w actor object)
 -- a thing goes to another place
 deed_fails w actor (Move thing to) NoSuch = not (exists w thing) || not (exists w to)
 deed_fails w actor (Move thing to) WrongKind = not (is_thing w thing) || is_exit w to
-deed_fails w actor (Move thing to) NotHere = not (in_reach w actor thing) || is_number to (place_of w thing) || not (is_offered w actor to)
+deed_fails w actor (Move thing to) NotHere =
+    not (in_reach w actor thing) || is_number to (place_of w thing) || not (is_offered w actor to)
 deed_fails w actor (Move thing to) RecursiveMove = within w to thing
 deed_fails w actor (Move thing to) LockedRoom = not (unlocked w thing to)
 deed_fails w actor (Move thing to) LockedThing = not (unlocked w to thing)

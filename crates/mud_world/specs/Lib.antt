@@ -16,3 +16,4 @@ pub mod Nesting
 pub mod Laws
 pub mod Inside
 pub mod History
+pub mod Parts

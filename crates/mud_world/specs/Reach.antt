@@ -17,7 +17,8 @@ pub record InReach (w : State) (actor o : ℕ) : Type 0 where
 abbrev pub arrives : State → ℕ → ℕ → ℕ → Bool
 arrives w zero actor o = false
 arrives w (suc n) actor o =
-    option_map_or (λ p. nat_eq p actor || is_number p (place_of w actor) || (is_thing w p && arrives w n actor p)) (place_of w o) false
+    option_map_or (λ p. nat_eq p actor || is_number p (place_of w actor) || (is_thing w p && arrives w n actor p))
+    (place_of w o) false
 
 -- no chain of places is longer than there are numbers
 abbrev pub in_reach : State → ℕ → ℕ → Bool

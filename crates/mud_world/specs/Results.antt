@@ -8,7 +8,8 @@ use Rattle.mud_world.specs.declared.record.Kind.TheVariants.{Room, Exit, Thing, 
 use Rattle.mud_world.specs.declared.record.Record.{Record}
 use Rattle.mud_world.specs.declared.change.Change.{Change}
 use Rattle.mud_world.specs.declared.change.Deed.{Deed}
-use Rattle.mud_world.specs.declared.change.Deed.TheVariants.{Dig, Make, Lock, Unlock, Move, Walk, Cost, Player, Rename, Recycle, Say, Emote}
+use Rattle.mud_world.specs.declared.change.Deed.TheVariants.{Dig, Make, Lock, Unlock, Move, Walk, Cost, Player, Rename}
+use Rattle.mud_world.specs.declared.change.Deed.TheVariants.{Recycle, Say, Emote}
 use Rattle.mud_world.specs.declared.change.Target.{Target}
 use Rattle.mud_world.specs.declared.change.Target.TheVariants.{New, Old}
 use Rattle.mud_world.specs.declared.change.Doors.{Doors}
@@ -66,16 +67,19 @@ new_record actor names kind = record { names = names; owner = actor; kind = kind
 
 -- a new exit costs 1
 abbrev pub new_exit : ℕ → List (List ℕ) → ℕ → ℕ → Record
-new_exit actor names source destination = new_record actor names (Exit (record { source = source; destination = destination; cost = 1 }))
+new_exit actor names source destination =
+    new_record actor names (Exit (record { source = source; destination = destination; cost = 1 }))
 
 -- an exit from here to there, and one back if it has names
 abbrev pub new_exits : ℕ → ℕ → ℕ → Option Doors → List Record
 new_exits actor here there None = []
-new_exits actor here there (Some d) = new_exit actor d.out here there ∷ option_map_or (λ names. new_exit actor names there here ∷ []) d.back []
+new_exits actor here there (Some d) =
+    new_exit actor d.out here there ∷ option_map_or (λ names. new_exit actor names there here ∷ []) d.back []
 
 -- what is dug: the new room, if it is to be one, and the exits between the actor's room and the target
 abbrev pub dug : State → ℕ → Target → Option Doors → List Record
-dug w actor (New names) doors = new_record actor names Room ∷ new_exits actor (unwrap_or (place_of w actor) 0) w.next doors
+dug w actor (New names) doors =
+    new_record actor names Room ∷ new_exits actor (unwrap_or (place_of w actor) 0) w.next doors
 dug w actor (Old room) doors = new_exits actor (unwrap_or (place_of w actor) 0) room doors
 
 -- ---- the table of results

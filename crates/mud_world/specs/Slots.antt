@@ -1,5 +1,5 @@
--- The slots of a world in memory, and single edits of them. Private clauses alone cite this file: the edits of `Results` are what
--- they come to.
+-- The slots of a world in memory, and single edits of them. Private clauses alone cite this file: the edits of
+-- `Results` are what they come to.
 use Rattle.std.specs.Prelude.{◌≡◌, ◌≢◌, ℕ, List, [], ◌∷◌, map, nat_eq, Option, if◌then◌else◌}
 use Rattle.std.proofs.Common.{zero, suc}
 use Rattle.mud_world.specs.declared.record.Record.{Record}

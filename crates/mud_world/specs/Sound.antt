@@ -1,6 +1,7 @@
 -- What is true of every world.
-use Rattle.std.specs.Prelude.{◌≡◌, ◌≢◌, ℕ, ◌+◌, ◌≤◌, ◌≢◌, false, List, [], ◌∷◌, Some, None, IsTrue}
+use Rattle.std.specs.Prelude.{◌≡◌, ◌≢◌, ℕ, ◌+◌, ◌≤◌, false, List, [], ◌∷◌, Some, None, IfSome, IsTrue}
 use Rattle.std.proofs.Common.{suc}
+use Rattle.mud_key.specs.Tree.{IsKey}
 use Rattle.mud_world.specs.declared.record.Kind.{Kind}
 use Rattle.mud_world.specs.declared.record.Kind.TheVariants.{Room, Exit, Thing, Player}
 use Rattle.mud_world.specs.declared.record.Record.{Record}
@@ -22,6 +23,10 @@ IsPlacedWell w (Player place) = IsTrue (is_room w place)
 abbrev pub IsKeyless : Record → Type 0
 IsKeyless r = (place : ℕ) → r.kind ≡ Player place → r.key ≡ None
 
+-- the key, where there is one, is within the limits of keys
+abbrev pub IsLockedWell : Record → Type 0
+IsLockedWell r = IfSome r.key IsKey
+
 -- no two players share a name
 abbrev pub AreNamedApart : State → Type 0
 AreNamedApart w =
@@ -35,6 +40,7 @@ pub record IsSound (w : State) : Type 0 where
   pub placed : (n : ℕ) (r : Record) → record_at w n ≡ Some r → IsPlacedWell w r.kind
   pub no_circle : (n k : ℕ) → follow w (suc k) n ≢ Some n
   pub keyless : (n : ℕ) (r : Record) → record_at w n ≡ Some r → IsKeyless r
+  pub locked : (n : ℕ) (r : Record) → record_at w n ≡ Some r → IsLockedWell r
   pub nesting : IsTrue (all_nest w)
   pub named : AreNamedApart w
   -- where new players stand

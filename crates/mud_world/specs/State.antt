@@ -1,5 +1,6 @@
 -- A world as contracts see it, and what can be asked of it.
-use Rattle.std.specs.Prelude.{◌≡◌, find, ℕ, Bool, true, false, not, ◌&&◌, ◌||◌, nat_eq, List, map, filter, Option, Some, is_some, is_none, IsTrue}
+use Rattle.std.specs.Prelude.{◌≡◌, find, ℕ, Bool, true, false, not, ◌&&◌, ◌||◌, nat_eq, List, map, filter, Option, Some}
+use Rattle.std.specs.Prelude.{is_some, is_none, IsTrue}
 use Rattle.std.proofs.Common.{zero, suc}
 use Rattle.std.specs.Option.{option_map, option_map_or, option_and_then}
 use Rattle.std.specs.List.{list_all, list_any}
@@ -9,7 +10,8 @@ use Rattle.mud_key.specs.Tree.{Tree, asks_of}
 use Rattle.mud_world.specs.declared.record.Passage.{Passage}
 use Rattle.mud_world.specs.declared.record.Record.{Record}
 use Rattle.mud_world.specs.Truth.{key_true}
-pub use Rattle.mud_world.specs.Kinds.{is_room_kind, is_exit_kind, is_thing_kind, is_player_kind, kind_place, kind_passage}
+pub use Rattle.mud_world.specs.Kinds.{is_room_kind, is_exit_kind, is_thing_kind, is_player_kind, kind_place}
+pub use Rattle.mud_world.specs.Kinds.{kind_passage}
 
 -- the records by rising number, and the next number
 pub record State : Type 0 where
@@ -119,7 +121,8 @@ opens w (suc n) held o = has w o (λ r. option_map_or (key_true held (opens w n 
 abbrev pub holds_for : State → (ℕ → Bool) → Tree ℕ → ℕ → Bool
 holds_for w held k n = key_true held (opens w n held) k
 
--- o exists, and has no key or one that is true for c with 3 levels left; for c these are true: c, and all that it contains
+-- o exists, and has no key or one that is true for c with 3 levels left; for c these are true: c, and all that it
+-- contains
 abbrev pub unlocked : State → ℕ → ℕ → Bool
 unlocked w c o = has w o (λ r. option_map_or (λ k. holds_for w (λ a. within w a c) k 3) r.key true)
 
@@ -144,4 +147,6 @@ is_taken w n names = list_any (λ e. not (nat_eq n e.0) && (is_player_kind e.1.k
 
 -- the player who has this name
 abbrev pub named_player : State → List ℕ → Option ℕ
-named_player w name = option_map (λ e. e.0) (find (λ e. is_player_kind e.1.kind && list_any (str_eq_ignore_ascii_case name) e.1.names) w.objects)
+named_player w name =
+    option_map (λ e. e.0)
+    (find (λ e. is_player_kind e.1.kind && list_any (str_eq_ignore_ascii_case name) e.1.names) w.objects)

@@ -81,7 +81,8 @@ impl World {
     #[tactic(auto, unfolding(crate::specs::Legal::refusal))]
     fn lock(&mut self, actor: u32, object: u32, key: &Key) -> Result<(), AllocError>
         requires { refusal self.old (record { actor = actor; deed = Deed.Lock object key.now }) ≡ None }
-        ensures ok { OnOk result (self.new ≡ after self.old (record { actor = actor; deed = Deed.Lock object key.now })) }
+        ensures ok { OnOk result (self.new
+            ≡ after self.old (record { actor = actor; deed = Deed.Lock object key.now })) }
         ensures err { OnErr result (self.new ≡ self.old) }
     {
         let key = key.copy(self.alloc)?;
@@ -135,7 +136,8 @@ impl World {
     #[tactic(auto, unfolding(crate::specs::Legal::refusal))]
     fn rename(&mut self, actor: u32, object: u32, names: &Names) -> Result<(), AllocError>
         requires { refusal self.old (record { actor = actor; deed = Deed.Rename object names.now }) ≡ None }
-        ensures ok { OnOk result (self.new ≡ after self.old (record { actor = actor; deed = Deed.Rename object names.now })) }
+        ensures ok { OnOk result (self.new
+            ≡ after self.old (record { actor = actor; deed = Deed.Rename object names.now })) }
         ensures err { OnErr result (self.new ≡ self.old) }
     {
         let names = names.copy(self.alloc)?;

@@ -121,7 +121,8 @@ impl World {
         doors: &Option<Doors>,
     ) -> Result<(), AllocError>
         requires { refusal self.old (record { actor = actor; deed = Deed.Dig target.now doors.now }) ≡ None }
-        ensures ok { OnOk result (self.new ≡ after self.old (record { actor = actor; deed = Deed.Dig target.now doors.now })) }
+        ensures ok { OnOk result (self.new
+            ≡ after self.old (record { actor = actor; deed = Deed.Dig target.now doors.now })) }
         ensures err { OnErr result (self.new ≡ self.old) }
     {
         let here = self.place(actor).unwrap_or(0);

@@ -63,7 +63,8 @@ impl World {
     /// "Fundamental Object Attributes": contents). Only want of memory is an error.
     pub fn carried(&self, candidate: u32) -> Result<Holding, AllocError>
         ensures holding { IfOk result (IsHolding self.now candidate) }
-        ensures members { IfOk result (λ held. (o : ℕ) → IsTrue (list_any (nat_eq o) held) ↔ Within self.now o candidate) }
+        ensures members { IfOk result (λ held. (o : ℕ)
+            → IsTrue (list_any (nat_eq o) held) ↔ Within self.now o candidate) }
     {
         let next = self.next_number();
         let mut members = IndexSet::new(self.alloc);

@@ -1,6 +1,7 @@
 //! What is known of the definitions alone: each contract is a law, and its function does nothing.
 
-ghost use Rattle.mud_world.specs.Laws.{AreContents, AreLeaving, AreLevelsEnough, IsNesting, CirclesNestOn, AreRefusalsLeast, StaysSound, PlayersStay, NewPlayersArePlayers};
+ghost use Rattle.mud_world.specs.Laws.{AreContents, AreLeaving, AreLevelsEnough, IsNesting, CirclesNestOn};
+ghost use Rattle.mud_world.specs.Laws.{AreRefusalsLeast, StaysSound, WorldsAreSound, PlayersStay, NewPlayersArePlayers};
 
 /// In a sound world an object is in the contents of another exactly where that is its place.
 pub fn contents()
@@ -38,6 +39,11 @@ pub fn refusals()
 /// The world after a legal change of a sound world is sound.
 pub fn soundness()
     ensures { StaysSound }
+{}
+
+/// The world of any changes is sound: those that aren't legal where they stand change nothing.
+pub fn worlds()
+    ensures { WorldsAreSound }
 {}
 
 /// Who is a player stays one in each legal change.

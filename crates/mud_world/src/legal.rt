@@ -3,7 +3,7 @@
 ghost use Rattle.std.specs.Prelude.{MatchResult, not, ◌≡◌, ℕ, ◌≤◌, [], ◌∷◌, Some, None, length};
 ghost use Rattle.mud_world.specs.State.{is_taken, State, exists};
 ghost use Rattle.mud_key.specs.Node.{key_of as tree_of};
-ghost use Rattle.mud_world.specs.Legal.{in_use, is_full, dug, actor_fails, deed_fails, refusal, fails};
+ghost use Rattle.mud_world.specs.Legal.{in_use, is_full, is_bad_key, dug, actor_fails, deed_fails, refusal, fails};
 ghost use Rattle.mud_key.specs.Tree.{atoms_of};
 ghost use Rattle.std.specs.List.{list_any};
 
@@ -125,7 +125,7 @@ impl World {
             Refusal::NoSuch => !self.exists(object),
             Refusal::WrongKind => self.is_player(object),
             Refusal::Denied => !self.owns(actor, object),
-            Refusal::BadKey => self.misses_atom(key.node()),
+            Refusal::BadKey => self.is_bad_key(key),
             Refusal::KeyNesting => !self.all_nest_with(object, key),
             _ => false,
         }
@@ -214,6 +214,13 @@ impl World {
         }
     }
 
+    // Whether an object of the key is missing. By its type a key is within the limits of keys.
+    fn is_bad_key(&self, key: &Key) -> bool
+        ensures { result ≡ is_bad_key self.now key.now }
+    {
+        self.misses_atom(key.node())
+    }
+
     // Whether an object of the key is missing.
     fn misses_atom(&self, node: &Node<u32>) -> bool
         ensures { result ≡ list_any (λ o. not (exists self.now o)) (atoms_of (tree_of node.now)) }
@@ -265,7 +272,8 @@ impl World {
     /// LambdaMOO Programmer's Manual, "Object Movement" and "Fundamental Object Attributes": owner). It
     /// takes no memory.
     pub fn legal(&self, change: &Change) -> Result<(), Refusal>
-        ensures { MatchResult result (λ _. refusal self.now change.now ≡ None) (λ fault. refusal self.now change.now ≡ Some fault) }
+        ensures { MatchResult result (λ _. refusal self.now change.now ≡ None)
+            (λ fault. refusal self.now change.now ≡ Some fault) }
     {
         match self.first_refusal(change) {
             None => Ok(()),

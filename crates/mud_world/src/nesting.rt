@@ -50,7 +50,8 @@ impl World {
     // Whether the key of an object that is asked, if it has one, nests at most so much.
     #[cycle(nesting)]
     fn asked_nests_with(&self, object: u32, key: &Key, asked: u32, levels: u32) -> bool
-        ensures { result ≡ option_map_or (nests (locked self.now object key.now) levels) (key_of (locked self.now object key.now) asked) true }
+        ensures { result ≡ option_map_or (nests (locked self.now object key.now) levels)
+            (key_of (locked self.now object key.now) asked) true }
     {
         match self.get(asked) {
             None => true,

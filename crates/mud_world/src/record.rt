@@ -1,7 +1,8 @@
 //! What the world keeps of an object.
 
 ghost use Rattle.std.specs.Prelude.{◌≡◌};
-ghost use Rattle.mud_world.specs.Kinds.{kind_costing, kind_needs, kind_at, kind_place, kind_passage, is_room_kind, is_exit_kind, is_thing_kind, is_player_kind};
+ghost use Rattle.mud_world.specs.Kinds.{kind_costing, kind_needs, kind_at, kind_place, kind_passage, is_room_kind};
+ghost use Rattle.mud_world.specs.Kinds.{is_exit_kind, is_thing_kind, is_player_kind};
 
 use mud_key::{Key, Names};
 

@@ -1,6 +1,7 @@
 //! Slots: an object each, with the lists of what lies in it and of the exits that leave it.
 
-ghost use Rattle.std.specs.Prelude.{◌++◌, not, ◌≡◌, ◌+◌, ◌<◌, [], ◌∷◌, Some, None, IfOk, IfSome, IfNone, OnOk, OnErr, length, nat_eq};
+ghost use Rattle.std.specs.Prelude.{◌++◌, not, ◌≡◌, ◌+◌, ◌<◌, [], ◌∷◌, Some, None, IfOk, IfSome, IfNone, OnOk, OnErr};
+ghost use Rattle.std.specs.Prelude.{length, nat_eq};
 ghost use Rattle.mud_world.specs.declared.record.Record.{Record};
 ghost use Rattle.std.specs.Map.{lookup};
 ghost use Rattle.std.specs.List.{list_any};
@@ -9,7 +10,9 @@ ghost use Rattle.mud_world.specs.State.{shares};
 ghost use Rattle.std.specs.Prelude.{◌&&◌, find};
 ghost use Rattle.std.specs.Option.{option_map};
 ghost use Rattle.std.specs.Str.{str_eq_ignore_ascii_case};
-ghost use Rattle.mud_world.specs.Slots.{IsAt, StandRising, entries_of, shapes_of, at_number, with_content, with_leaving, without_content, placed_at, linked, shape_of, without_leaving, with_key, with_cost, with_names, unlinked, without_slot};
+ghost use Rattle.mud_world.specs.Slots.{IsAt, StandRising, entries_of, shapes_of, at_number, with_content};
+ghost use Rattle.mud_world.specs.Slots.{with_leaving, without_content, placed_at, linked, shape_of, without_leaving};
+ghost use Rattle.mud_world.specs.Slots.{with_key, with_cost, with_names, unlinked, without_slot};
 
 use crate::numbers::{insert_number, remove_number};
 use crate::{Kind, Record};
@@ -136,7 +139,8 @@ pub(crate) fn link(slots: &mut [Slot], kind: Kind, number: u32) -> Result<(), Al
 
 // A new slot at the end, or nothing.
 pub(crate) fn add_slot(slots: &mut Vec<Slot>, slot: Slot) -> Result<(), AllocError>
-    ensures ok { OnOk result (shapes_of slots.new.items ≡ linked slot.object.kind slot.number (shapes_of slots.old.items ++ shape_of slot ∷ [])) }
+    ensures ok { OnOk result (shapes_of slots.new.items
+        ≡ linked slot.object.kind slot.number (shapes_of slots.old.items ++ shape_of slot ∷ [])) }
     ensures err { OnErr result (shapes_of slots.new.items ≡ shapes_of slots.old.items) }
 {
     let kind = slot.object.kind;
@@ -156,7 +160,8 @@ pub(crate) fn relocate_in(
     from: u32,
     to: u32,
 ) -> Result<(), AllocError>
-    ensures ok { OnOk result (shapes_of slots.new ≡ at_number object (placed_at to) (at_number from (without_content object) (at_number to (with_content object) (shapes_of slots.old)))) }
+    ensures ok { OnOk result (shapes_of slots.new ≡ at_number object (placed_at to)
+        (at_number from (without_content object) (at_number to (with_content object) (shapes_of slots.old)))) }
     ensures err { OnErr result (shapes_of slots.new ≡ shapes_of slots.old) }
 {
     add_content(slots, to, object)?;
@@ -190,7 +195,8 @@ fn shares(names: &Names, others: &Names) -> bool
 
 // Whether a player other than this one has one of the names.
 pub(crate) fn is_taken(slots: &[Slot], number: u32, names: &Names) -> bool
-    ensures { result ≡ list_any (λ e. not (nat_eq number e.0) && (is_player_kind e.1.kind && shares names.now e.1.names)) (entries_of slots.now) }
+    ensures { result ≡ list_any (λ e. not (nat_eq number e.0)
+        && (is_player_kind e.1.kind && shares names.now e.1.names)) (entries_of slots.now) }
 {
     for slot in slots {
         if number != slot.number
@@ -211,7 +217,8 @@ fn shares_name(name: &Name, others: &Names) -> bool
 
 // Whether a player other than this one has the name.
 pub(crate) fn is_name_taken(slots: &[Slot], number: u32, name: &Name) -> bool
-    ensures { result ≡ list_any (λ e. not (nat_eq number e.0) && (is_player_kind e.1.kind && shares (name.now ∷ []) e.1.names)) (entries_of slots.now) }
+    ensures { result ≡ list_any (λ e. not (nat_eq number e.0)
+        && (is_player_kind e.1.kind && shares (name.now ∷ []) e.1.names)) (entries_of slots.now) }
 {
     for slot in slots {
         if number != slot.number
@@ -225,7 +232,8 @@ pub(crate) fn is_name_taken(slots: &[Slot], number: u32, name: &Name) -> bool
 }
 
 pub(crate) fn named_player(slots: &[Slot], name: &str) -> Option<u32>
-    ensures { result ≡ option_map (λ e. e.0) (find (λ e. is_player_kind e.1.kind && list_any (str_eq_ignore_ascii_case name.now) e.1.names) (entries_of slots.now)) }
+    ensures { result ≡ option_map (λ e. e.0) (find (λ e. is_player_kind e.1.kind
+        && list_any (str_eq_ignore_ascii_case name.now) e.1.names) (entries_of slots.now)) }
 {
     for slot in slots {
         if slot.object.kind.is_player() && slot.object.names.has(name) {
@@ -314,7 +322,8 @@ fn remove_slot(slots: &mut Vec<Slot>, number: u32)
 
 // Takes an object away.
 pub(crate) fn forget(slots: &mut Vec<Slot>, number: u32)
-    ensures { (r : Record) → lookup (nat_eq number) (entries_of slots.old.items) ≡ Some r → shapes_of slots.new.items ≡ without_slot number (unlinked r.kind number (shapes_of slots.old.items)) }
+    ensures { (r : Record) → lookup (nat_eq number) (entries_of slots.old.items) ≡ Some r
+        → shapes_of slots.new.items ≡ without_slot number (unlinked r.kind number (shapes_of slots.old.items)) }
 {
     if let Some(at) = slot_of(slots, number) {
         let kind = slots[at].object.kind;

@@ -29,7 +29,8 @@ impl Model for Speech {
 impl Speech {
     /// The text as what is said, where it can be said.
     pub fn read(alloc: Global, text: &str) -> Result<Option<Speech>, AllocError>
-        ensures { IfOk result (λ found. MatchOption found (is_speech text.now ≡ false) (λ speech. (speech ≡ text.now) × (is_speech text.now ≡ true))) }
+        ensures { IfOk result (λ found. MatchOption found (is_speech text.now ≡ false)
+            (λ speech. (speech ≡ text.now) × (is_speech text.now ≡ true))) }
     {
         if is_speech(text) {
             Ok(Some(Speech {

@@ -36,7 +36,8 @@ fn wizard_names(alloc: Global) -> Result<Names, AllocError>
 /// Manual, "Objects"; the limit is this project's profile). A contract sees the records by number,
 /// and the next number. Every world is sound (`IsSound`): following places never comes back to its
 /// start, places and the ends of exits are of the kinds that they must be, costs are at most
-/// 10,000, no two players share a name, players have no key, and each key nests at most 3.
+/// 10,000, no two players share a name, players have no key, and each key is within the limits of
+/// keys and nests at most 3.
 #[derive(Drop)]
 pub struct World {
     pub(crate) alloc: Global,

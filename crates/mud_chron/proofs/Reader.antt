@@ -1,7 +1,13 @@
--- How an entry is found in its line. Clauses of private parts alone cite this file, as `Fields`.
-use Rattle.std.specs.Prelude.{ℕ, nat_le, List, codes, if◌then◌else◌, Option, None, Some}
+-- A reader of lines as a function, apart from the code: by it a line is that of one entry alone.
+use Rattle.std.specs.Prelude.{ℕ, nat_eq, nat_le, List, [], ◌∷◌, codes, if◌then◌else◌, Option, None, Some, Result, Ok, Err}
+use Rattle.std.specs.Option.{option_map, ok_or}
 use Rattle.std.specs.Str.{bytes_eq}
-use Rattle.mud_key.specs.Reading.{names_in, name_in}
+use Rattle.mud_key.specs.declared.namer.Miss.{Miss}
+use Rattle.mud_key.specs.declared.namer.Miss.TheVariants.{NoSuch}
+use Rattle.mud_key.specs.Tree.{Tree}
+use Rattle.mud_key.specs.Namer.{resolved}
+use Rattle.mud_key.specs.Reading.{names_in, name_in, key_in}
+use Rattle.mud_world.specs.Speech.{is_speech}
 use Rattle.mud_world.specs.declared.change.Change.{Change}
 use Rattle.mud_world.specs.declared.change.Doors.{Doors}
 use Rattle.mud_world.specs.declared.change.Target.TheVariants.{New, Old}
@@ -10,7 +16,48 @@ use Rattle.mud_world.specs.declared.change.Deed.TheVariants as deed
 use Rattle.mud_chron.specs.declared.verb.Verb.{Verb}
 use Rattle.mud_chron.specs.declared.verb.Verb.TheVariants.{Dig, Make, Lock, Unlock, Move, Walk, Cost, Player, Rename, Recycle, Say, Emote}
 use Rattle.mud_chron.specs.Entry.{Accepted}
-use Rattle.mud_chron.specs.Fields.{◌>>=◌, cut, number_up_to, object_in, object_before, speech_in, number_key_in}
+use Rattle.mud_chron.specs.Fields.{digits_on, up_to, object_in}
+
+infixl 10 ◌>>=◌
+-- what is found next, where something was found
+abbrev pub ◌>>=◌ : {A B : Type 0} → Option A → (A → Option B) → Option B
+(Some x) >>= f = f x
+None >>= f = None
+
+-- what stands in front of the first such byte, and what stands behind it
+abbrev pub cut : ℕ → List ℕ → Option (List ℕ × List ℕ)
+cut b [] = None
+cut b (c ∷ text) = if nat_eq c b then Some ([], text) else option_map (λ p. (c ∷ p.0, p.1)) (cut b text)
+
+-- a number up to this one
+abbrev pub number_up_to : ℕ → List ℕ → Option ℕ
+number_up_to most text = up_to most (digits_on 0 text)
+
+-- the number of an object up to a space, and what stands behind it
+unfoldable pub object_before : List ℕ → Option (ℕ × List ℕ)
+object_before text = do
+  p ← cut 32 text
+  n ← object_in p.0
+  Some (n, p.1)
+
+-- what can be said
+unfoldable pub speech_in : List ℕ → Option (List ℕ)
+speech_in text = if is_speech text then Some text else None
+
+-- what the texts of a key name
+abbrev pub meaning : List ℕ → Result ℕ Miss
+meaning text = ok_or (object_in text) NoSuch
+
+-- the key, where each object has a number
+abbrev pub without_miss : Result (Tree ℕ) Miss → Option (Tree ℕ)
+without_miss (Ok key) = Some key
+without_miss (Err miss) = None
+
+-- the key whose objects are numbers
+unfoldable pub number_key_in : List ℕ → Option (Tree ℕ)
+number_key_in text = do
+  key ← key_in text
+  without_miss (resolved meaning key)
 
 -- the names up to a quote, and what stands behind it
 unfoldable pub names_before : List ℕ → Option (List (List ℕ) × List ℕ)

@@ -1,0 +1,42 @@
+-- The parts of changes: names, keys and texts.
+use Rattle.std.specs.Prelude.{ℕ, List, Option, Some, None, IsTrue}
+use Rattle.mud_key.specs.Name.{IsName}
+use Rattle.mud_key.specs.Names.{AreNames}
+use Rattle.mud_key.specs.Tree.{IsKey}
+use Rattle.mud_world.specs.Speech.{is_speech}
+use Rattle.mud_world.specs.declared.change.Doors.{Doors}
+use Rattle.mud_world.specs.declared.change.Target.{Target}
+use Rattle.mud_world.specs.declared.change.Target.TheVariants.{New, Old}
+use Rattle.mud_world.specs.declared.change.Deed.{Deed}
+use Rattle.mud_world.specs.declared.change.Deed.TheVariants.{Dig, Make, Lock, Unlock, Move, Walk, Cost, Player, Rename}
+use Rattle.mud_world.specs.declared.change.Deed.TheVariants.{Recycle, Say, Emote}
+
+-- the names of an exit back, where there is one
+abbrev pub AreBackNames : Option (List (List ℕ)) → Type 0
+AreBackNames None = Unit {0}
+AreBackNames (Some names) = AreNames names
+
+-- the names of the exits of a dig
+abbrev pub AreDoors : Option Doors → Type 0
+AreDoors None = Unit {0}
+AreDoors (Some doors) = AreNames doors.out × AreBackNames doors.back
+
+-- the names of a new room
+abbrev pub IsTarget : Target → Type 0
+IsTarget (New names) = AreNames names
+IsTarget (Old room) = Unit {0}
+
+-- names, keys and texts of a deed are such; their types keep it of every change that is built
+abbrev pub HasParts : Deed → Type 0
+HasParts (Dig target doors) = IsTarget target × AreDoors doors
+HasParts (Make names) = AreNames names
+HasParts (Player name) = IsName name
+HasParts (Lock object key) = IsKey key
+HasParts (Unlock object) = Unit {0}
+HasParts (Move thing to) = Unit {0}
+HasParts (Walk exit) = Unit {0}
+HasParts (Cost exit cost) = Unit {0}
+HasParts (Rename object names) = AreNames names
+HasParts (Recycle object) = Unit {0}
+HasParts (Say text) = IsTrue (is_speech text)
+HasParts (Emote text) = IsTrue (is_speech text)

@@ -5,3 +5,5 @@ pub mod Bounds
 pub mod Least
 pub mod Parties
 pub mod Parts
+pub mod Sides
+pub mod Decided

@@ -10,13 +10,12 @@ use Rattle.mud_world.specs.declared.refusal.Refusal.{Refusal}
 use Rattle.mud_world.specs.declared.refusal.Refusal.TheVariants.{WrongKind, PartyBad}
 use Rattle.mud_world.specs.Refusals.{number, lesser, refused_if}
 use Rattle.mud_world.specs.State.{State, is_player}
-use Rattle.mud_rules.specs.declared.matching.Match.{Match}
 use Rattle.mud_rules.specs.Matching.{player_match}
 use Rattle.mud_rules.specs.Party.{IsParty, all_distinct, is_party}
 use Rattle.mud_rules.specs.Journeys.{of_kind, player_meant, players_meant, members, least_refusal, unfit, unmet, meet}
 use Rattle.mud_key.specs.Parts.{parts_of}
 use Rattle.mud_rules.specs.declared.verdict.Journey.TheVariants.{Meet}
-use Rattle.mud_rules.specs.Outcome.{IsJourney}
+use Rattle.mud_rules.specs.Outcome.{IsJourney, found as meant}
 use Rattle.mud_rules.proofs.Least.{bool_cases}
 
 others : (p : ℕ) (ps : List ℕ) → not (list_any (λ q. nat_eq q p) ps) ≡ true → All (λ q. p ≢ q) ps
@@ -43,19 +42,19 @@ party_of ps test =
     let parts = and_parts (nat_le (length ps) 8) (all_distinct ps) few.1 in
     record { two = leb-true 2 (length ps) few.0; eight = leb-true (length ps) 8 parts.0; distinct = distinct_of ps parts.1 }
 
-one_more : (w : State) (m : Result ℕ Match) (found : List (Result ℕ Refusal)) → All (λ n. IsTrue (is_player w n)) (members found) → All (λ n. IsTrue (is_player w n)) (members (of_kind (is_player w) m ∷ found))
+one_more : (w : State) (m : Result ℕ Refusal) (found : List (Result ℕ Refusal)) → All (λ n. IsTrue (is_player w n)) (members found) → All (λ n. IsTrue (is_player w n)) (members (of_kind (is_player w) m ∷ found))
 one_more w (Ok n) found all =
     let Q : Bool → Type 0 = λ b. All (λ n. IsTrue (is_player w n)) (members (cond b (Ok n) (Err WrongKind) ∷ found)) in
     bool_cases (is_player w n)
     (λ yes. subst Q (sym yes) (All-cons (λ n. IsTrue (is_player w n)) n (members found) yes all))
     (λ no. subst Q (sym no) all)
-one_more w (Err fault) found all = all
+one_more w (Err f) found all = all
 
 -- those whom texts mean are players
 pub members_are_players : (w : State) (p : ℕ) (texts : List (List ℕ)) → All (λ n. IsTrue (is_player w n)) (members (map (player_meant w p) texts))
 members_are_players w p [] = All-nil (λ n. IsTrue (is_player w n))
 members_are_players w p (text ∷ texts) =
-    one_more w (player_match w p text) (map (player_meant w p) texts) (members_are_players w p texts)
+    one_more w (meant (player_match w p text)) (map (player_meant w p) texts) (members_are_players w p texts)
 
 never_none : (f : Refusal) (other : Option Refusal) → lesser (Some f) other ≡ None → ⊥
 never_none f None is = cc

@@ -5,8 +5,8 @@ use Rattle.mud_world.specs.declared.change.Change.{Change}
 use Rattle.mud_world.specs.declared.change.Deed.{Deed}
 use Rattle.mud_world.specs.declared.change.Deed.TheVariants.{Move, Walk, Player, Say, Emote}
 use Rattle.mud_world.specs.State.{State, place_of, is_number, is_thing, destination_of}
+use Rattle.mud_world.specs.Conditions.{shares_room}
 use Rattle.mud_rules.specs.Listing.{first_name}
-use Rattle.mud_rules.specs.Commands.{together}
 
 -- player p is in room r
 abbrev pub stands_in : State → ℕ → Option ℕ → Bool
@@ -31,13 +31,13 @@ arrival_line name = name ++ codes " arrives."
 -- in the room that the actor leaves, or else in the one that he comes to
 abbrev pub walked_line : State → ℕ → ℕ → ℕ → Option (List ℕ)
 walked_line w p actor exit =
-    if together w actor p then Some (sentence w actor (codes " leaves by ") exit (codes "."))
+    if shares_room w actor p then Some (sentence w actor (codes " leaves by ") exit (codes "."))
     else if stands_in w p (destination_of w exit) then Some (arrival_line (first_name w actor))
     else None
 
 -- the line is heard in the actor's room
 abbrev pub beside : State → ℕ → ℕ → List ℕ → Option (List ℕ)
-beside w p actor line = if together w actor p then Some line else None
+beside w p actor line = if shares_room w actor p then Some line else None
 
 abbrev pub heard_deed : State → ℕ → ℕ → Deed → Option (List ℕ)
 heard_deed w p actor (Say text) = beside w p actor (first_name w actor ++ codes " says, \"" ++ text ++ codes "\"")

@@ -1,21 +1,25 @@
 -- What the definitions of the table come to, said in other words.
-use Rattle.std.specs.Prelude.{◌≡◌, ℕ, Bool, false, ◌||◌, nat_eq, List, [], ◌∷◌, find, Option, Some, None, Result, Ok, Err}
+use Rattle.std.specs.Prelude.{◌≡◌, ℕ, Bool, false, not, ◌||◌, nat_eq, List, [], ◌∷◌, find, Option, Some, None, unwrap_or, Result, Ok, Err}
 use Rattle.std.specs.Option.{option_map_or}
 use Rattle.mud_key.specs.Tree.{Tree}
 use Rattle.mud_world.specs.declared.change.Change.{Change}
 use Rattle.mud_world.specs.declared.change.Deed.{Deed}
-use Rattle.mud_world.specs.declared.change.Deed.TheVariants.{Dig, Make, Lock, Unlock, Cost, Rename, Say, Emote}
+use Rattle.mud_world.specs.declared.change.Deed.TheVariants.{Dig, Make, Lock, Cost, Rename, Say, Emote}
 use Rattle.mud_world.specs.declared.change.Target.TheVariants.{New}
 use Rattle.mud_world.specs.declared.change.Target.{Target}
 use Rattle.mud_world.specs.declared.change.Doors.{Doors}
 use Rattle.mud_world.specs.declared.refusal.Refusal.{Refusal}
 use Rattle.mud_world.specs.declared.refusal.Refusal.TheVariants.{NotUnderstood, NoSuch, Ambiguous, WrongKind, NotHere, Denied, BadName, NameTaken, BadKey, KeyNesting, BadCost, RecursiveMove, LockedExit, LockedRoom, LockedThing, InUse, WorldFull, PartyBad}
-use Rattle.mud_world.specs.Refusals.{number, lesser}
-use Rattle.mud_world.specs.State.{State}
+use Rattle.mud_words.specs.Line.{Line}
+use Rattle.mud_world.specs.Parts.{HasParts}
+use Rattle.mud_world.specs.Refusals.{number}
+use Rattle.mud_world.specs.Sound.{IsSound}
+use Rattle.mud_world.specs.State.{State, is_exit, is_player}
 use Rattle.mud_world.specs.Legal.{refusal, fails}
 use Rattle.mud_rules.specs.declared.verdict.Verdict.TheVariants.{Change as Changes, Refused}
-use Rattle.mud_rules.specs.Outcome.{outcome}
+use Rattle.mud_rules.specs.Outcome.{outcome, does, no_player, no_room, not_his}
 use Rattle.mud_rules.specs.Journeys.{members, unfit, unmet}
+use Rattle.mud_rules.specs.Table.{decision}
 
 -- ---- one list of refusals
 
@@ -53,25 +57,33 @@ IsOneListOfMeetings =
     (found : List (Result ℕ Refusal))
     → unmet found ≡ find (λ f. is_own (unfit (members found)) f || has_refusal found f) all_refusals
 
--- ---- what stands in for a text that can't be read
+-- ---- texts that can't be read
 
--- by its own refusal, the one change is refused as the other is
-abbrev pub AreRefusedAlike : State → ℕ → Refusal → Deed → Deed → Type 0
-AreRefusedAlike w p own deed other =
-    lesser (Some own) (refusal w (record { actor = p; deed = deed }))
-    ≡ lesser (Some own) (refusal w (record { actor = p; deed = other }))
+-- were the text read as this, and refused by its own refusal, the line would be refused as it is by what bars p
+abbrev pub IsBarredAlike : State → ℕ → Option Refusal → Refusal → Deed → Type 0
+IsBarredAlike w p bar own deed = does w p (Some own) deed ≡ Refused (unwrap_or bar own)
 
--- whatever stands in for a text that can't be read, the line is refused by the same number
-pub record NoMatterWhatStandsIn : Type 0 where
-  pub names : (w : State) (p : ℕ) (ns ms : List (List ℕ)) → AreRefusedAlike w p BadName (Make ns) (Make ms)
-  pub renaming : (w : State) (p x : ℕ) (ns ms : List (List ℕ)) → AreRefusedAlike w p BadName (Rename x ns) (Rename x ms)
-  pub room : (w : State) (p : ℕ) (ns ms : List (List ℕ))
-      → AreRefusedAlike w p BadName (Dig (New ns) None) (Dig (New ms) None)
-  pub exits : (w : State) (p : ℕ) (target : Target) (ds es : Doors)
-      → AreRefusedAlike w p BadName (Dig target (Some ds)) (Dig target (Some es))
-  pub target : (w : State) (p : ℕ) (ns ms : List (List ℕ)) (ds es : Doors)
-      → AreRefusedAlike w p BadName (Dig (New ns) (Some ds)) (Dig (New ms) (Some es))
-  pub saying : (w : State) (p : ℕ) (text other : List ℕ) → AreRefusedAlike w p BadName (Say text) (Say other)
-  pub emoting : (w : State) (p : ℕ) (text other : List ℕ) → AreRefusedAlike w p BadName (Emote text) (Emote other)
-  pub key : (w : State) (p x : ℕ) (key : Tree ℕ) → AreRefusedAlike w p BadKey (Unlock x) (Lock x key)
-  pub cost : (w : State) (p x m n : ℕ) → AreRefusedAlike w p BadCost (Cost x m) (Cost x n)
+-- what bars p before a text is looked at is what refuses the change, by a lower number, whatever the text is read as
+pub record IsBarredWhateverIsRead (w : State) (p : ℕ) : Type 0 where
+  pub names : (names : List (List ℕ)) → IsBarredAlike w p (no_player w p) BadName (Make names)
+  pub renaming : (x : ℕ) (names : List (List ℕ)) → IsBarredAlike w p (not_his w p x false) BadName (Rename x names)
+  pub room : (names : List (List ℕ)) → IsBarredAlike w p (no_player w p) BadName (Dig (New names) None)
+  pub exits : (target : Target) (doors : Doors)
+      → IsBarredAlike w p (no_room w p target) BadName (Dig target (Some doors))
+  pub saying : (text : List ℕ) → IsBarredAlike w p (no_player w p) BadName (Say text)
+  pub emoting : (text : List ℕ) → IsBarredAlike w p (no_player w p) BadName (Emote text)
+  pub key : (x : ℕ) (key : Tree ℕ) → IsBarredAlike w p (not_his w p x (is_player w x)) BadKey (Lock x key)
+  pub cost : (x n : ℕ) → IsBarredAlike w p (not_his w p x (not (is_exit w x))) BadCost (Cost x n)
+
+-- ---- what a line comes to
+
+-- the change is legal, and its names, keys and texts are such
+pub record IsMade (w : State) (e : Change) : Type 0 where
+  pub legal : refusal w e ≡ None
+  pub parts : HasParts e.deed
+
+-- each change that a line comes to in a sound world is so, whoever typed it
+abbrev pub AreMade : Type 0
+AreMade =
+    (w : State) → IsSound w → (player : Option ℕ) (l : Line) (e : Change)
+    → decision w player l ≡ Changes e → IsMade w e

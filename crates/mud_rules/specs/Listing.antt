@@ -3,14 +3,11 @@ use Rattle.std.specs.Prelude.{ℕ, List, [], ◌∷◌, ◌++◌, codes, decimal
 use Rattle.std.specs.Option.{option_map_or}
 use Rattle.std.specs.List.{join_by}
 use Rattle.mud_world.specs.State.{State, record_at}
-
-abbrev pub head_of : List (List ℕ) → List ℕ
-head_of [] = []
-head_of (name ∷ names) = name
+use Rattle.mud_rules.specs.Matching.{first_text}
 
 -- the name that is shown
 abbrev pub first_name : State → ℕ → List ℕ
-first_name w n = option_map_or (λ r. head_of r.names) (record_at w n) []
+first_name w n = option_map_or (λ r. first_text r.names) (record_at w n) []
 
 -- NAME #n
 abbrev pub entry_text : State → ℕ → List ℕ

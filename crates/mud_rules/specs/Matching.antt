@@ -42,9 +42,7 @@ sole_like likeness w text candidates = sole (filter (is_named (is_like likeness 
 -- the first answer, or the second where the first finds none
 abbrev pub or_else : Result ℕ Match → Result ℕ Match → Result ℕ Match
 or_else (Err NoSuch) second = second
-or_else (Err Nothing) second = Err Nothing
-or_else (Err Ambiguous) second = Err Ambiguous
-or_else (Ok n) second = Ok n
+or_else first second = first
 
 -- those of the candidates that have a name equal to the text, else those with a name that begins with it
 abbrev pub match_among : State → List ℕ → List ℕ → Result ℕ Match
@@ -52,13 +50,10 @@ match_among w text candidates = or_else (sole_like Equal w text candidates) (sol
 
 -- ---- numbers
 
--- the number that decimal digits write
-abbrev pub value_from : ℕ → List ℕ → ℕ
-value_from start digits = fold (λ value digit. value * 10 + (digit - 48)) start digits
-
--- the number that digits alone write
+-- the number that a text of decimal digits alone writes, behind those of `start`
 abbrev pub digits_value : ℕ → List ℕ → Option ℕ
-digits_value start text = if list_all is_ascii_digit text then Some (value_from start text) else None
+digits_value start text =
+    if list_all is_ascii_digit text then Some (fold (λ value digit. value * 10 + (digit - 48)) start text) else None
 
 -- 1 to 9 digits, as a number
 abbrev pub number_in : List ℕ → Option ℕ
@@ -71,9 +66,14 @@ object_number (c ∷ digits) = if nat_eq c 35 then number_in digits else None
 
 -- ---- texts
 
-abbrev pub is_empty : List ℕ → Bool
+abbrev pub is_empty : {A : Type 0} → List A → Bool
 is_empty [] = true
-is_empty (c ∷ cs) = false
+is_empty (x ∷ xs) = false
+
+-- the first of them, or the empty text
+abbrev pub first_text : List (List ℕ) → List ℕ
+first_text [] = []
+first_text (text ∷ texts) = text
 
 -- what `#n` means
 abbrev pub existing : State → ℕ → Result ℕ Match
@@ -129,16 +129,8 @@ player_match w player text = match_with w player (all_of_sort Players w) text
 
 -- ---- how the code puts lists of candidates together, for private clauses alone
 
--- what a second list adds to an answer of the first
-abbrev pub joined_to : Result ℕ Match → Result ℕ Match → Result ℕ Match
-joined_to first (Err NoSuch) = first
-joined_to first (Err Nothing) = Err Ambiguous
-joined_to first (Err Ambiguous) = Err Ambiguous
-joined_to first (Ok n) = Err Ambiguous
-
 -- what two lists of candidates give together
 abbrev pub joined : Result ℕ Match → Result ℕ Match → Result ℕ Match
 joined (Err NoSuch) second = second
-joined (Err Nothing) second = joined_to (Err Nothing) second
-joined (Err Ambiguous) second = joined_to (Err Ambiguous) second
-joined (Ok n) second = joined_to (Ok n) second
+joined first (Err NoSuch) = first
+joined first second = Err Ambiguous

@@ -1,16 +1,19 @@
 -- How the refusals of a line come together.
-use Rattle.std.specs.Prelude.{◌≡◌, ℕ, Bool, true, false, Option, Some, None, Result, Ok, Err, IsTrue, if◌then◌else◌}
+use Rattle.std.specs.Prelude.{◌≡◌, ℕ, nat_lt, Bool, true, false, not, ◌||◌, Option, Some, None, unwrap_or, Result, Ok, Err, IsTrue, if◌then◌else◌}
 use Rattle.std.specs.Option.{option_map_or}
 use Rattle.std.specs.List.{All}
 use Rattle.mud_world.specs.declared.change.Change.{Change}
 use Rattle.mud_world.specs.declared.change.Deed.{Deed}
 use Rattle.mud_world.specs.declared.refusal.Refusal.{Refusal}
-use Rattle.mud_world.specs.declared.refusal.Refusal.TheVariants.{NotUnderstood, NoSuch as NoObject, Ambiguous as Several}
-use Rattle.mud_world.specs.Refusals.{lesser}
-use Rattle.mud_world.specs.State.{State, is_room, is_player}
+use Rattle.mud_world.specs.declared.refusal.Refusal.TheVariants.{NotUnderstood, NoSuch as NoObject, Ambiguous as Several, WrongKind, Denied}
+use Rattle.mud_world.specs.declared.change.Target.{Target}
+use Rattle.mud_world.specs.declared.change.Target.TheVariants.{New, Old}
+use Rattle.mud_world.specs.Refusals.{number, lesser}
+use Rattle.mud_world.specs.State.{State, exists, is_room, is_player}
+use Rattle.mud_world.specs.Conditions.{owns}
 use Rattle.mud_world.specs.Legal.{refusal, is_arrival}
 use Rattle.mud_rules.specs.declared.matching.Match.{Match}
-use Rattle.mud_rules.specs.declared.matching.Match.TheVariants.{Nothing, NoSuch, Ambiguous}
+use Rattle.mud_rules.specs.declared.matching.Match.TheVariants.{Ambiguous}
 use Rattle.mud_rules.specs.declared.verdict.Journey.{Journey}
 use Rattle.mud_rules.specs.declared.verdict.Journey.TheVariants.{Route, Meet}
 use Rattle.mud_rules.specs.declared.verdict.Query.{Query}
@@ -29,39 +32,60 @@ outcome w own e = option_map_or Refused (lesser own (refusal w e)) (Changes e)
 abbrev pub does : State → ℕ → Option Refusal → Deed → Verdict
 does w p own deed = outcome w own (record { actor = p; deed = deed })
 
--- ---- what is done with the object that a text means
+-- ---- what a line finds, or its refusal
 
--- the refusal of a text that means none
-abbrev pub unmatched : Match → Refusal
-unmatched Nothing = NoObject
-unmatched NoSuch = NoObject
-unmatched Ambiguous = Several
+-- the object that was found, or the refusal of a text that means none
+abbrev pub found : Result ℕ Match → Result ℕ Refusal
+found (Ok x) = Ok x
+found (Err Ambiguous) = Err Several
+found (Err other) = Err NoObject
 
-abbrev pub with_match : {A : Type 0} → Result A Match → (A → Verdict) → Verdict
-with_match (Ok x) use_it = use_it x
-with_match (Err fault) use_it = Refused (unmatched fault)
-
--- of two faults the one whose refusal has the lower number
-abbrev pub lesser_fault : Match → Match → Match
-lesser_fault Ambiguous second = second
-lesser_fault Nothing second = Nothing
-lesser_fault NoSuch second = NoSuch
-
--- two objects, where each text means one
-abbrev pub both : Result ℕ Match → Result ℕ Match → Result (ℕ × ℕ) Match
+-- two objects, where both were found; of two refusals the one of lower number
+abbrev pub both : Result ℕ Refusal → Result ℕ Refusal → Result (ℕ × ℕ) Refusal
 both (Ok x) (Ok y) = Ok (x, y)
-both (Ok x) (Err fault) = Err fault
-both (Err fault) (Ok y) = Err fault
-both (Err first) (Err second) = Err (lesser_fault first second)
+both (Ok x) (Err g) = Err g
+both (Err f) (Ok y) = Err f
+both (Err f) (Err g) = Err (if nat_lt (number g) (number f) then g else f)
+
+-- what is done with what was found
+abbrev pub on_found : {A : Type 0} → Result A Refusal → (A → Verdict) → Verdict
+on_found (Ok x) meaning = meaning x
+on_found (Err f) meaning = Refused f
 
 -- a line of another shape is not understood
 abbrev pub shaped : Bool → Verdict → Verdict
 shaped fits v = if fits then v else Refused NotUnderstood
 
--- what is asked about a journey, or its refusal
-abbrev pub asked : (Journey → Query) → Result Journey Refusal → Verdict
-asked question (Ok journey) = Ask (question journey)
-asked question (Err f) = Refused f
+-- ---- what is done with a text that is read
+
+-- p does what a text says; where it can't be read, the line is refused by what bars him already, or by its own
+-- refusal
+abbrev pub does_read : {A : Type 0} → State → ℕ → Option Refusal → Refusal → Option A → (A → Deed) → Verdict
+does_read w p bar own (Some x) deed = does w p None (deed x)
+does_read w p bar own None deed = Refused (unwrap_or bar own)
+
+-- what bars p whatever he does: he is no player of the world
+abbrev pub no_player : State → ℕ → Option Refusal
+no_player w p =
+    if not (exists w p) then Some NoObject
+    else if not (is_player w p) then Some WrongKind
+    else None
+
+-- what bars p from digging there: he is no player, or an old room is none
+abbrev pub no_room : State → ℕ → Target → Option Refusal
+no_room w p (New names) = no_player w p
+no_room w p (Old room) =
+    if not (exists w p) || not (exists w room) then Some NoObject
+    else if not (is_player w p) || not (is_room w room) then Some WrongKind
+    else None
+
+-- what bars p from a change of object x: he is no player, there is none, it is of the wrong kind, it is another's
+abbrev pub not_his : State → ℕ → ℕ → Bool → Option Refusal
+not_his w p x wrong_kind =
+    if not (exists w p) || not (exists w x) then Some NoObject
+    else if not (is_player w p) || wrong_kind then Some WrongKind
+    else if not (owns w p x) then Some Denied
+    else None
 
 -- ---- what is true of all that a line comes to
 
@@ -82,7 +106,8 @@ IsQuestion w (query.Journey journey) = IsJourney w journey
 IsQuestion w (query.Proof journey) = IsJourney w journey
 IsQuestion w query.History = Unit {0}
 
--- a change that a line comes to is legal, and its actor is the one who typed the line; who sits down is a player of the world; of a question see above
+-- a change that a line comes to is legal, and its actor is the one who typed the line; who sits down is a player of
+-- the world; of a question see above
 abbrev pub IsLawful : State → Option ℕ → Verdict → Type 0
 IsLawful w player (Changes e) = (refusal w e ≡ None) × IsActor w player e
 IsLawful w player (Ask query) = IsQuestion w query

@@ -1,11 +1,15 @@
--- The shapes of lines: which words and texts a line has.
-use Rattle.std.specs.Prelude.{ℕ, Bool, true, false, not, ◌&&◌, ◌||◌, List, [], ◌∷◌, codes, Option, Some, if◌then◌else◌}
-use Rattle.std.specs.List.{join_by}
+-- The shapes of lines: which words, texts and objects a line has.
+use Rattle.std.specs.Prelude.{ℕ, Bool, true, false, not, ◌&&◌, List, [], ◌∷◌, codes, Option, Some, Result, Ok, Err, if◌then◌else◌}
+use Rattle.std.specs.List.{join_by, list_any, slice_split}
 use Rattle.std.specs.Str.{str_eq_ignore_ascii_case}
 use Rattle.mud_words.specs.declared.Prep.{Prep}
 use Rattle.mud_words.specs.declared.Prep.TheVariants.{With, To, In, Is}
 use Rattle.mud_words.specs.Line.{Line}
-use Rattle.mud_rules.specs.Matching.{is_empty}
+use Rattle.mud_world.specs.declared.refusal.Refusal.{Refusal}
+use Rattle.mud_world.specs.declared.refusal.Refusal.TheVariants.{NotUnderstood}
+use Rattle.mud_world.specs.State.{State}
+use Rattle.mud_rules.specs.Matching.{is_empty, first_text, local_match}
+use Rattle.mud_rules.specs.Outcome.{found, both}
 use Rattle.mud_rules.specs.Commands.{is_bar}
 
 -- ---- words
@@ -34,23 +38,14 @@ abbrev pub looked_text : Line → List ℕ
 looked_text l = spaced (looked_at l.args)
 
 -- the word after the verb, or the empty text; further words are ignored
-abbrev pub first_of : List (List ℕ) → List ℕ
-first_of [] = []
-first_of (word ∷ words) = word
+abbrev pub first_of : Line → List ℕ
+first_of l = first_text l.args
 
 -- ---- shapes
 
-abbrev pub no_words : List (List ℕ) → Bool
-no_words [] = true
-no_words (word ∷ words) = false
-
 -- the verb alone
 abbrev pub is_bare : Line → Bool
-is_bare l = no_words l.args
-
--- the words after the verb are a text of some byte
-abbrev pub has_text : Line → Bool
-has_text l = not (is_empty (all_of l))
+is_bare l = is_empty l.args
 
 abbrev pub is_prep : Prep → Option Prep → Bool
 is_prep With (Some With) = true
@@ -67,10 +62,30 @@ is_pair prep l = is_prep prep l.prep && (not (is_empty l.direct) && not (is_empt
 abbrev pub is_aimed : Prep → Line → Bool
 is_aimed prep l = is_prep prep l.prep && (is_empty l.direct && not (is_empty l.indirect))
 
--- of the sides between bars one is empty; fresh says that nothing stands in this side yet
-abbrev pub empty_side : Bool → List ℕ → Bool
-empty_side fresh [] = fresh
-empty_side fresh (c ∷ cs) = if is_bar c then fresh || empty_side true cs else empty_side false cs
-
+-- a side of a bar is empty
 abbrev pub has_empty_side : List ℕ → Bool
-has_empty_side text = empty_side true text
+has_empty_side text = list_any is_empty (slice_split is_bar text)
+
+-- ---- what a line gives to its command, or the refusal of a line that has not its shape
+
+-- the text behind the verb
+abbrev pub text_behind : Line → Result (List ℕ) Refusal
+text_behind l = if is_empty (all_of l) then Err NotUnderstood else Ok (all_of l)
+
+-- the object that a text means to player p
+abbrev pub object_named : State → ℕ → List ℕ → Result ℕ Refusal
+object_named w p text = if is_empty text then Err NotUnderstood else found (local_match w p text)
+
+-- the object that the text behind the verb means
+abbrev pub object_behind : State → ℕ → Line → Result ℕ Refusal
+object_behind w p l = object_named w p (all_of l)
+
+-- the object before this, of two texts with this between them
+abbrev pub object_before : Prep → State → ℕ → Line → Result ℕ Refusal
+object_before prep w p l = if is_pair prep l then found (local_match w p l.direct) else Err NotUnderstood
+
+-- the objects round this
+abbrev pub objects_round : Prep → State → ℕ → Line → Result (ℕ × ℕ) Refusal
+objects_round prep w p l =
+    if is_pair prep l then both (found (local_match w p l.direct)) (found (local_match w p l.indirect))
+    else Err NotUnderstood

@@ -1,35 +1,23 @@
-//! What is done with an object that is there: its cost, its end.
+//! The cost of an exit.
 
 ghost use Rattle.std.specs.Prelude.{◌≡◌, Some};
 ghost use Rattle.mud_rules.specs.Outcome.{IsLawful};
-ghost use Rattle.mud_rules.specs.Commands.{cost, recycle};
+ghost use Rattle.mud_rules.specs.Commands.{cost};
 
 use crate::Verdict;
-use crate::matching::{local_match, number_in};
-use crate::outcome::{does, unmatched};
-use mud_world::{Deed, Refusal, World, refused_if};
+use crate::matching::number_in;
+use crate::outcome::{does, not_his, unread};
+use mud_world::{Deed, Refusal, World};
 
-pub(crate) fn cost(world: &World, player: u32, text: &str, number: &str) -> Verdict
-    ensures decision { result ≡ cost world.now player text.now number.now }
+pub(crate) fn cost(world: &World, player: u32, exit: u32, text: &str) -> Verdict
+    ensures decision { result ≡ cost world.now player exit text.now }
     ensures lawful { IsLawful world.now (Some player) result }
 {
-    match local_match(world, player, text) {
-        Ok(exit) => {
-            let cost = number_in(number.as_bytes());
-            let own = refused_if(cost.is_none(), Refusal::BadCost);
-            let cost = cost.unwrap_or(1);
-            does(world, player, own, Deed::Cost { exit, cost })
+    match number_in(text.as_bytes()) {
+        Some(cost) => does(world, player, None, Deed::Cost { exit, cost }),
+        None => {
+            let bar = not_his(world, player, exit, !world.is_exit(exit));
+            unread(bar, Refusal::BadCost)
         }
-        Err(fault) => Verdict::Refused(unmatched(fault)),
-    }
-}
-
-pub(crate) fn recycle(world: &World, player: u32, text: &str) -> Verdict
-    ensures decision { result ≡ recycle world.now player text.now }
-    ensures lawful { IsLawful world.now (Some player) result }
-{
-    match local_match(world, player, text) {
-        Ok(object) => does(world, player, None, Deed::Recycle { object }),
-        Err(fault) => Verdict::Refused(unmatched(fault)),
     }
 }

@@ -1,15 +1,15 @@
 //! Digging.
 
-ghost use Rattle.std.specs.Prelude.{◌≡◌, Some, IfOk, unwrap_or};
+ghost use Rattle.std.specs.Prelude.{◌≡◌, Some, IfOk};
 ghost use Rattle.mud_rules.specs.Outcome.{IsLawful};
-ghost use Rattle.mud_rules.specs.Commands.{doors_in, target_in, door_x, room_x, dig_room, dig_exits};
+ghost use Rattle.mud_rules.specs.Commands.{doors_in, target_in, dig_room, dig_between, dig_exits};
 ghost use Rattle.mud_rules.specs.Shapes.{has_empty_side};
 
 use crate::Verdict;
 use crate::matching::object_number;
-use crate::naming::{names_in, names_x};
-use crate::outcome::does;
-use mud_world::{Deed, Doors, Refusal, Target, World, refused_if};
+use crate::naming::names_in;
+use crate::outcome::{does, no_player, no_room, unread};
+use mud_world::{Deed, Doors, Refusal, Target, World};
 use std::alloc::{AllocError, Global};
 
 pub(crate) fn dig_room(
@@ -23,10 +23,7 @@ pub(crate) fn dig_room(
 {
     match names_in(alloc, text)? {
         Some(names) => Ok(does(world, player, None, Deed::Dig(Target::New(names), None))),
-        None => {
-            let room = room_x(alloc)?;
-            Ok(does(world, player, Some(Refusal::BadName), Deed::Dig(room, None)))
-        }
+        None => Ok(unread(no_player(world, player), Refusal::BadName)),
     }
 }
 
@@ -66,22 +63,6 @@ fn target_in(alloc: Global, text: &str) -> Result<Option<Target>, AllocError>
     }
 }
 
-// What stands in for exits that can't be read.
-fn door_x(alloc: Global) -> Result<Doors, AllocError>
-    ensures { IfOk result (λ doors. doors ≡ door_x) }
-{
-    let out = names_x(alloc)?;
-    Ok(Doors { out, back: None })
-}
-
-// What stands in for a room that can't be read.
-fn room_x(alloc: Global) -> Result<Target, AllocError>
-    ensures { IfOk result (λ target. target ≡ room_x) }
-{
-    let names = names_x(alloc)?;
-    Ok(Target::New(names))
-}
-
 pub(crate) fn dig_exits(
     alloc: Global,
     world: &World,
@@ -94,27 +75,19 @@ pub(crate) fn dig_exits(
 {
     let doors = doors_in(alloc, doors)?;
     let target = target_in(alloc, target)?;
-    let own = refused_if(doors.is_none() || target.is_none(), Refusal::BadName);
-    let doors = doors_or_x(alloc, doors)?;
-    let target = target_or_x(alloc, target)?;
-    Ok(does(world, player, own, Deed::Dig(target, Some(doors))))
+    Ok(dig_between(world, player, doors, target))
 }
 
-fn doors_or_x(alloc: Global, doors: Option<Doors>) -> Result<Doors, AllocError>
-    ensures { IfOk result (λ found. found ≡ unwrap_or doors door_x) }
+fn dig_between(world: &World, player: u32, doors: Option<Doors>, target: Option<Target>) -> Verdict
+    ensures decision { result ≡ dig_between world.now player doors target }
+    ensures lawful { IsLawful world.now (Some player) result }
 {
+    let Some(target) = target else {
+        return unread(no_player(world, player), Refusal::BadName);
+    };
     match doors {
-        Some(doors) => Ok(doors),
-        None => door_x(alloc),
-    }
-}
-
-fn target_or_x(alloc: Global, target: Option<Target>) -> Result<Target, AllocError>
-    ensures { IfOk result (λ found. found ≡ unwrap_or target room_x) }
-{
-    match target {
-        Some(target) => Ok(target),
-        None => room_x(alloc),
+        Some(doors) => does(world, player, None, Deed::Dig(target, Some(doors))),
+        None => unread(no_room(world, player, &target), Refusal::BadName),
     }
 }
 

@@ -59,6 +59,24 @@ fn said(alloc: Global, who: &str, does: &str, what: &str, end: &str) -> Result<S
     Ok(line)
 }
 
+// The same, with a third name at the end.
+fn said_of(
+    alloc: Global,
+    who: &str,
+    does: &str,
+    what: &str,
+    end: &str,
+    whom: &str,
+) -> Result<String, AllocError>
+    ensures { IfOk result (λ line. string_bytes line
+        ≡ who.now ++ does.now ++ what.now ++ end.now ++ whom.now ++ codes ".") }
+{
+    let mut line = said(alloc, who, does, what, end)?;
+    line.push_str(whom)?;
+    line.push_str(".")?;
+    Ok(line)
+}
+
 fn heard_say(
     alloc: Global,
     world: &World,
@@ -133,17 +151,11 @@ fn moved_line(
     } else if world.is_in(actor, to) {
         said(alloc, who, " drops ", what, ".")
     } else if world.is_thing(to) {
-        let mut line = said(alloc, who, " puts ", what, " in ")?;
-        line.push_str(first_name(world, to))?;
-        line.push_str(".")?;
-        Ok(line)
+        said_of(alloc, who, " puts ", what, " in ", first_name(world, to))
     } else if to == player {
         said(alloc, who, " gives ", what, " to you.")
     } else {
-        let mut line = said(alloc, who, " gives ", what, " to ")?;
-        line.push_str(first_name(world, to))?;
-        line.push_str(".")?;
-        Ok(line)
+        said_of(alloc, who, " gives ", what, " to ", first_name(world, to))
     }
 }
 

@@ -7,7 +7,7 @@ ghost use Rattle.mud_rules.specs.Outcome.{IsJourney};
 ghost use Rattle.mud_rules.specs.Journeys.{room_meant, route, player_meant, players_meant, members, least_refusal, unfit, meeting, meet};
 
 use crate::matching::{player_match, room_match};
-use crate::outcome::unmatched;
+use crate::outcome::found;
 use crate::{Journey, Party};
 use mud_key::parts;
 use mud_world::{Refusal, World, lesser, refused_if};
@@ -18,10 +18,9 @@ fn room_meant(world: &World, player: u32, text: &str) -> Result<u32, Refusal>
     ensures decision { result ≡ room_meant world.now player text.now }
     ensures room { IfOk result (λ room. IsTrue (is_room world.now room)) }
 {
-    match room_match(world, player, text) {
-        Ok(room) if world.is_room(room) => Ok(room),
-        Ok(_) => Err(Refusal::WrongKind),
-        Err(fault) => Err(unmatched(fault)),
+    match found(room_match(world, player, text)) {
+        Ok(room) if !world.is_room(room) => Err(Refusal::WrongKind),
+        other => other,
     }
 }
 
@@ -37,10 +36,9 @@ pub(crate) fn route(world: &World, player: u32, text: &str) -> Result<Journey, R
 fn player_meant(world: &World, player: u32, text: &str) -> Result<u32, Refusal>
     ensures { result ≡ player_meant world.now player text.now }
 {
-    match player_match(world, player, text) {
-        Ok(member) if world.is_player(member) => Ok(member),
-        Ok(_) => Err(Refusal::WrongKind),
-        Err(fault) => Err(unmatched(fault)),
+    match found(player_match(world, player, text)) {
+        Ok(member) if !world.is_player(member) => Err(Refusal::WrongKind),
+        other => other,
     }
 }
 

@@ -1,12 +1,13 @@
-//! Locking and unlocking.
+//! Locking.
 
-ghost use Rattle.std.specs.Prelude.{◌≡◌, ◌≤◌, Some, IfOk};
+ghost use Rattle.std.specs.Prelude.{◌≡◌, ◌≤◌, Some, Result, IfOk, if◌then◌else◌};
+ghost use Rattle.mud_world.specs.State.{exists};
 ghost use Rattle.mud_rules.specs.Outcome.{IsLawful};
-ghost use Rattle.mud_rules.specs.Commands.{existing_for_key, near_named, key_meant, locking, lock, unlock};
+ghost use Rattle.mud_rules.specs.Commands.{near_named, key_meant, lock};
 
 use crate::Verdict;
 use crate::matching::{Match, local_match};
-use crate::outcome::{does, unmatched};
+use crate::outcome::{does, not_his, unread};
 use mud_key::{Key, KeyFault, Miss, Namer, read, resolve};
 use mud_world::{Deed, Refusal, World};
 use std::alloc::{AllocError, Global};
@@ -32,7 +33,7 @@ impl Namer for Near<'_> {
 
 // An object that exists.
 fn existing(world: &World, number: u32) -> Result<u32, Miss>
-    ensures found { result ≡ existing_for_key world.now number }
+    ensures found { result ≡ (if exists world.now number then Result.Ok number else Result.Err Miss.NoSuch) }
     ensures number { IfOk result (λ n. n ≤ 8191) }
 {
     let _next = world.next_number();
@@ -64,46 +65,21 @@ fn key_meant(
     }
 }
 
-fn locking(world: &World, player: u32, object: u32, key: Option<Key>) -> Verdict
-    ensures decision { result ≡ locking world.now player object key }
-    ensures lawful { IsLawful world.now (Some player) result }
-{
-    match key {
-        Some(key) => does(world, player, None, Deed::Lock { object, key }),
-        None => does(
-            world,
-            player,
-            Some(Refusal::BadKey),
-            Deed::Unlock { object },
-        ),
-    }
-}
-
 pub(crate) fn lock(
     alloc: Global,
     world: &World,
     player: u32,
+    object: u32,
     text: &str,
-    key: &str,
 ) -> Result<Verdict, AllocError>
-    ensures decision { IfOk result (λ v. v ≡ lock world.now player text.now key.now) }
+    ensures decision { IfOk result (λ v. v ≡ lock world.now player object text.now) }
     ensures lawful { IfOk result (IsLawful world.now (Some player)) }
 {
-    match local_match(world, player, text) {
-        Ok(object) => {
-            let key = key_meant(alloc, world, player, key)?;
-            Ok(locking(world, player, object, key))
+    match key_meant(alloc, world, player, text)? {
+        Some(key) => Ok(does(world, player, None, Deed::Lock { object, key })),
+        None => {
+            let bar = not_his(world, player, object, world.is_player(object));
+            Ok(unread(bar, Refusal::BadKey))
         }
-        Err(fault) => Ok(Verdict::Refused(unmatched(fault))),
-    }
-}
-
-pub(crate) fn unlock(world: &World, player: u32, text: &str) -> Verdict
-    ensures decision { result ≡ unlock world.now player text.now }
-    ensures lawful { IsLawful world.now (Some player) result }
-{
-    match local_match(world, player, text) {
-        Ok(object) => does(world, player, None, Deed::Unlock { object }),
-        Err(fault) => Verdict::Refused(unmatched(fault)),
     }
 }

@@ -1,6 +1,8 @@
 //! What is known of the definitions alone.
 
-ghost use Rattle.mud_rules.specs.Laws.{IsOneList, IsOneListOfMeetings, NoMatterWhatStandsIn};
+ghost use Rattle.mud_rules.specs.Laws.{IsOneList, IsOneListOfMeetings, IsBarredWhateverIsRead, AreMade};
+ghost use Rattle.std.specs.Prelude.{ℕ};
+ghost use Rattle.mud_world.specs.State.{State};
 
 /// A command's own tests and the conditions of its change are one list of refusals, tried by
 /// rising number.
@@ -13,8 +15,13 @@ pub fn one_list_of_meetings()
     ensures { IsOneListOfMeetings }
 {}
 
-/// Where a text of a line can't be read, it makes no difference to the refusal what stands in for
-/// what it should give.
-pub fn stand_ins()
-    ensures { NoMatterWhatStandsIn }
+/// Where a text of a line can't be read, the line is refused as it would be whatever the text were
+/// read as: by a lower condition of its change, or else for the text.
+pub fn whatever_is_read()
+    ensures { (w : State) (p : ℕ) → IsBarredWhateverIsRead w p }
+{}
+
+/// In a sound world a change that a line comes to is legal, and its names, keys and texts are such.
+pub fn made()
+    ensures { AreMade }
 {}

@@ -3,18 +3,15 @@
 ghost use Rattle.std.specs.Prelude.{◌≡◌, ℕ, Option, Some, IfOk};
 ghost use Rattle.mud_words.specs.Line.{line_of};
 ghost use Rattle.mud_rules.specs.Outcome.{IsLawful};
-ghost use Rattle.mud_rules.specs.Table.{connect_line, command, other_line, guest, decision, is_question};
+ghost use Rattle.mud_rules.specs.Table.{command, other_line, guest, decision, is_question};
 
 use crate::matching::{Likeness, Match, sole_like};
 use crate::moving::walk;
-use crate::naming::connect;
-use crate::outcome::{asked_journey, shaped};
+use crate::outcome::{asked_journey, asked_proof, shaped};
 use crate::rows::{
-    cost_line, create_line, dig_line, drop_line, give_line, go_line, key_line, lock_line,
-    look_line, meet_line, proof_line, put_line, recycle_line, rename_line, route_line, take_line,
-    unlock_line,
+    connect_line, create_line, dig_line, look_line, meet_line, pair_line, proof_line, route_line,
 };
-use crate::shapes::{first_of, is_bare, whole_of};
+use crate::shapes::{is_bare, whole_of};
 use crate::talking::{emote, say};
 use crate::verb::Verb;
 use crate::{Query, Verdict, View};
@@ -58,6 +55,7 @@ pub fn decide(
     }
 }
 
+// A verb alone, or with a text, or with a journey; any other verb has an object.
 fn command(
     alloc: Global,
     world: &World,
@@ -69,30 +67,20 @@ fn command(
     ensures lawful { IfOk result (IsLawful world.now (Some player)) }
 {
     match verb {
-        Verb::Connect => connect_line(alloc, world, parsed),
-        Verb::Look => look_line(alloc, world, player, parsed),
         Verb::Inventory => Ok(shaped(is_bare(parsed), Query::View(View::Inventory))),
-        Verb::Go => go_line(alloc, world, player, parsed),
-        Verb::Take => take_line(alloc, world, player, parsed),
-        Verb::Drop => drop_line(alloc, world, player, parsed),
-        Verb::Put => Ok(put_line(world, player, parsed)),
-        Verb::Give => Ok(give_line(world, player, parsed)),
-        Verb::Say => say(alloc, world, player, &parsed.rest),
-        Verb::Emote => emote(alloc, world, player, &parsed.rest),
-        Verb::Dig => dig_line(alloc, world, player, parsed),
-        Verb::Create => create_line(alloc, world, player, parsed),
-        Verb::Lock => lock_line(alloc, world, player, parsed),
-        Verb::Unlock => unlock_line(alloc, world, player, parsed),
-        Verb::Key => key_line(alloc, world, player, parsed),
-        Verb::Cost => Ok(cost_line(world, player, parsed)),
-        Verb::Rename => rename_line(alloc, world, player, parsed),
-        Verb::Recycle => recycle_line(alloc, world, player, parsed),
-        Verb::Route => Ok(asked_journey(route_line(world, player, parsed))),
-        Verb::Meet => Ok(asked_journey(meet_line(alloc, world, player, parsed)?)),
-        Verb::Proof => proof_line(alloc, world, player, parsed),
         Verb::Version => Ok(shaped(is_bare(parsed), Query::View(View::Version))),
         Verb::History => Ok(shaped(is_bare(parsed), Query::History)),
         Verb::Quit => Ok(shaped(is_bare(parsed), Query::View(View::Quit))),
+        Verb::Look => look_line(alloc, world, player, parsed),
+        Verb::Connect => connect_line(alloc, world, parsed),
+        Verb::Say => say(alloc, world, player, &parsed.rest),
+        Verb::Emote => emote(alloc, world, player, &parsed.rest),
+        Verb::Create => create_line(alloc, world, player, parsed),
+        Verb::Dig => dig_line(alloc, world, player, parsed),
+        Verb::Route => Ok(asked_journey(route_line(world, player, parsed))),
+        Verb::Meet => Ok(asked_journey(meet_line(alloc, world, player, parsed)?)),
+        Verb::Proof => Ok(asked_proof(proof_line(alloc, world, player, parsed)?)),
+        _ => pair_line(alloc, world, player, parsed, verb),
     }
 }
 
@@ -127,17 +115,5 @@ fn guest(
         Some(Verb::Connect) => connect_line(alloc, world, parsed),
         Some(Verb::Quit) => Ok(shaped(is_bare(parsed), Query::View(View::Quit))),
         _ => Ok(Verdict::Refused(Refusal::NotUnderstood)),
-    }
-}
-
-fn connect_line(alloc: Global, world: &World, parsed: &Parsed) -> Result<Verdict, AllocError>
-    ensures decision { IfOk result (λ v. v ≡ connect_line world.now (line_of parsed.now)) }
-    ensures lawful { (player : Option ℕ) → IfOk result (IsLawful world.now player) }
-{
-    let name = first_of(parsed);
-    if name.is_empty() {
-        Ok(Verdict::Refused(Refusal::NotUnderstood))
-    } else {
-        connect(alloc, world, name)
     }
 }

@@ -1,13 +1,12 @@
 //! Names in lines: making, renaming, connecting.
 
-ghost use Rattle.std.specs.Prelude.{◌≡◌, ℕ, [], ◌∷◌, Option, Some, IfOk, codes};
+ghost use Rattle.std.specs.Prelude.{◌≡◌, ℕ, Option, Some, IfOk};
 ghost use Rattle.mud_key.specs.Reading.{names_in, name_in};
 ghost use Rattle.mud_rules.specs.Outcome.{IsLawful};
-ghost use Rattle.mud_rules.specs.Commands.{create, renaming, rename, connecting, connect};
+ghost use Rattle.mud_rules.specs.Commands.{create, rename, connecting, connect};
 
 use crate::Verdict;
-use crate::matching::local_match;
-use crate::outcome::{does, outcome, unmatched};
+use crate::outcome::{does, no_player, not_his, outcome, unread};
 use mud_key::{Name, Names, NamesFault};
 use mud_world::{Change, Deed, Refusal, World};
 use std::alloc::{AllocError, Global};
@@ -34,16 +33,6 @@ fn name_in(alloc: Global, text: &str) -> Result<Option<Name>, AllocError>
     }
 }
 
-// What stands in for names that can't be read.
-pub(crate) fn names_x(alloc: Global) -> Result<Names, AllocError>
-    ensures { IfOk result (λ names. names ≡ codes "x" ∷ []) }
-{
-    match names_in(alloc, "x")? {
-        Some(names) => Ok(names),
-        None => unreachable!(),
-    }
-}
-
 pub(crate) fn create(
     alloc: Global,
     world: &World,
@@ -55,34 +44,7 @@ pub(crate) fn create(
 {
     match names_in(alloc, text)? {
         Some(names) => Ok(does(world, player, None, Deed::Make(names))),
-        None => {
-            let names = names_x(alloc)?;
-            Ok(does(world, player, Some(Refusal::BadName), Deed::Make(names)))
-        }
-    }
-}
-
-fn rename_object(
-    alloc: Global,
-    world: &World,
-    player: u32,
-    object: u32,
-    names: &str,
-) -> Result<Verdict, AllocError>
-    ensures decision { IfOk result (λ v. v ≡ renaming world.now player object names.now) }
-    ensures lawful { IfOk result (IsLawful world.now (Some player)) }
-{
-    match names_in(alloc, names)? {
-        Some(names) => Ok(does(world, player, None, Deed::Rename { object, names })),
-        None => {
-            let names = names_x(alloc)?;
-            Ok(does(
-                world,
-                player,
-                Some(Refusal::BadName),
-                Deed::Rename { object, names },
-            ))
-        }
+        None => Ok(unread(no_player(world, player), Refusal::BadName)),
     }
 }
 
@@ -90,15 +52,18 @@ pub(crate) fn rename(
     alloc: Global,
     world: &World,
     player: u32,
+    object: u32,
     text: &str,
-    names: &str,
 ) -> Result<Verdict, AllocError>
-    ensures decision { IfOk result (λ v. v ≡ rename world.now player text.now names.now) }
+    ensures decision { IfOk result (λ v. v ≡ rename world.now player object text.now) }
     ensures lawful { IfOk result (IsLawful world.now (Some player)) }
 {
-    match local_match(world, player, text) {
-        Ok(object) => rename_object(alloc, world, player, object, names),
-        Err(fault) => Ok(Verdict::Refused(unmatched(fault))),
+    match names_in(alloc, text)? {
+        Some(names) => Ok(does(world, player, None, Deed::Rename { object, names })),
+        None => {
+            let bar = not_his(world, player, object, false);
+            Ok(unread(bar, Refusal::BadName))
+        }
     }
 }
 

@@ -1,15 +1,15 @@
 //! How the refusals of a line come together.
 
-ghost use Rattle.std.specs.Prelude.{◌≡◌, ℕ, false, Option, Some, IfOk};
+ghost use Rattle.std.specs.Prelude.{◌≡◌, ℕ, nat_lt, false, Option, Some, IfOk, unwrap_or, if◌then◌else◌};
 ghost use Rattle.mud_world.specs.State.{State};
 ghost use Rattle.mud_world.specs.Legal.{refusal, is_arrival};
-ghost use Rattle.mud_world.specs.Refusals.{refused_if};
-ghost use Rattle.mud_rules.specs.Outcome.{IsActor, IsLawful, IsQuestion, IsJourney, outcome, does, unmatched, lesser_fault, both, shaped, asked};
+ghost use Rattle.mud_world.specs.Refusals.{number, refused_if};
+ghost use Rattle.mud_rules.specs.Outcome.{IsActor, IsLawful, IsQuestion, IsJourney, outcome, does, found, on_found, both, shaped, no_player, no_room, not_his};
 ghost use Rattle.mud_rules.specs.Commands.{kind_then_here};
 
-use crate::matching::{Match, local_match};
+use crate::matching::Match;
 use crate::{Journey, Query, Verdict};
-use mud_world::{Change, Deed, Refusal, World, lesser, refused_if};
+use mud_world::{Change, Deed, Refusal, Target, World, lesser, refused_if};
 
 fn refusal(world: &World, change: &Change) -> Option<Refusal>
     ensures { result ≡ refusal world.now change.now }
@@ -58,36 +58,38 @@ pub(crate) fn kind_then_here(kind: bool, here: bool) -> Option<Refusal>
     )
 }
 
-// The refusal of a text that means no object.
-pub(crate) fn unmatched(fault: Match) -> Refusal
-    ensures { result ≡ unmatched fault }
+// The object that was found, or the refusal of a text that means none.
+pub(crate) fn found(answer: Result<u32, Match>) -> Result<u32, Refusal>
+    ensures { result ≡ found answer }
 {
-    match fault {
-        Match::Nothing | Match::NoSuch => Refusal::NoSuch,
-        Match::Ambiguous => Refusal::Ambiguous,
+    match answer {
+        Ok(object) => Ok(object),
+        Err(Match::Nothing | Match::NoSuch) => Err(Refusal::NoSuch),
+        Err(Match::Ambiguous) => Err(Refusal::Ambiguous),
     }
 }
 
-fn lesser_fault(first: Match, second: Match) -> Match
-    ensures { result ≡ lesser_fault first second }
+fn lower(first: Refusal, second: Refusal) -> Refusal
+    ensures { result ≡ (if nat_lt (number second) (number first) then second else first) }
 {
-    match first {
-        Match::Nothing | Match::NoSuch => first,
-        Match::Ambiguous => second,
+    if second.number() < first.number() {
+        second
+    } else {
+        first
     }
 }
 
-// Two objects, where each text means one.
+// Two objects, where both were found.
 pub(crate) fn both(
-    first: Result<u32, Match>,
-    second: Result<u32, Match>,
-) -> Result<(u32, u32), Match>
+    first: Result<u32, Refusal>,
+    second: Result<u32, Refusal>,
+) -> Result<(u32, u32), Refusal>
     ensures { result ≡ both first second }
 {
     match (first, second) {
         (Ok(one), Ok(other)) => Ok((one, other)),
-        (Ok(_), Err(fault)) | (Err(fault), Ok(_)) => Err(fault),
-        (Err(first), Err(second)) => Err(lesser_fault(first, second)),
+        (Ok(_), Err(refusal)) | (Err(refusal), Ok(_)) => Err(refusal),
+        (Err(first), Err(second)) => Err(lower(first, second)),
     }
 }
 
@@ -105,7 +107,7 @@ pub(crate) fn shaped(fits: bool, query: Query) -> Verdict
 
 // A journey that is asked for, or its refusal.
 pub(crate) fn asked_journey(found: Result<Journey, Refusal>) -> Verdict
-    ensures decision { result ≡ asked Query.Journey found }
+    ensures decision { result ≡ on_found found (λ journey. Verdict.Ask (Query.Journey journey)) }
     ensures lawful { (w : State) (player : Option ℕ) → IfOk found (IsJourney w)
         → IsLawful w player result }
 {
@@ -117,12 +119,77 @@ pub(crate) fn asked_journey(found: Result<Journey, Refusal>) -> Verdict
 
 // A journey whose proof is asked for, or its refusal.
 pub(crate) fn asked_proof(found: Result<Journey, Refusal>) -> Verdict
-    ensures decision { result ≡ asked Query.Proof found }
+    ensures decision { result ≡ on_found found (λ journey. Verdict.Ask (Query.Proof journey)) }
     ensures lawful { (w : State) (player : Option ℕ) → IfOk found (IsJourney w)
         → IsLawful w player result }
 {
     match found {
         Ok(journey) => Verdict::Ask(Query::Proof(journey)),
         Err(refusal) => Verdict::Refused(refusal),
+    }
+}
+
+// What is done with what a line gives, or its refusal.
+macro_rules! on_found {
+    ($found:expr, $object:ident => $meaning:expr) => {
+        match $found {
+            Ok($object) => $meaning,
+            Err(refusal) => Ok(Verdict::Refused(refusal)),
+        }
+    };
+}
+
+pub(crate) use on_found;
+
+// The refusal of a text that can't be read: what bars the player already, or its own.
+pub(crate) fn unread(bar: Option<Refusal>, own: Refusal) -> Verdict
+    ensures { result ≡ Verdict.Refused (unwrap_or bar own) }
+{
+    Verdict::Refused(bar.unwrap_or(own))
+}
+
+// What bars a player whatever he does.
+pub(crate) fn no_player(world: &World, player: u32) -> Option<Refusal>
+    ensures { result ≡ no_player world.now player }
+{
+    if !world.exists(player) {
+        Some(Refusal::NoSuch)
+    } else if !world.is_player(player) {
+        Some(Refusal::WrongKind)
+    } else {
+        None
+    }
+}
+
+// What bars a player from digging to an old room.
+pub(crate) fn no_room(world: &World, player: u32, target: &Target) -> Option<Refusal>
+    ensures { result ≡ no_room world.now player target.now }
+{
+    match target {
+        Target::New(_) => no_player(world, player),
+        Target::Old(room) => {
+            if !world.exists(player) || !world.exists(*room) {
+                Some(Refusal::NoSuch)
+            } else if !world.is_player(player) || !world.is_room(*room) {
+                Some(Refusal::WrongKind)
+            } else {
+                None
+            }
+        }
+    }
+}
+
+// What bars a player from a change of an object.
+pub(crate) fn not_his(world: &World, player: u32, object: u32, wrong_kind: bool) -> Option<Refusal>
+    ensures { result ≡ not_his world.now player object wrong_kind }
+{
+    if !world.exists(player) || !world.exists(object) {
+        Some(Refusal::NoSuch)
+    } else if !world.is_player(player) || wrong_kind {
+        Some(Refusal::WrongKind)
+    } else if !world.owns(player, object) {
+        Some(Refusal::Denied)
+    } else {
+        None
     }
 }

@@ -47,7 +47,7 @@ pub fn reply_text(alloc: Global, world: &World, change: &Change) -> Result<Strin
         Deed::Unlock { object } => about(alloc, "unlocked #", *object),
         Deed::Move { thing, to } => move_text(alloc, world, change.actor, *thing, *to),
         Deed::Walk { exit } => walk_text(alloc, world, *exit),
-        Deed::Cost { exit, cost } => cost_text(alloc, *exit, *cost),
+        Deed::Cost { exit, cost } => about_two(alloc, "cost of #", *exit, " is ", *cost),
         Deed::Rename { object, .. } => about(alloc, "renamed #", *object),
         Deed::Recycle { object } => about(alloc, "recycled #", *object),
         Deed::Say(_) => String::from_str(alloc, "said"),
@@ -70,12 +70,20 @@ fn about(alloc: Global, words: &str, number: u32) -> Result<String, AllocError>
     Ok(format!(in alloc; "{words}{number}")?)
 }
 
-// An exit, and the exit back.
-fn two_exits_text(alloc: Global, out: u32, back: u32) -> Result<String, AllocError>
+// The same twice.
+fn about_two(
+    alloc: Global,
+    words: &str,
+    number: u32,
+    more: &str,
+    other: u32,
+) -> Result<String, AllocError>
     ensures { IfOk result (λ text. string_bytes text
-        ≡ codes "exit #" ++ decimal out ++ codes ", exit back #" ++ decimal back) }
+        ≡ words.now ++ decimal number ++ more.now ++ decimal other) }
 {
-    Ok(format!(in alloc; "exit #{out}, exit back #{back}")?)
+    let mut text = about(alloc, words, number)?;
+    text.push_str(&about(alloc, more, other)?)?;
+    Ok(text)
 }
 
 fn exits_text(alloc: Global, number: u32, doors: &Doors) -> Result<String, AllocError>
@@ -83,8 +91,8 @@ fn exits_text(alloc: Global, number: u32, doors: &Doors) -> Result<String, Alloc
     ensures { IfOk result (λ text. string_bytes text ≡ exits_text number doors.now) }
 {
     match &doors.back {
-        Some(_) => two_exits_text(alloc, number, number + 1),
-        None => format!(in alloc; "exit #{number}"),
+        Some(_) => about_two(alloc, "exit #", number, ", exit back #", number + 1),
+        None => about(alloc, "exit #", number),
     }
 }
 
@@ -106,7 +114,7 @@ fn dug_text(
     ensures { IfOk result (λ text. string_bytes text ≡ dug_text number target.now doors.now) }
 {
     match (target, doors) {
-        (Target::New(_), None) => format!(in alloc; "room #{number}"),
+        (Target::New(_), None) => about(alloc, "room #", number),
         (Target::New(_), Some(doors)) => {
             let exits = exits_text(alloc, number + 1, doors)?;
             room_and_text(alloc, number, &exits)
@@ -154,13 +162,13 @@ fn move_text(
     ensures { IfOk result (λ text. string_bytes text ≡ move_text world.now actor thing to) }
 {
     if to == actor {
-        format!(in alloc; "taken #{thing}")
+        about(alloc, "taken #", thing)
     } else if world.is_in(actor, to) {
-        format!(in alloc; "dropped #{thing}")
+        about(alloc, "dropped #", thing)
     } else if world.is_thing(to) {
-        Ok(format!(in alloc; "put #{thing} in #{to}")?)
+        about_two(alloc, "put #", thing, " in #", to)
     } else {
-        Ok(format!(in alloc; "gave #{thing} to #{to}")?)
+        about_two(alloc, "gave #", thing, " to #", to)
     }
 }
 
@@ -173,12 +181,5 @@ fn walk_text(alloc: Global, world: &World, exit: u32) -> Result<String, AllocErr
         Some(passage) => passage.destination,
         None => 0,
     };
-    Ok(format!(in alloc; "went by #{exit} to #{room}")?)
-}
-
-fn cost_text(alloc: Global, exit: u32, cost: u32) -> Result<String, AllocError>
-    ensures { IfOk result (λ text. string_bytes text
-        ≡ codes "cost of #" ++ decimal exit ++ codes " is " ++ decimal cost) }
-{
-    Ok(format!(in alloc; "cost of #{exit} is {cost}")?)
+    about_two(alloc, "went by #", exit, " to #", room)
 }

@@ -1,24 +1,44 @@
-//! The rows of the table: a line of each verb, its shape and what it comes to.
+//! The rows of the table.
 
-ghost use Rattle.std.specs.Prelude.{◌≡◌, Some, IfOk};
+ghost use Rattle.std.specs.Prelude.{◌≡◌, ℕ, Option, Some, IfOk};
 ghost use Rattle.mud_words.specs.Line.{line_of};
-ghost use Rattle.mud_rules.specs.Outcome.{IsLawful, IsJourney};
-ghost use Rattle.mud_rules.specs.Table.{dig_room_line, route_line, meet_line, journey_line, command};
+ghost use Rattle.mud_words.specs.Parse.{parsed as parsed_line};
+ghost use Rattle.mud_rules.specs.Outcome.{IsLawful, IsJourney, on_found};
+ghost use Rattle.mud_rules.specs.Commands.{dig_room};
+ghost use Rattle.mud_rules.specs.Shapes.{text_behind};
+ghost use Rattle.mud_rules.specs.Table.{command, pair_line, object_line, of_object, connect_line, look_line, dig_line, route_line, meet_line, journey_line};
 
-use crate::asking::{key_question, look_at};
-use crate::building::{cost, recycle};
+use crate::building::cost;
 use crate::digging::{dig_exits, dig_room, has_empty_side};
+use crate::given::{object_before, object_behind, object_named, objects_round, text_behind};
 use crate::journeys::{meet, route};
-use crate::keys::{lock, unlock};
-use crate::moving::{drop_down, give, go, put, take_up};
-use crate::naming::{create, rename};
-use crate::outcome::asked_proof;
-use crate::shapes::{all_of, is_aimed, is_bare, is_pair, looked_text};
+use crate::keys::lock;
+use crate::moving::{drop_down, give, put};
+use crate::naming::{connect, create, rename};
+use crate::outcome::{does, on_found};
+use crate::shapes::{all_of, first_of, is_aimed, is_bare, is_pair, looked_text};
 use crate::verb::Verb;
 use crate::{Journey, Query, Verdict, View};
-use mud_words::{Parsed, Prep, parse};
-use mud_world::{Refusal, World};
+use mud_words::Prep::{In, Is, To, With};
+use mud_words::{Parsed, parse};
+use mud_world::{Deed, Refusal, World};
 use std::alloc::{AllocError, Global};
+
+pub(crate) fn connect_line(
+    alloc: Global,
+    world: &World,
+    parsed: &Parsed,
+) -> Result<Verdict, AllocError>
+    ensures decision { IfOk result (λ v. v ≡ connect_line world.now (line_of parsed.now)) }
+    ensures lawful { (player : Option ℕ) → IfOk result (IsLawful world.now player) }
+{
+    let name = first_of(parsed);
+    if name.is_empty() {
+        Ok(Verdict::Refused(Refusal::NotUnderstood))
+    } else {
+        connect(alloc, world, name)
+    }
+}
 
 pub(crate) fn look_line(
     alloc: Global,
@@ -26,95 +46,15 @@ pub(crate) fn look_line(
     player: u32,
     parsed: &Parsed,
 ) -> Result<Verdict, AllocError>
-    ensures decision { IfOk result (λ v. v
-        ≡ command world.now player (line_of parsed.now) Verb.Look) }
+    ensures decision { IfOk result (λ v. v ≡ look_line world.now player (line_of parsed.now)) }
     ensures lawful { IfOk result (IsLawful world.now (Some player)) }
 {
     if is_bare(parsed) {
         return Ok(Verdict::Ask(Query::View(View::Look)));
     }
     let text = looked_text(alloc, parsed)?;
-    if text.is_empty() {
-        Ok(Verdict::Refused(Refusal::NotUnderstood))
-    } else {
-        Ok(look_at(world, player, &text))
-    }
-}
-
-pub(crate) fn go_line(
-    alloc: Global,
-    world: &World,
-    player: u32,
-    parsed: &Parsed,
-) -> Result<Verdict, AllocError>
-    ensures decision { IfOk result (λ v. v
-        ≡ command world.now player (line_of parsed.now) Verb.Go) }
-    ensures lawful { IfOk result (IsLawful world.now (Some player)) }
-{
-    let text = all_of(alloc, parsed)?;
-    if text.is_empty() {
-        Ok(Verdict::Refused(Refusal::NotUnderstood))
-    } else {
-        Ok(go(world, player, &text))
-    }
-}
-
-pub(crate) fn take_line(
-    alloc: Global,
-    world: &World,
-    player: u32,
-    parsed: &Parsed,
-) -> Result<Verdict, AllocError>
-    ensures decision { IfOk result (λ v. v
-        ≡ command world.now player (line_of parsed.now) Verb.Take) }
-    ensures lawful { IfOk result (IsLawful world.now (Some player)) }
-{
-    let text = all_of(alloc, parsed)?;
-    if text.is_empty() {
-        Ok(Verdict::Refused(Refusal::NotUnderstood))
-    } else {
-        Ok(take_up(world, player, &text))
-    }
-}
-
-pub(crate) fn drop_line(
-    alloc: Global,
-    world: &World,
-    player: u32,
-    parsed: &Parsed,
-) -> Result<Verdict, AllocError>
-    ensures decision { IfOk result (λ v. v
-        ≡ command world.now player (line_of parsed.now) Verb.Drop) }
-    ensures lawful { IfOk result (IsLawful world.now (Some player)) }
-{
-    let text = all_of(alloc, parsed)?;
-    if text.is_empty() {
-        Ok(Verdict::Refused(Refusal::NotUnderstood))
-    } else {
-        Ok(drop_down(world, player, &text))
-    }
-}
-
-pub(crate) fn put_line(world: &World, player: u32, parsed: &Parsed) -> Verdict
-    ensures decision { result ≡ command world.now player (line_of parsed.now) Verb.Put }
-    ensures lawful { IsLawful world.now (Some player) result }
-{
-    if is_pair(Prep::In, parsed) {
-        put(world, player, &parsed.direct, &parsed.indirect)
-    } else {
-        Verdict::Refused(Refusal::NotUnderstood)
-    }
-}
-
-pub(crate) fn give_line(world: &World, player: u32, parsed: &Parsed) -> Verdict
-    ensures decision { result ≡ command world.now player (line_of parsed.now) Verb.Give }
-    ensures lawful { IsLawful world.now (Some player) result }
-{
-    if is_pair(Prep::To, parsed) {
-        give(world, player, &parsed.direct, &parsed.indirect)
-    } else {
-        Verdict::Refused(Refusal::NotUnderstood)
-    }
+    let found = object_named(world, player, &text);
+    on_found!(found, x => Ok(Verdict::Ask(Query::View(View::LookAt(x)))))
 }
 
 fn dig_room_line(
@@ -123,15 +63,10 @@ fn dig_room_line(
     player: u32,
     parsed: &Parsed,
 ) -> Result<Verdict, AllocError>
-    ensures decision { IfOk result (λ v. v ≡ dig_room_line world.now player (line_of parsed.now)) }
+    ensures decision { IfOk result (λ v. v ≡ on_found (text_behind (line_of parsed.now)) (dig_room world.now player)) }
     ensures lawful { IfOk result (IsLawful world.now (Some player)) }
 {
-    let text = all_of(alloc, parsed)?;
-    if text.is_empty() {
-        Ok(Verdict::Refused(Refusal::NotUnderstood))
-    } else {
-        dig_room(alloc, world, player, &text)
-    }
+    on_found!(text_behind(alloc, parsed)?, text => dig_room(alloc, world, player, &text))
 }
 
 pub(crate) fn dig_line(
@@ -140,13 +75,12 @@ pub(crate) fn dig_line(
     player: u32,
     parsed: &Parsed,
 ) -> Result<Verdict, AllocError>
-    ensures decision { IfOk result (λ v. v
-        ≡ command world.now player (line_of parsed.now) Verb.Dig) }
+    ensures decision { IfOk result (λ v. v ≡ dig_line world.now player (line_of parsed.now)) }
     ensures lawful { IfOk result (IsLawful world.now (Some player)) }
 {
     if parsed.prep.is_none() {
         dig_room_line(alloc, world, player, parsed)
-    } else if is_pair(Prep::To, parsed) && !has_empty_side(&parsed.direct) {
+    } else if is_pair(To, parsed) && !has_empty_side(&parsed.direct) {
         dig_exits(alloc, world, player, &parsed.direct, &parsed.indirect)
     } else {
         Ok(Verdict::Refused(Refusal::NotUnderstood))
@@ -163,110 +97,71 @@ pub(crate) fn create_line(
         ≡ command world.now player (line_of parsed.now) Verb.Create) }
     ensures lawful { IfOk result (IsLawful world.now (Some player)) }
 {
-    let text = all_of(alloc, parsed)?;
-    if text.is_empty() {
-        Ok(Verdict::Refused(Refusal::NotUnderstood))
-    } else {
-        create(alloc, world, player, &text)
-    }
+    on_found!(text_behind(alloc, parsed)?, text => create(alloc, world, player, &text))
 }
 
-pub(crate) fn lock_line(
+// A verb with two objects, or an object and a text, round a preposition.
+pub(crate) fn pair_line(
     alloc: Global,
     world: &World,
     player: u32,
     parsed: &Parsed,
+    verb: Verb,
 ) -> Result<Verdict, AllocError>
-    ensures decision { IfOk result (λ v. v
-        ≡ command world.now player (line_of parsed.now) Verb.Lock) }
+    ensures decision { IfOk result (λ v. v ≡ pair_line world.now player (line_of parsed.now) verb) }
     ensures lawful { IfOk result (IsLawful world.now (Some player)) }
 {
-    if is_pair(Prep::With, parsed) {
-        lock(alloc, world, player, &parsed.direct, &parsed.indirect)
-    } else {
-        Ok(Verdict::Refused(Refusal::NotUnderstood))
+    let text = parsed.indirect.as_str();
+    match verb {
+        Verb::Put =>
+            on_found!(objects_round(In, world, player, parsed), o => Ok(put(world, player, o))),
+        Verb::Give =>
+            on_found!(objects_round(To, world, player, parsed), o => Ok(give(world, player, o))),
+        Verb::Lock =>
+            on_found!(object_before(With, world, player, parsed), x => lock(alloc, world, player, x, text)),
+        Verb::Cost =>
+            on_found!(object_before(Is, world, player, parsed), x => Ok(cost(world, player, x, text))),
+        Verb::Rename =>
+            on_found!(object_before(To, world, player, parsed), x => rename(alloc, world, player, x, text)),
+        _ => object_line(alloc, world, player, parsed, verb),
     }
 }
 
-pub(crate) fn unlock_line(
+// A verb with an object behind it.
+fn object_line(
     alloc: Global,
     world: &World,
     player: u32,
     parsed: &Parsed,
+    verb: Verb,
 ) -> Result<Verdict, AllocError>
-    ensures decision { IfOk result (λ v. v
-        ≡ command world.now player (line_of parsed.now) Verb.Unlock) }
+    ensures decision { IfOk result (λ v. v ≡ object_line world.now player (line_of parsed.now) verb) }
     ensures lawful { IfOk result (IsLawful world.now (Some player)) }
 {
-    let text = all_of(alloc, parsed)?;
-    if text.is_empty() {
-        Ok(Verdict::Refused(Refusal::NotUnderstood))
-    } else {
-        Ok(unlock(world, player, &text))
-    }
+    on_found!(object_behind(alloc, world, player, parsed)?, x => Ok(of_object(world, player, verb, x)))
 }
 
-pub(crate) fn key_line(
-    alloc: Global,
-    world: &World,
-    player: u32,
-    parsed: &Parsed,
-) -> Result<Verdict, AllocError>
-    ensures decision { IfOk result (λ v. v
-        ≡ command world.now player (line_of parsed.now) Verb.Key) }
-    ensures lawful { IfOk result (IsLawful world.now (Some player)) }
-{
-    let text = all_of(alloc, parsed)?;
-    if text.is_empty() {
-        Ok(Verdict::Refused(Refusal::NotUnderstood))
-    } else {
-        Ok(key_question(world, player, &text))
-    }
-}
-
-pub(crate) fn cost_line(world: &World, player: u32, parsed: &Parsed) -> Verdict
-    ensures decision { result ≡ command world.now player (line_of parsed.now) Verb.Cost }
+// What is done with the object behind a verb.
+fn of_object(world: &World, player: u32, verb: Verb, object: u32) -> Verdict
+    ensures decision { result ≡ of_object world.now player verb object }
     ensures lawful { IsLawful world.now (Some player) result }
 {
-    if is_pair(Prep::Is, parsed) {
-        cost(world, player, &parsed.direct, &parsed.indirect)
-    } else {
-        Verdict::Refused(Refusal::NotUnderstood)
-    }
-}
-
-pub(crate) fn rename_line(
-    alloc: Global,
-    world: &World,
-    player: u32,
-    parsed: &Parsed,
-) -> Result<Verdict, AllocError>
-    ensures decision { IfOk result (λ v. v
-        ≡ command world.now player (line_of parsed.now) Verb.Rename) }
-    ensures lawful { IfOk result (IsLawful world.now (Some player)) }
-{
-    if is_pair(Prep::To, parsed) {
-        rename(alloc, world, player, &parsed.direct, &parsed.indirect)
-    } else {
-        Ok(Verdict::Refused(Refusal::NotUnderstood))
-    }
-}
-
-pub(crate) fn recycle_line(
-    alloc: Global,
-    world: &World,
-    player: u32,
-    parsed: &Parsed,
-) -> Result<Verdict, AllocError>
-    ensures decision { IfOk result (λ v. v
-        ≡ command world.now player (line_of parsed.now) Verb.Recycle) }
-    ensures lawful { IfOk result (IsLawful world.now (Some player)) }
-{
-    let text = all_of(alloc, parsed)?;
-    if text.is_empty() {
-        Ok(Verdict::Refused(Refusal::NotUnderstood))
-    } else {
-        Ok(recycle(world, player, &text))
+    match verb {
+        Verb::Key => Verdict::Ask(Query::View(View::KeyOf(object))),
+        Verb::Go => does(world, player, None, Deed::Walk { exit: object }),
+        Verb::Take => does(
+            world,
+            player,
+            None,
+            Deed::Move {
+                thing: object,
+                to: player,
+            },
+        ),
+        Verb::Drop => drop_down(world, player, object),
+        Verb::Unlock => does(world, player, None, Deed::Unlock { object }),
+        Verb::Recycle => does(world, player, None, Deed::Recycle { object }),
+        _ => Verdict::Refused(Refusal::NotUnderstood),
     }
 }
 
@@ -274,7 +169,7 @@ pub(crate) fn route_line(world: &World, player: u32, parsed: &Parsed) -> Result<
     ensures decision { result ≡ route_line world.now player (line_of parsed.now) }
     ensures lawful { IfOk result (IsJourney world.now) }
 {
-    if is_aimed(Prep::To, parsed) {
+    if is_aimed(To, parsed) {
         route(world, player, &parsed.indirect)
     } else {
         Err(Refusal::NotUnderstood)
@@ -317,17 +212,17 @@ fn journey_line(
     }
 }
 
+// The journey whose proof a line asks for.
 pub(crate) fn proof_line(
     alloc: Global,
     world: &World,
     player: u32,
     parsed: &Parsed,
-) -> Result<Verdict, AllocError>
-    ensures decision { IfOk result (λ v. v
-        ≡ command world.now player (line_of parsed.now) Verb.Proof) }
-    ensures lawful { IfOk result (IsLawful world.now (Some player)) }
+) -> Result<Result<Journey, Refusal>, AllocError>
+    ensures decision { IfOk result (λ journey. journey
+        ≡ journey_line world.now player (parsed_line (line_of parsed.now).rest)) }
+    ensures lawful { IfOk result (λ journey. IfOk journey (IsJourney world.now)) }
 {
     let line = parse(alloc, &parsed.rest)?;
-    let journey = journey_line(alloc, world, player, &line)?;
-    Ok(asked_proof(journey))
+    journey_line(alloc, world, player, &line)
 }

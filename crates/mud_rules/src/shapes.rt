@@ -67,7 +67,7 @@ pub(crate) fn looked_text(alloc: Global, parsed: &Parsed) -> Result<String, Allo
 
 // The word after the verb, or the empty text.
 pub(crate) fn first_of(parsed: &Parsed) -> &str
-    ensures { result.now ≡ first_of (line_of parsed.now).args }
+    ensures { result.now ≡ first_of (line_of parsed.now) }
 {
     match parsed.args.first() {
         Some(word) => word.as_str(),

@@ -1,23 +1,13 @@
 //! Talking.
 
-ghost use Rattle.std.specs.Prelude.{◌≡◌, Some, IfOk, codes};
+ghost use Rattle.std.specs.Prelude.{◌≡◌, Some, IfOk};
 ghost use Rattle.mud_rules.specs.Outcome.{IsLawful};
-ghost use Rattle.mud_rules.specs.Commands.{say, emote};
+ghost use Rattle.mud_rules.specs.Commands.{talk};
 
 use crate::Verdict;
-use crate::outcome::does;
+use crate::outcome::{does, no_player, unread};
 use mud_world::{Deed, Refusal, Speech, World};
 use std::alloc::{AllocError, Global};
-
-// What stands in for a text that can't be said.
-fn speech_x(alloc: Global) -> Result<Speech, AllocError>
-    ensures { IfOk result (λ speech. speech ≡ codes "x") }
-{
-    match Speech::read(alloc, "x")? {
-        Some(speech) => Ok(speech),
-        None => unreachable!(),
-    }
-}
 
 pub(crate) fn say(
     alloc: Global,
@@ -25,15 +15,12 @@ pub(crate) fn say(
     player: u32,
     text: &str,
 ) -> Result<Verdict, AllocError>
-    ensures decision { IfOk result (λ v. v ≡ say world.now player text.now) }
+    ensures decision { IfOk result (λ v. v ≡ talk world.now player Deed.Say text.now) }
     ensures lawful { IfOk result (IsLawful world.now (Some player)) }
 {
     match Speech::read(alloc, text)? {
         Some(speech) => Ok(does(world, player, None, Deed::Say(speech))),
-        None => {
-            let speech = speech_x(alloc)?;
-            Ok(does(world, player, Some(Refusal::BadName), Deed::Say(speech)))
-        }
+        None => Ok(unread(no_player(world, player), Refusal::BadName)),
     }
 }
 
@@ -43,14 +30,11 @@ pub(crate) fn emote(
     player: u32,
     text: &str,
 ) -> Result<Verdict, AllocError>
-    ensures decision { IfOk result (λ v. v ≡ emote world.now player text.now) }
+    ensures decision { IfOk result (λ v. v ≡ talk world.now player Deed.Emote text.now) }
     ensures lawful { IfOk result (IsLawful world.now (Some player)) }
 {
     match Speech::read(alloc, text)? {
         Some(speech) => Ok(does(world, player, None, Deed::Emote(speech))),
-        None => {
-            let speech = speech_x(alloc)?;
-            Ok(does(world, player, Some(Refusal::BadName), Deed::Emote(speech)))
-        }
+        None => Ok(unread(no_player(world, player), Refusal::BadName)),
     }
 }

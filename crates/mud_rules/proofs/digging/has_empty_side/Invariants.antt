@@ -1,6 +1,8 @@
-use Rattle.std.proofs.Common.{◌≡◌, drop, true}
-use Rattle.mud_rules.specs.Shapes.{empty_side}
+use Rattle.std.proofs.Common.{◌≡◌, drop}
+use Rattle.mud_rules.specs.Shapes.{has_empty_side}
+use Rattle.mud_rules.proofs.Sides.{empty_side}
 use Rattle.mud_rules.proofs.digging.has_empty_side.Given as goal
 
+-- what is left of the text has the answer of the whole
 abbrev pub invariant-loop-byte : goal.invariant-loop-byte
-invariant-loop-byte l = empty_side l.fresh (drop l.byte-index l.byte-items) ≡ empty_side true l.text
+invariant-loop-byte l = empty_side l.fresh (drop l.byte-index l.byte-items) ≡ has_empty_side l.text

@@ -1,0 +1,88 @@
+//! What a line gives to its command: a text, an object or two; or the refusal of its shape.
+
+ghost use Rattle.std.specs.Prelude.{◌≡◌, IfOk, string_bytes};
+ghost use Rattle.std.specs.Result.{result_map_both};
+ghost use Rattle.mud_words.specs.Line.{line_of};
+ghost use Rattle.mud_rules.specs.Shapes.{text_behind, object_named, object_behind, object_before, objects_round};
+
+use crate::matching::local_match;
+use crate::outcome::{both, found};
+use crate::shapes::{all_of, is_pair};
+use mud_words::{Parsed, Prep};
+use mud_world::{Refusal, World};
+use std::alloc::{AllocError, Global};
+
+// The text behind the verb.
+pub(crate) fn text_behind(
+    alloc: Global,
+    parsed: &Parsed,
+) -> Result<Result<String, Refusal>, AllocError>
+    ensures { IfOk result (λ text. result_map_both string_bytes (λ f. f) text
+        ≡ text_behind (line_of parsed.now)) }
+{
+    let text = all_of(alloc, parsed)?;
+    if text.is_empty() {
+        Ok(Err(Refusal::NotUnderstood))
+    } else {
+        Ok(Ok(text))
+    }
+}
+
+// The object that a text means.
+pub(crate) fn object_named(world: &World, player: u32, text: &str) -> Result<u32, Refusal>
+    ensures { result ≡ object_named world.now player text.now }
+{
+    if text.is_empty() {
+        Err(Refusal::NotUnderstood)
+    } else {
+        found(local_match(world, player, text))
+    }
+}
+
+// The object that the text behind the verb means.
+pub(crate) fn object_behind(
+    alloc: Global,
+    world: &World,
+    player: u32,
+    parsed: &Parsed,
+) -> Result<Result<u32, Refusal>, AllocError>
+    ensures { IfOk result (λ object. object ≡ object_behind world.now player (line_of parsed.now)) }
+{
+    let text = all_of(alloc, parsed)?;
+    Ok(object_named(world, player, &text))
+}
+
+// The object before a preposition, of two texts with it between them.
+pub(crate) fn object_before(
+    prep: Prep,
+    world: &World,
+    player: u32,
+    parsed: &Parsed,
+) -> Result<u32, Refusal>
+    ensures { result ≡ object_before prep world.now player (line_of parsed.now) }
+{
+    if is_pair(prep, parsed) {
+        found(local_match(world, player, &parsed.direct))
+    } else {
+        Err(Refusal::NotUnderstood)
+    }
+}
+
+// The objects round a preposition.
+pub(crate) fn objects_round(
+    prep: Prep,
+    world: &World,
+    player: u32,
+    parsed: &Parsed,
+) -> Result<(u32, u32), Refusal>
+    ensures { result ≡ objects_round prep world.now player (line_of parsed.now) }
+{
+    if is_pair(prep, parsed) {
+        both(
+            found(local_match(world, player, &parsed.direct)),
+            found(local_match(world, player, &parsed.indirect)),
+        )
+    } else {
+        Err(Refusal::NotUnderstood)
+    }
+}

@@ -11,10 +11,9 @@ use Rattle.std.proofs.lemmas.List.Quantifiers.{all_pairs_push}
 use Rattle.mud_roads.specs.declared.label.Label.{Label}
 use Rattle.mud_roads.specs.declared.label.Step.{Step}
 use Rattle.mud_cert.specs.Certificate.{Account, IsNumber, IsEntry}
-use Rattle.mud_search.specs.Least.{label_in}
-use Rattle.mud_guide.specs.declared.journey.Journey.{Journey}
+use Rattle.mud_guide.specs.Journeys.{Journey}
 use Rattle.mud_guide.specs.Ways.{exits_of}
-use Rattle.mud_guide.specs.Accounts.{AreEntries, IsListed}
+use Rattle.mud_guide.specs.Listings.{AreEntries, IsListed}
 use Rattle.mud_guide.proofs.Lowest.{some-inj}
 
 abbrev Entry : Type 0
@@ -76,19 +75,19 @@ exits-limits next way walk few inside is =
     go (Some ss) h = All-map IsNumber (λ (s : Step). s.exit) ss (λ k d lt. omega (arith, h k d lt))
 
 -- one more of the accounts
-pub listed-push : (labels : List (List (Option Label))) (next : ℕ) (js : List Journey) (es : List Account) (n : ℕ) (e : Account) → length es ≡ n
-    → ((m : ℕ) (j : Journey) (a : Account) → m < length es → IsListed (label_in labels m) next (get_or js m j) (get_or es m a))
-    → ((j : Journey) → IsListed (label_in labels n) next (get_or js n j) e)
-    → (m : ℕ) (j : Journey) (a : Account) → m < length (es ++ e ∷ []) → IsListed (label_in labels m) next (get_or js m j) (get_or (es ++ e ∷ []) m a)
+pub listed-push : (labels : ℕ → ℕ → Option Label) (next : ℕ) (js : List Journey) (es : List Account) (n : ℕ) (e : Account) → length es ≡ n
+    → ((m : ℕ) (j : Journey) (a : Account) → m < length es → IsListed (labels m) next (get_or js m j) (get_or es m a))
+    → ((j : Journey) → IsListed (labels n) next (get_or js n j) e)
+    → (m : ℕ) (j : Journey) (a : Account) → m < length (es ++ e ∷ []) → IsListed (labels m) next (get_or js m j) (get_or (es ++ e ∷ []) m a)
 listed-push labels next js es n e long each last m j a h =
     elim (cases_eq m n) [
       | inl same ↦
-          let P : ℕ → Type 0 = λ i. IsListed (label_in labels i) next (get_or js i j) (get_or (es ++ e ∷ []) i a) in
-          let Q : Account → Type 0 = λ x. IsListed (label_in labels n) next (get_or js n j) x in
+          let P : ℕ → Type 0 = λ i. IsListed (labels i) next (get_or js i j) (get_or (es ++ e ∷ []) i a) in
+          let Q : Account → Type 0 = λ x. IsListed (labels n) next (get_or js n j) x in
           let at : get_or (es ++ e ∷ []) n a ≡ e = ap (λ (i : ℕ). get_or (es ++ e ∷ []) i a) (sym long) ∙ get_or-append_seam es e [] a in
           subst P (sym same) (subst Q (sym at) (last j))
       | inr apart ↦
           let inside : m < length es = omega (arith, length_push es e) in
-          let Q : Account → Type 0 = λ x. IsListed (label_in labels m) next (get_or js m j) x in
+          let Q : Account → Type 0 = λ x. IsListed (labels m) next (get_or js m j) x in
           subst Q (sym (get_or_append_left es (e ∷ []) a m inside)) (each m j a inside)
     ]

@@ -12,15 +12,16 @@ use Rattle.mud_roads.specs.declared.label.Label.{Label}
 use Rattle.mud_world.specs.State.{State}
 use Rattle.mud_world.specs.Sound.{IsSound}
 use Rattle.mud_roads.specs.Walks.{IsLeast, Least, Goer, Gathers}
-use Rattle.mud_roads.specs.Open.{Knowledge, IsTraveller, roads_of, goer}
+use Rattle.mud_roads.specs.Open.{Knowledge, known, IsTraveller, roads_of, goer}
 use Rattle.mud_world.specs.State.{is_room}
 use Rattle.std.specs.Prelude.{IsTrue}
 use Rattle.mud_roads.proofs.Roads.{room-below, traveller-room}
 use Rattle.mud_guide.proofs.Shown.{walk-room}
 use Rattle.mud_roads.proofs.Routes.{least-one}
-use Rattle.mud_search.specs.Least.{label_in, AreLeast}
+use Rattle.mud_search.specs.Least.{AreLeast}
 use Rattle.mud_cert.specs.declared.cert.Meeting.{Meeting}
-use Rattle.mud_guide.specs.Meetings.{IsGreatest, IsBest, NoneGather, lesser, BestSoFar, IsPlace}
+use Rattle.mud_guide.specs.Meetings.{IsPlace}
+use Rattle.mud_guide.specs.Gatherings.{IsGreatest, IsBest, NoneGather, lesser, BestSoFar}
 use Rattle.mud_guide.proofs.Lowest.{some-inj}
 
 pub greatest-none : (labels : ℕ → Option Label) (members m cost : ℕ) → m < members → labels m ≡ None → IsGreatest labels members cost → ⊥
@@ -59,12 +60,12 @@ greatest-most labels n c d a b = elim a.one [
       omega (arith, other.1.1, some.1.1.1.1, ap (λ (l : Label). l.cost) same)
 ]
 
-pub best-skip : (labels : List (List (Option Label))) (members room : ℕ) (best : Option Meeting) → BestSoFar labels members room best
-    → ((cost : ℕ) → IsGreatest (λ m. label_in labels m room) members cost → ⊥) → BestSoFar labels members (room + 1) best
+pub best-skip : (labels : ℕ → ℕ → Option Label) (members room : ℕ) (best : Option Meeting) → BestSoFar labels members room best
+    → ((cost : ℕ) → IsGreatest (λ m. labels m room) members cost → ⊥) → BestSoFar labels members (room + 1) best
 best-skip labels members room None b none = λ r c h g.
     elim (cases_eq r room) [
       | inl same ↦
-          let P : ℕ → Type 0 = λ q. IsGreatest (λ m. label_in labels m q) members c in
+          let P : ℕ → Type 0 = λ q. IsGreatest (λ m. labels m q) members c in
           none c (subst P same g)
       | inr other ↦ b r c (omega arith) g
     ]
@@ -74,22 +75,22 @@ best-skip labels members room (Some p) b none = record {
   best = λ r c h g.
       elim (cases_eq r room) [
         | inl same ↦
-            let P : ℕ → Type 0 = λ q. IsGreatest (λ m. label_in labels m q) members c in
+            let P : ℕ → Type 0 = λ q. IsGreatest (λ m. labels m q) members c in
             absurd (none c (subst P same g))
         | inr other ↦ b.best r c (omega arith) g
       ];
 }
 
-pub best-step : (labels : List (List (Option Label))) (members room cost : ℕ) (best : Option Meeting) → BestSoFar labels members room best
-    → IsGreatest (λ m. label_in labels m room) members cost → BestSoFar labels members (room + 1) (lesser best room cost)
+pub best-step : (labels : ℕ → ℕ → Option Label) (members room cost : ℕ) (best : Option Meeting) → BestSoFar labels members room best
+    → IsGreatest (λ m. labels m room) members cost → BestSoFar labels members (room + 1) (lesser best room cost)
 best-step labels members room cost None b g = record {
   inside = omega arith;
   gathers = g;
   best = λ r c h f.
       elim (cases_eq r room) [
         | inl same ↦
-            let P : ℕ → Type 0 = λ q. IsGreatest (λ m. label_in labels m q) members c in
-            inr (omega (arith, greatest-most (λ m. label_in labels m room) members cost c g (subst P same f), greatest-most (λ m. label_in labels m room) members c cost (subst P same f) g), omega arith)
+            let P : ℕ → Type 0 = λ q. IsGreatest (λ m. labels m q) members c in
+            inr (omega (arith, greatest-most (λ m. labels m room) members cost c g (subst P same f), greatest-most (λ m. labels m room) members c cost (subst P same f) g), omega arith)
         | inr other ↦ absurd (b r c (omega arith) f)
       ];
 }
@@ -104,8 +105,8 @@ best-step labels members room cost (Some p) b g = go (nat_lt cost p.cost) refl
           best = λ r c h f.
               elim (cases_eq r room) [
                 | inl same ↦
-                    let P : ℕ → Type 0 = λ q. IsGreatest (λ m. label_in labels m q) members c in
-                    inr (omega (arith, greatest-most (λ m. label_in labels m room) members cost c g (subst P same f), greatest-most (λ m. label_in labels m room) members c cost (subst P same f) g), omega arith)
+                    let P : ℕ → Type 0 = λ q. IsGreatest (λ m. labels m q) members c in
+                    inr (omega (arith, greatest-most (λ m. labels m room) members cost c g (subst P same f), greatest-most (λ m. labels m room) members c cost (subst P same f) g), omega arith)
                 | inr other ↦ elim (b.best r c (omega arith) f) [ inl x ↦ inl (omega (arith, x)) | inr x ↦ inl (omega (arith, x.0)) ]
               ];
         }
@@ -117,29 +118,29 @@ best-step labels members room cost (Some p) b g = go (nat_lt cost p.cost) refl
           best = λ r c h f.
               elim (cases_eq r room) [
                 | inl same ↦
-                    let P : ℕ → Type 0 = λ q. IsGreatest (λ m. label_in labels m q) members c in
-                    let low : cost ≤ c = greatest-most (λ m. label_in labels m room) members cost c g (subst P same f) in
+                    let P : ℕ → Type 0 = λ q. IsGreatest (λ m. labels m q) members c in
+                    let low : cost ≤ c = greatest-most (λ m. labels m room) members cost c g (subst P same f) in
                     elim (cases_lt p.cost c) [ inl x ↦ inl x | inr x ↦ inr (omega arith, omega (arith, b.inside)) ]
                 | inr other ↦ b.best r c (omega arith) f
               ];
         }
 
-pub best-some : (labels : List (List (Option Label))) (members room next : ℕ) (best : Option Meeting) → room ≡ next → BestSoFar labels members room best
+pub best-some : (labels : ℕ → ℕ → Option Label) (members room next : ℕ) (best : Option Meeting) → room ≡ next → BestSoFar labels members room best
     → IfSome best (λ p. IsBest labels members next p)
 best-some labels members room next None e b = tt
 best-some labels members room next (Some p) e b =
     let P : ℕ → Type 0 = λ n. IsBest labels members n p in
     subst P e b
 
-pub best-none : (labels : List (List (Option Label))) (members room next : ℕ) (best : Option Meeting) → room ≡ next → BestSoFar labels members room best
+pub best-none : (labels : ℕ → ℕ → Option Label) (members room next : ℕ) (best : Option Meeting) → room ≡ next → BestSoFar labels members room best
     → IfNone best (NoneGather labels members next)
 best-none labels members room next (Some p) e b = tt
 best-none labels members room next None e b =
     let P : ℕ → Type 0 = λ n. NoneGather labels members n in
     subst P e b
 
-pub best-greatest : (labels : List (List (Option Label))) (members next : ℕ) (best : Option Meeting) → IfSome best (IsBest labels members next)
-    → IfSome best (λ p. IsGreatest (λ m. label_in labels m p.room) members p.cost)
+pub best-greatest : (labels : ℕ → ℕ → Option Label) (members next : ℕ) (best : Option Meeting) → IfSome best (IsBest labels members next)
+    → IfSome best (λ p. IsGreatest (λ m. labels m p.room) members p.cost)
 best-greatest labels members next None b = tt
 best-greatest labels members next (Some p) b = b.gathers
 
@@ -147,9 +148,9 @@ best-greatest labels members next (Some p) b = b.gathers
 abbrev pub goers : State → List Knowledge → List Goer
 goers w ts = map (goer w) ts
 
-module _ (w : State) (ts : List Knowledge) (labels : List (List (Option Label))) (least : AreLeast w ts labels) where
+module _ (w : State) (ts : List Knowledge) (labels : ℕ → ℕ → Option Label) (least : AreLeast w ts labels) where
   abbrev nobody : Knowledge
-  nobody = record { player = 0; place = 0; opened = []; roads = [] }
+  nobody = known 0 0 [] []
 
   abbrev member : ℕ → Knowledge
   member m = get_or ts m nobody
@@ -157,20 +158,20 @@ module _ (w : State) (ts : List Knowledge) (labels : List (List (Option Label)))
   is-member : (m : ℕ) → m < length ts → slice_get ts m ≡ Some (member m)
   is-member m h = slice_get-get_or ts m nobody h
 
-  label-least : (m room : ℕ) (l : Label) → m < length ts → label_in labels m room ≡ Some l → IsLeast 1 (roads_of w (member m).player) (member m).place room l
+  label-least : (m room : ℕ) (l : Label) → m < length ts → labels m room ≡ Some l → IsLeast 1 (roads_of w (member m).player) (member m).place room l
   label-least m room l h e =
       let P : Option Label → Type 0 = λ o. Least 1 (roads_of w (member m).player) (member m).place room o in
       subst P e (least m room (member m) (is-member m h))
 
-  least-label : (m room : ℕ) (l : Label) → m < length ts → IsLeast 1 (roads_of w (member m).player) (member m).place room l → label_in labels m room ≡ Some l
-  least-label m room l h is = least-one 1 (roads_of w (member m).player) (member m).place room (label_in labels m room) l (least m room (member m) (is-member m h)) is
+  least-label : (m room : ℕ) (l : Label) → m < length ts → IsLeast 1 (roads_of w (member m).player) (member m).place room l → labels m room ≡ Some l
+  least-label m room l h is = least-one 1 (roads_of w (member m).player) (member m).place room (labels m room) l (least m room (member m) (is-member m h)) is
 
   goer-at : (m : ℕ) (d : Goer) → m < length ts → get_or (goers w ts) m d ≡ goer w (member m)
   goer-at m d h =
       let inside : m < length (goers w ts) = rw (length-map ts (goer w)) h in
       get_or_default (goers w ts) m d (goer w nobody) inside ∙ get_or-map (goer w) ts m nobody
 
-  pub gathers-from_greatest : (room cost : ℕ) → 0 < length ts → IsGreatest (λ m. label_in labels m room) (length ts) cost → Gathers 1 (goers w ts) room cost
+  pub gathers-from_greatest : (room cost : ℕ) → 0 < length ts → IsGreatest (λ m. labels m room) (length ts) cost → Gathers 1 (goers w ts) room cost
   gathers-from_greatest room cost some g = record {
     all = λ m d h.
         let inside : m < length ts = rw (← length-map ts (goer w)) h in
@@ -185,7 +186,7 @@ module _ (w : State) (ts : List Knowledge) (labels : List (List (Option Label)))
     ];
   }
 
-  pub greatest-from_gathers : (room cost : ℕ) → Gathers 1 (goers w ts) room cost → IsGreatest (λ m. label_in labels m room) (length ts) cost
+  pub greatest-from_gathers : (room cost : ℕ) → Gathers 1 (goers w ts) room cost → IsGreatest (λ m. labels m room) (length ts) cost
   greatest-from_gathers room cost g =
       let P : Goer → Type 0 = λ p. (l : Label) × IsLeast 1 p.0 p.1 room l × (l.cost ≤ cost) in
       let Q : Goer → Type 0 = λ p. (l : Label) × IsLeast 1 p.0 p.1 room l × (l.cost ≡ cost) in

@@ -11,7 +11,7 @@ use Rattle.mud_world.specs.Sound.{IsSound}
 use Rattle.mud_roads.specs.declared.label.Label.{Label}
 use Rattle.mud_roads.specs.declared.label.Step.{Step}
 use Rattle.mud_roads.specs.Walks.{total, IsLeast, Least, Goer, Gathers}
-use Rattle.mud_roads.specs.Open.{Knowledge, IsTraveller, roads_of}
+use Rattle.mud_roads.specs.Open.{Knowledge, known, IsTraveller, roads_of}
 use Rattle.mud_roads.proofs.Routes.{least-one}
 use Rattle.mud_cert.specs.declared.cert.Form.TheVariants.{Two}
 use Rattle.mud_cert.specs.declared.cert.Meeting.{Meeting}
@@ -21,13 +21,14 @@ use Rattle.mud_cert.specs.Lookup.{label_at}
 use Rattle.mud_cert.specs.Ways.{arrival_of}
 use Rattle.mud_cert.specs.Agreement.{with_label, gathered_from, gathered}
 use Rattle.mud_cert.specs.Valid.{IsMember, Concludes, IsValid}
-use Rattle.mud_search.specs.Least.{label_in, AreLeast}
-use Rattle.mud_guide.specs.declared.journey.Journey.{Journey}
+use Rattle.mud_search.specs.Least.{AreLeast}
 use Rattle.mud_guide.specs.Arrivals.{Labelled}
 use Rattle.mud_guide.specs.Ways.{cost_of, IsWay, IsWayTo}
-use Rattle.mud_guide.specs.Journeys.{IsJourney, goers_of}
-use Rattle.mud_guide.specs.Accounts.{IsAccountOf, IsInside, AreListed}
-use Rattle.mud_guide.specs.Meetings.{IsGreatest, IsPlace}
+use Rattle.mud_guide.specs.Journeys.{Journey, IsJourney, goers_of}
+use Rattle.mud_guide.specs.Accounts.{IsAccountOf}
+use Rattle.mud_guide.specs.Listings.{IsInside, AreListed}
+use Rattle.mud_guide.specs.Meetings.{IsPlace}
+use Rattle.mud_guide.specs.Gatherings.{IsGreatest}
 use Rattle.mud_guide.proofs.Lowest.{some-inj}
 use Rattle.mud_guide.proofs.Totals.{route_is_least}
 use Rattle.mud_guide.proofs.Gather.{goers, gathers-from_greatest}
@@ -93,7 +94,7 @@ gathered-is (x ∷ es) r k c e = go (λ j. gathered-is es r j c) (label_at x r) 
     go rest (Some l) f g = gathered-more x es r k c l f (rest (max k l.cost) g)
 
 -- ---- a party
-pub record IsParty (w : State) (to : Option ℕ) (ts : List Knowledge) (js : List Journey) (labels : List (List (Option Label))) (es : List Account) : Type 0 where
+pub record IsParty (w : State) (to : Option ℕ) (ts : List Knowledge) (js : List Journey) (labels : ℕ → ℕ → Option Label) (es : List Account) : Type 0 where
   pub are : All (IsTraveller w) ts
   pub distinct : AllPairs (λ s t. s.player ≢ t.player) ts
   pub go : AllZip (λ t j. IsJourney w to t.player j) ts js
@@ -101,7 +102,7 @@ pub record IsParty (w : State) (to : Option ℕ) (ts : List Knowledge) (js : Lis
   pub listed : AreListed labels w.next js es
 
 abbrev pub nobody : Knowledge
-nobody = record { player = 0; place = 0; opened = []; roads = [] }
+nobody = known 0 0 [] []
 
 abbrev pub nowhere : Journey
 nowhere = record { player = 0; from = 0; way = None }
@@ -136,7 +137,7 @@ journeys-inside w sound to ts js are z k d h =
     let t = get_or ts k nobody in
     shown.journey-inside w sound t.player (are k nobody inside).player to (get_or js k d) (allzip-at (λ t j. IsJourney w to t.player j) ts js k nobody d z inside)
 
-module _ (w : State) (sound : IsSound w) (to : Option ℕ) (ts : List Knowledge) (js : List Journey) (labels : List (List (Option Label))) (es : List Account)
+module _ (w : State) (sound : IsSound w) (to : Option ℕ) (ts : List Knowledge) (js : List Journey) (labels : ℕ → ℕ → Option Label) (es : List Account)
     (party : IsParty w to ts js labels es) where
   long-js : length js ≡ length ts
   long-js = allzip-length (λ t j. IsJourney w to t.player j) ts js party.go
@@ -156,23 +157,23 @@ module _ (w : State) (sound : IsSound w) (to : Option ℕ) (ts : List Knowledge)
   goes : (m : ℕ) → m < length es → IsJourney w to (who m).player (journey m)
   goes m h = allzip-at (λ t j. IsJourney w to t.player j) ts js m nobody nowhere party.go (within m h)
 
-  labelled : (m : ℕ) → m < length es → Labelled (roads_of w (who m).player) (journey m).from (label_in labels m)
+  labelled : (m : ℕ) → m < length es → Labelled (roads_of w (who m).player) (journey m).from (labels m)
   labelled m h room =
-      let P : ℕ → Type 0 = λ from. Least 1 (roads_of w (who m).player) from room (label_in labels m room) in
+      let P : ℕ → Type 0 = λ from. Least 1 (roads_of w (who m).player) from room (labels m room) in
       subst P (same-place w to (who m) (journey m) (party.are m nobody (within m h)) (goes m h))
       (party.least m room (who m) (slice_get-get_or ts m nobody (within m h)))
 
-  found : (m : ℕ) (d : Account) → m < length es → (room : ℕ) → label_at (get_or es m d) room ≡ label_in labels m room
-  found m d h = shown.found w sound (who m).player (is-player m h) to (journey m) (goes m h) (label_in labels m) (labelled m h) (get_or es m d) (party.listed.each m nowhere d h)
+  found : (m : ℕ) (d : Account) → m < length es → (room : ℕ) → label_at (get_or es m d) room ≡ labels m room
+  found m d h = shown.found w sound (who m).player (is-player m h) to (journey m) (goes m h) (labels m) (labelled m h) (get_or es m d) (party.listed.each m nowhere d h)
 
   arrives : (m : ℕ) (d : Account) → m < length es → (r : ℕ) (ss : List Step) → to ≡ Some r → (journey m).way ≡ Some ss → arrival_of w (get_or es m d) ≡ Some (r, cost_of ss)
-  arrives m d h = shown.arrives w sound (who m).player (is-player m h) to (journey m) (goes m h) (label_in labels m) (labelled m h) (get_or es m d) (party.listed.each m nowhere d h)
+  arrives m d h = shown.arrives w sound (who m).player (is-player m h) to (journey m) (goes m h) (labels m) (labelled m h) (get_or es m d) (party.listed.each m nowhere d h)
 
   stays : (m : ℕ) (d : Account) → m < length es → (journey m).way ≡ None → (get_or es m d).walk ≡ None
-  stays m d h = shown.stays w sound (who m).player (is-player m h) to (journey m) (goes m h) (label_in labels m) (labelled m h) (get_or es m d) (party.listed.each m nowhere d h)
+  stays m d h = shown.stays w sound (who m).player (is-player m h) to (journey m) (goes m h) (labels m) (labelled m h) (get_or es m d) (party.listed.each m nowhere d h)
 
   pub members : All (IsMember w Two) es
-  members m d h = shown.valid w sound (who m).player (is-player m h) to (journey m) (goes m h) (label_in labels m) (labelled m h) (get_or es m d) (party.listed.each m nowhere d h)
+  members m d h = shown.valid w sound (who m).player (is-player m h) to (journey m) (goes m h) (labels m) (labelled m h) (get_or es m d) (party.listed.each m nowhere d h)
 
   -- the same of any journey of that place
   goes-from : (m : ℕ) (j : Journey) → m < length es → IsJourney w to (who m).player (get_or js m j)
@@ -181,10 +182,10 @@ module _ (w : State) (sound : IsSound w) (to : Option ℕ) (ts : List Knowledge)
   pub accounts : AllZip (IsAccountOf w) js es
   accounts = allzip-from (IsAccountOf w) js es party.listed.long (λ m j d h.
       let go = goes-from m j h in
-      let least : Labelled (roads_of w (who m).player) (get_or js m j).from (label_in labels m) = λ room.
-      let P : ℕ → Type 0 = λ from. Least 1 (roads_of w (who m).player) from room (label_in labels m room) in
+      let least : Labelled (roads_of w (who m).player) (get_or js m j).from (labels m) = λ room.
+      let P : ℕ → Type 0 = λ from. Least 1 (roads_of w (who m).player) from room (labels m room) in
       subst P (same-place w to (who m) (get_or js m j) (party.are m nobody (within m h)) go) (party.least m room (who m) (slice_get-get_or ts m nobody (within m h))) in
-      shown.account w sound (who m).player (is-player m h) to (get_or js m j) go (label_in labels m) least (get_or es m d) (party.listed.each m j d h))
+      shown.account w sound (who m).player (is-player m h) to (get_or js m j) go (labels m) least (get_or es m d) (party.listed.each m j d h))
 
   distinct : AllPairs (λ (a : Account) (b : Account). a.player ≢ b.player) es
   distinct i k d lt h same =
@@ -204,12 +205,12 @@ module _ (w : State) (sound : IsSound w) (to : Option ℕ) (ts : List Knowledge)
       }
 
   -- what the labels of the certificate gather, those of the search do
-  gathered-greatest : (r c : ℕ) → 0 < length ts → gathered es r ≡ Some c → IsGreatest (λ m. label_in labels m r) (length ts) c
+  gathered-greatest : (r c : ℕ) → 0 < length ts → gathered es r ≡ Some c → IsGreatest (λ m. labels m r) (length ts) c
   gathered-greatest r c some e =
       let is = gathered-is es r 0 c e in
       let a : Account = record { player = 0; from = 0; labels = []; walk = None } in
       let inside : (m : ℕ) → m < length ts → m < length es = λ m h. omega (arith, h, party.listed.long, long-js) in
-      let all : (m : ℕ) → m < length ts → (l : Label) × ((label_in labels m r ≡ Some l) × (l.cost ≤ c)) = λ m h.
+      let all : (m : ℕ) → m < length ts → (l : Label) × ((labels m r ≡ Some l) × (l.cost ≤ c)) = λ m h.
       let own = is.all m a (inside m h) in
       (own.0, (sym (found m a (inside m h) r) ∙ own.1.0, own.1.1)) in
       record {
@@ -224,7 +225,7 @@ module _ (w : State) (sound : IsSound w) (to : Option ℕ) (ts : List Knowledge)
   gathered-gathers r c some e = gathers-from_greatest w ts labels party.least r c some (gathered-greatest r c some e)
 
   -- where a label is, a way leads
-  way-there : (m : ℕ) → m < length es → (r : ℕ) → to ≡ Some r → (l : Label) → label_in labels m r ≡ Some l → (ss : List Step) × (((journey m).way ≡ Some ss) × (cost_of ss ≡ l.cost))
+  way-there : (m : ℕ) → m < length es → (r : ℕ) → to ≡ Some r → (l : Label) → labels m r ≡ Some l → (ss : List Step) × (((journey m).way ≡ Some ss) × (cost_of ss ≡ l.cost))
   way-there m h r there l e =
       let P : Option ℕ → Type 0 = λ o. IsWayTo (roads_of w (who m).player) (journey m).from o (journey m).way in
       go (journey m).way refl (subst P there (goes m h).way)
@@ -241,14 +242,14 @@ module _ (w : State) (sound : IsSound w) (to : Option ℕ) (ts : List Knowledge)
           let same : total 1 ss ≡ l = some-inj (total 1 ss) l (least-one 1 (roads_of w (who m).player) (journey m).from r (Some (total 1 ss)) l best least) in
           (ss, (f, ap (λ (x : Label). x.cost) same))
 
-  there-at : (m : ℕ) (d : Account) → m < length es → (r : ℕ) → to ≡ Some r → (l : Label) → label_in labels m r ≡ Some l → arrival_of w (get_or es m d) ≡ Some (r, l.cost)
+  there-at : (m : ℕ) (d : Account) → m < length es → (r : ℕ) → to ≡ Some r → (l : Label) → labels m r ≡ Some l → arrival_of w (get_or es m d) ≡ Some (r, l.cost)
   there-at m d h r there l e =
       let way = way-there m h r there l e in
       arrives m d h r way.0 there way.1.0 ∙ ap (λ (c : ℕ). Some (r, c)) way.1.1
 
   -- the conclusion of a meeting
   pub concludes-meet : 0 < length ts → (place : Option Meeting) → to ≡ option_map (λ p. p.room) place → IfSome place (λ p. IsTrue (is_room w p.room))
-      → IfSome place (λ p. IsGreatest (λ m. label_in labels m p.room) (length ts) p.cost) → IsPlace (goers w ts) place → Concludes w es (Meet place)
+      → IfSome place (λ p. IsGreatest (λ m. labels m p.room) (length ts) p.cost) → IsPlace (goers w ts) place → Concludes w es (Meet place)
   concludes-meet some None there room greatest none = (
     λ m d h.
         let P : Option ℕ → Type 0 = λ o. IsWayTo (roads_of w (who m).player) (journey m).from o (journey m).way in
@@ -266,7 +267,7 @@ module _ (w : State) (sound : IsSound w) (to : Option ℕ) (ts : List Knowledge)
     λ r c e. is.best r c (gathered-gathers r c some e),
   )
     where
-      one : ((length ts ≡ 0) × (p.cost ≡ 0)) ⊎ ((m : ℕ) × ((m < length ts) × ((l : Label) × ((label_in labels m p.room ≡ Some l) × (l.cost ≡ p.cost)))))
+      one : ((length ts ≡ 0) × (p.cost ≡ 0)) ⊎ ((m : ℕ) × ((m < length ts) × ((l : Label) × ((labels m p.room ≡ Some l) × (l.cost ≡ p.cost)))))
           → Any (λ a. arrival_of w a ≡ Some (p.room, p.cost)) es
       one (inl none) = absurd (omega (arith, none.0, some))
       one (inr own) =
@@ -283,7 +284,7 @@ module _ (w : State) (sound : IsSound w) (to : Option ℕ) (ts : List Knowledge)
       only : (m : ℕ) → m < length es → m ≡ 0
       only m h = omega (arith, within m h, alone)
 
-      none-at : (m : ℕ) → m < length es → (journey m).way ≡ None → (o : Option Label) → label_in labels m r ≡ o → label_in labels m r ≡ None
+      none-at : (m : ℕ) → m < length es → (journey m).way ≡ None → (o : Option Label) → labels m r ≡ o → labels m r ≡ None
       none-at m h way None e = e
       none-at m h way (Some l) e =
           let own = way-there m h r there l e in
@@ -296,5 +297,5 @@ module _ (w : State) (sound : IsSound w) (to : Option ℕ) (ts : List Knowledge)
         room,
         λ m d h.
             let way : (journey m).way ≡ None = ap (λ (i : ℕ). (journey i).way) (only m h) ∙ e in
-            (stays m d h way, found m d h r ∙ none-at m h way (label_in labels m r) refl),
+            (stays m d h way, found m d h r ∙ none-at m h way (labels m r) refl),
       )

@@ -16,15 +16,15 @@ use Rattle.mud_cert.specs.declared.cert.Form.TheVariants.{Two}
 use Rattle.mud_cert.specs.declared.cert.Meeting.{Meeting}
 use Rattle.mud_cert.specs.declared.cert.Conclusion.{Conclusion}
 use Rattle.mud_cert.specs.declared.cert.Conclusion.TheVariants.{Route, Meet}
-use Rattle.mud_cert.specs.Certificate.{Certificate, IsNumber, IsAmount}
+use Rattle.mud_cert.specs.Certificate.{Certificate, IsNumber, IsAmount, IsCertificate}
 use Rattle.mud_cert.specs.Valid.{Concludes, IsValid}
-use Rattle.mud_search.specs.Least.{label_in, AreLeast, AreBounded}
+use Rattle.mud_search.specs.Least.{AreLeast, AreBounded}
 use Rattle.mud_guide.specs.declared.answer.Answer.{Answer}
-use Rattle.mud_guide.specs.declared.journey.Journey.{Journey}
 use Rattle.mud_guide.specs.Ways.{cost_of, IsWay}
-use Rattle.mud_guide.specs.Journeys.{IsJourney}
-use Rattle.mud_guide.specs.Accounts.{AreListed}
-use Rattle.mud_guide.specs.Meetings.{IsGreatest, IsPlace}
+use Rattle.mud_guide.specs.Journeys.{Journey, IsJourney}
+use Rattle.mud_guide.specs.Listings.{AreListed}
+use Rattle.mud_guide.specs.Meetings.{IsPlace}
+use Rattle.mud_guide.specs.Gatherings.{IsGreatest}
 use Rattle.mud_guide.specs.Texts.{route_text, meet_text}
 use Rattle.mud_guide.specs.Answers.{IsCertOf, IsRouteAnswer, IsMeetAnswer}
 use Rattle.mud_guide.proofs.Lowest.{some-inj}
@@ -33,18 +33,19 @@ use Rattle.mud_guide.proofs.Gather.{goers}
 use Rattle.mud_guide.proofs.Party.{IsParty, goers-same, journeys-of, accounts, all-valid, concludes-meet, concludes-route}
 
 -- what the certificate is made of
-pub record IsMade (w : State) (v : ℕ) (labels : List (List (Option Label))) (js : List Journey) (says : Conclusion) (c : Certificate) : Type 0 where
+pub record IsMade (w : State) (v : ℕ) (labels : ℕ → ℕ → Option Label) (js : List Journey) (says : Conclusion) (c : Certificate) : Type 0 where
   pub version : c.version ≡ v
   pub form : c.form ≡ Two
   pub members : AreListed labels w.next js c.members
   pub conclusion : c.conclusion ≡ says
+  pub limits : IsCertificate c
 
 -- ---- limits
-amount-is : (labels : List (List (Option Label))) → AreBounded labels → (m room : ℕ) (l : Label) → label_in labels m room ≡ Some l → IsAmount l.cost
+amount-is : (labels : ℕ → ℕ → Option Label) → AreBounded labels → (m room : ℕ) (l : Label) → labels m room ≡ Some l → IsAmount l.cost
 amount-is labels bounded m room l e = omega (arith, (bounded m room l e).0)
 
-pub meeting-limits : (w : State) → IsSound w → (labels : List (List (Option Label))) → AreBounded labels → (members : ℕ) → 0 < members → (place : Option Meeting)
-    → IfSome place (λ p. IsTrue (is_room w p.room)) → IfSome place (λ p. IsGreatest (λ m. label_in labels m p.room) members p.cost)
+pub meeting-limits : (w : State) → IsSound w → (labels : ℕ → ℕ → Option Label) → AreBounded labels → (members : ℕ) → 0 < members → (place : Option Meeting)
+    → IfSome place (λ p. IsTrue (is_room w p.room)) → IfSome place (λ p. IsGreatest (λ m. labels m p.room) members p.cost)
     → IfSome place (λ p. IsNumber p.room × IsAmount p.cost)
 meeting-limits w sound labels bounded members some None room greatest = tt
 meeting-limits w sound labels bounded members some (Some p) room greatest = (
@@ -58,7 +59,7 @@ meeting-limits w sound labels bounded members some (Some p) room greatest = (
 pub number-is : (w : State) → IsSound w → (room : ℕ) → IsTrue (is_room w room) → IsNumber room
 number-is w sound room is = omega (arith, room-below w sound room is, sound.limit)
 
-pub cost-limits : (w : State) (t : Knowledge) (j : Journey) (room : ℕ) (labels : List (List (Option Label))) → IsTraveller w t → IsJourney w (Some room) t.player j
+pub cost-limits : (w : State) (t : Knowledge) (j : Journey) (room : ℕ) (labels : ℕ → ℕ → Option Label) → IsTraveller w t → IsJourney w (Some room) t.player j
     → AreLeast w (t ∷ []) labels → AreBounded labels → IfSome (option_map cost_of j.way) IsAmount
 cost-limits w t j room labels is goes least bounded = go j.way goes.way
   where
@@ -70,7 +71,7 @@ cost-limits w t j room labels is goes least bounded = go j.way goes.way
     go (Some ss) route =
         let P : ℕ → Type 0 = λ f. IsLeast 1 (roads_of w t.player) f room (total 1 ss) in
         let best : IsLeast 1 (roads_of w t.player) t.place room (total 1 ss) = subst P (sym from) (route_is_least (roads_of w t.player) j.from room ss route).1 in
-        let label = least-one 1 (roads_of w t.player) t.place room (label_in labels 0 room) (total 1 ss) (least 0 room t refl) best in
+        let label = least-one 1 (roads_of w t.player) t.place room (labels 0 room) (total 1 ss) (least 0 room t refl) best in
         amount-is labels bounded 0 room (total 1 ss) label
 
 -- ---- one traveller
@@ -95,7 +96,7 @@ shown-some o c P e p =
     let Q : Option Certificate → Type 0 = λ x. IsSomeAnd x P in
     subst Q (sym e) p
 
-pub route-answer : (w : State) → IsSound w → (v : ℕ) (t : Knowledge) (labels : List (List (Option Label))) (room : ℕ) (j : Journey) (c : Certificate) (a : Answer)
+pub route-answer : (w : State) → IsSound w → (v : ℕ) (t : Knowledge) (labels : ℕ → ℕ → Option Label) (room : ℕ) (j : Journey) (c : Certificate) (a : Answer)
     → IsTraveller w t → AreLeast w (t ∷ []) labels → IsTrue (is_room w room) → IsJourney w (Some room) t.player j
     → IsMade w v labels (j ∷ []) (Route room (option_map cost_of j.way)) c
     → a.version ≡ v → string_bytes a.text ≡ route_text room j → a.cert ≡ Some c → IsRouteAnswer w v t.player room a
@@ -119,13 +120,13 @@ route-answer w sound v t labels room j c a is least here goes made version text 
       version = version;
       text = text;
       cert = shown-some a.cert c (IsCertOf w v js says) cert
-          (record { version = made.version; form = made.form; members = accounts w sound to ts js labels c.members party; conclusion = made.conclusion });
+          (record { version = made.version; form = made.form; members = accounts w sound to ts js labels c.members party; conclusion = made.conclusion; limits = made.limits });
       valid = shown-some a.cert c (IsValid w) cert (all-valid w sound to ts js labels c.members party c made.form refl concludes);
     }
 
-pub meet-answer : (w : State) → IsSound w → (v : ℕ) (ts : List Knowledge) (labels : List (List (Option Label))) (place : Option Meeting) (js : List Journey) (c : Certificate) (a : Answer)
+pub meet-answer : (w : State) → IsSound w → (v : ℕ) (ts : List Knowledge) (labels : ℕ → ℕ → Option Label) (place : Option Meeting) (js : List Journey) (c : Certificate) (a : Answer)
     → All (IsTraveller w) ts → AllPairs (λ s t. s.player ≢ t.player) ts → 0 < length ts → AreLeast w ts labels
-    → IsPlace (goers w ts) place → IfSome place (λ p. IsTrue (is_room w p.room)) → IfSome place (λ p. IsGreatest (λ m. label_in labels m p.room) (length ts) p.cost)
+    → IsPlace (goers w ts) place → IfSome place (λ p. IsTrue (is_room w p.room)) → IfSome place (λ p. IsGreatest (λ m. labels m p.room) (length ts) p.cost)
     → AllZip (λ t j. IsJourney w (option_map (λ p. p.room) place) t.player j) ts js
     → IsMade w v labels js (Meet place) c
     → a.version ≡ v → string_bytes a.text ≡ meet_text place js → a.cert ≡ Some c → IsMeetAnswer w v (map (λ t. t.player) ts) a
@@ -142,6 +143,6 @@ meet-answer w sound v ts labels place js c a are distinct some least is room gre
       version = version;
       text = text;
       cert = shown-some a.cert c (IsCertOf w v js (Meet place)) cert
-          (record { version = made.version; form = made.form; members = accounts w sound to ts js labels c.members party; conclusion = made.conclusion });
+          (record { version = made.version; form = made.form; members = accounts w sound to ts js labels c.members party; conclusion = made.conclusion; limits = made.limits });
       valid = shown-some a.cert c (IsValid w) cert (all-valid w sound to ts js labels c.members party c made.form refl concludes);
     }

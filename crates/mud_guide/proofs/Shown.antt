@@ -22,11 +22,11 @@ use Rattle.mud_cert.specs.Lookup as lookup
 use Rattle.mud_cert.specs.Ways.{step_of, steps_of, end_of, arrival, arrival_of}
 use Rattle.mud_cert.specs.Valid.{IsLabelledWalk, IsMember}
 use Rattle.mud_cert.proofs.Lookups.{label-found, label-missing}
-use Rattle.mud_guide.specs.declared.journey.Journey.{Journey}
 use Rattle.mud_guide.specs.Arrivals.{Labelled}
 use Rattle.mud_guide.specs.Ways.{cost_of, exits_of, IsWayTo}
-use Rattle.mud_guide.specs.Journeys.{IsJourney}
-use Rattle.mud_guide.specs.Accounts.{AreLeastLabels, IsAccountOf, IsInside, IsListed}
+use Rattle.mud_guide.specs.Journeys.{Journey, IsJourney}
+use Rattle.mud_guide.specs.Accounts.{AreLeastLabels, IsAccountOf}
+use Rattle.mud_guide.specs.Listings.{IsInside, IsListed}
 use Rattle.mud_guide.proofs.Totals.{route_is_least}
 
 -- ---- numbers and rooms

@@ -13,9 +13,8 @@ use Rattle.mud_cert.specs.declared.cert.Meeting.{Meeting}
 use Rattle.mud_cert.specs.declared.cert.Conclusion.{Conclusion}
 use Rattle.mud_cert.specs.declared.cert.Conclusion.TheVariants.{Route, Meet}
 use Rattle.mud_cert.specs.Certificate.{Account, Certificate}
-use Rattle.mud_guide.specs.declared.journey.Journey.{Journey}
 use Rattle.mud_guide.specs.Ways.{cost_of, IsWay, IsWayTo}
-use Rattle.mud_guide.specs.Journeys.{IsJourney, goers_of}
+use Rattle.mud_guide.specs.Journeys.{Journey, IsJourney, goers_of}
 use Rattle.mud_guide.specs.Accounts.{AreLeastLabels, IsAccountOf}
 use Rattle.mud_guide.specs.Meetings.{IsPlace}
 use Rattle.mud_guide.specs.Texts.{route_text, meet_text}

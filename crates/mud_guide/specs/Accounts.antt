@@ -1,13 +1,12 @@
--- What a certificate claims of one member.
-use Rattle.std.specs.Prelude.{◌≡◌, ℕ, ◌<◌, ◌↔◌, List, Option, Some, All, AllPairs, Contains, IfSome, length, slice_index_or}
+-- What a certificate claims of a member.
+use Rattle.std.specs.Prelude.{◌≡◌, ℕ, ◌<◌, ◌↔◌, List, AllPairs, Contains}
 use Rattle.std.specs.Option.{option_map}
 use Rattle.mud_world.specs.State.{State}
 use Rattle.mud_roads.specs.declared.label.Label.{Label}
 use Rattle.mud_roads.specs.Walks.{Roads, IsLeast}
 use Rattle.mud_roads.specs.Open.{roads_of}
-use Rattle.mud_search.specs.Least.{label_in}
 use Rattle.mud_cert.specs.Certificate.{Account}
-use Rattle.mud_guide.specs.declared.journey.Journey.{Journey}
+use Rattle.mud_guide.specs.Journeys.{Journey}
 use Rattle.mud_guide.specs.Ways.{exits_of}
 
 -- the least label of every room that has one, by rising number
@@ -21,27 +20,3 @@ pub record IsAccountOf (w : State) (j : Journey) (a : Account) : Type 0 where
   pub from : a.from ≡ j.from
   pub labels : AreLeastLabels (roads_of w j.player) j.from a.labels
   pub walk : a.walk ≡ option_map exits_of j.way
-
--- the labels of the numbers below `next`, by rising number
-pub record AreEntries (labels : ℕ → Option Label) (next : ℕ) (entries : List (ℕ × Label)) : Type 0 where
-  pub rising : AllPairs (λ d e. d.0 < e.0) entries
-  pub inside : All (λ e. (e.0 < next) × (labels e.0 ≡ Some e.1)) entries
-  pub whole : (room : ℕ) (l : Label) → room < next → labels room ≡ Some l → Contains entries (room, l)
-
--- the numbers of the journey are below `next`
-pub record IsInside (next : ℕ) (j : Journey) : Type 0 where
-  pub player : j.player < next
-  pub from : j.from < next
-  pub exits : IfSome j.way (All (λ s. s.exit < next))
-
--- who goes on the journey, from where, all labels of numbers below `next`, and the exits of his way
-pub record IsListed (labels : ℕ → Option Label) (next : ℕ) (j : Journey) (a : Account) : Type 0 where
-  pub player : a.player ≡ j.player
-  pub from : a.from ≡ j.from
-  pub entries : AreEntries labels next a.labels
-  pub walk : a.walk ≡ option_map exits_of j.way
-
--- the same of each journey, with the labels of its member
-pub record AreListed (labels : List (List (Option Label))) (next : ℕ) (js : List Journey) (es : List Account) : Type 0 where
-  pub long : length es ≡ length js
-  pub each : (m : ℕ) (j : Journey) (a : Account) → m < length es → IsListed (label_in labels m) next (slice_index_or js m j) (slice_index_or es m a)

@@ -3,26 +3,27 @@ use Rattle.std.specs.Prelude.{◌≡◌, ℕ, List, [], ◌∷◌, Option, Some,
 use Rattle.std.specs.List.{AllZip}
 use Rattle.std.specs.Option.{option_map, IsSomeAnd}
 use Rattle.mud_world.specs.State.{State}
-use Rattle.mud_cert.specs.Certificate.{Certificate}
+use Rattle.mud_cert.specs.Certificate.{Certificate, IsCertificate}
 use Rattle.mud_cert.specs.Valid.{IsValid}
 use Rattle.mud_cert.specs.declared.cert.Form.TheVariants.{Two}
 use Rattle.mud_cert.specs.declared.cert.Meeting.{Meeting}
 use Rattle.mud_cert.specs.declared.cert.Conclusion.{Conclusion}
 use Rattle.mud_cert.specs.declared.cert.Conclusion.TheVariants.{Route, Meet}
 use Rattle.mud_guide.specs.declared.answer.Answer.{Answer}
-use Rattle.mud_guide.specs.declared.journey.Journey.{Journey}
 use Rattle.mud_guide.specs.Ways.{cost_of}
-use Rattle.mud_guide.specs.Journeys.{IsJourney, goers_of}
+use Rattle.mud_guide.specs.Journeys.{Journey, IsJourney, goers_of}
 use Rattle.mud_guide.specs.Accounts.{IsAccountOf}
 use Rattle.mud_guide.specs.Meetings.{IsPlace}
 use Rattle.mud_guide.specs.Texts.{route_text, meet_text}
 
--- the certificate of these journeys: its labels count costs and exits, it has an account of each, and concludes this
+-- the certificate of these journeys: its labels count costs and exits, it has an account of each, concludes this, and
+-- keeps the limits
 pub record IsCertOf (w : State) (v : ℕ) (js : List Journey) (says : Conclusion) (c : Certificate) : Type 0 where
   pub version : c.version ≡ v
   pub form : c.form ≡ Two
   pub members : AllZip (IsAccountOf w) js c.members
   pub conclusion : c.conclusion ≡ says
+  pub limits : IsCertificate c
 
 -- the text tells the player's journey to the room, and a valid certificate shows it to be best
 pub record IsRouteAnswer (w : State) (v p to : ℕ) (a : Answer) : Type 0 where

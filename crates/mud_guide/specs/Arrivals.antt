@@ -1,5 +1,6 @@
--- The last step of each room's route.
-use Rattle.std.specs.Prelude.{◌≡◌, ℕ, ◌+◌, ◌<◌, ◌≤◌, Bool, true, false, ◌==◌, ◌&&◌, nat_lt, if◌then◌else◌, List, [], ◌∷◌, length, slice_index_or, slice_set, Contains, Option, None, Some}
+-- How the last step of each room's route is found from labels. Private clauses alone cite this file.
+use Rattle.std.specs.Prelude.{◌≡◌, ℕ, ◌+◌, ◌<◌, ◌≤◌, Bool, true, false, ◌==◌, ◌&&◌, nat_lt, if◌then◌else◌, List, []}
+use Rattle.std.specs.Prelude.{◌∷◌, length, slice_index_or, slice_set, Contains, Option, None, Some}
 use Rattle.mud_roads.specs.declared.label.Label.{Label}
 use Rattle.mud_roads.specs.declared.label.Step.{Step}
 use Rattle.mud_roads.specs.Walks.{Roads, after, Least}
@@ -18,7 +19,8 @@ pub record Ends (roads : Roads) (labels : ℕ → Option Label) (to by : ℕ) (s
   pub is : labels to ≡ Some (after 1 before s)
 
 -- for each room the lowest of the exits that were seen and end a least walk
-pub record AreLowest (roads : Roads) (labels : ℕ → Option Label) (next : ℕ) (seen : ℕ → Step → Type 0) (table : List (Option Arrival)) : Type 0 where
+pub record AreLowest (roads : Roads) (labels : ℕ → Option Label) (next : ℕ) (seen : ℕ → Step → Type 0)
+    (table : List (Option Arrival)) : Type 0 where
   pub whole : length table ≡ next
   pub inside : (to : ℕ) (a : Arrival) → slice_index_or table to None ≡ Some a → a.by < next
   pub ends : (to : ℕ) (a : Arrival) → slice_index_or table to None ≡ Some a → Ends roads labels to a.by a.step

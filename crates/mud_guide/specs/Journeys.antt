@@ -1,10 +1,16 @@
 -- Who goes which way.
 use Rattle.std.specs.Prelude.{◌≡◌, ℕ, List, map, Option, Some}
 use Rattle.mud_world.specs.State.{State, place_of}
+use Rattle.mud_roads.specs.declared.label.Step.{Step}
 use Rattle.mud_roads.specs.Walks.{Goer}
 use Rattle.mud_roads.specs.Open.{roads_of}
-use Rattle.mud_guide.specs.declared.journey.Journey.{Journey}
 use Rattle.mud_guide.specs.Ways.{IsWayTo}
+
+-- who goes, from which room, and which way; none where no walk leads, or there is nowhere to go
+pub record Journey : Type 0 where
+  pub player : ℕ
+  pub from : ℕ
+  pub way : Option (List Step)
 
 -- the journey of player p: from his place, by his way to the room
 pub record IsJourney (w : State) (to : Option ℕ) (p : ℕ) (j : Journey) : Type 0 where

@@ -9,7 +9,9 @@ use Rattle.mud_guide.specs.Answers.{IsRouteAnswer, IsMeetAnswer}
 
 -- the canonical route is a least walk
 abbrev pub RouteIsLeast : Type 0
-RouteIsLeast = (roads : Roads) (from to : ℕ) (ss : List Step) → IsRoute 1 roads from to ss → Walk roads from ss to × IsLeast 1 roads from to (total 1 ss)
+RouteIsLeast =
+    (roads : Roads) (from to : ℕ) (ss : List Step) → IsRoute 1 roads from to ss
+    → Walk roads from ss to × IsLeast 1 roads from to (total 1 ss)
 
 -- alike in all that is read of them: the version, the bytes of the text, and the certificate
 abbrev pub AreAlike : Answer → Answer → Type 0
@@ -17,8 +19,12 @@ AreAlike a b = (a.version ≡ b.version) × (string_bytes a.text ≡ string_byte
 
 -- in a sound world a question about a route has one answer
 abbrev pub RouteAnswerIsOne : Type 0
-RouteAnswerIsOne = (w : State) → IsSound w → (v p to : ℕ) (a b : Answer) → IsRouteAnswer w v p to a → IsRouteAnswer w v p to b → AreAlike a b
+RouteAnswerIsOne =
+    (w : State) → IsSound w → (v p to : ℕ) (a b : Answer) → IsRouteAnswer w v p to a → IsRouteAnswer w v p to b
+    → AreAlike a b
 
 -- and so has one about a meeting
 abbrev pub MeetAnswerIsOne : Type 0
-MeetAnswerIsOne = (w : State) → IsSound w → (v : ℕ) (party : List ℕ) (a b : Answer) → IsMeetAnswer w v party a → IsMeetAnswer w v party b → AreAlike a b
+MeetAnswerIsOne =
+    (w : State) → IsSound w → (v : ℕ) (party : List ℕ) (a b : Answer)
+    → IsMeetAnswer w v party a → IsMeetAnswer w v party b → AreAlike a b

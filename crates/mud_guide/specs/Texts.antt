@@ -3,7 +3,7 @@ use Rattle.std.specs.Prelude.{ℕ, List, [], ◌∷◌, ◌++◌, Option, None, 
 use Rattle.std.specs.List.{flat_map}
 use Rattle.mud_roads.specs.declared.label.Step.{Step}
 use Rattle.mud_cert.specs.declared.cert.Meeting.{Meeting}
-use Rattle.mud_guide.specs.declared.journey.Journey.{Journey}
+use Rattle.mud_guide.specs.Journeys.{Journey}
 use Rattle.mud_guide.specs.Ways.{cost_of}
 
 -- `#` and the number
@@ -35,8 +35,10 @@ member_text j = 10 ∷ codes "  " ++ object j.player ++ codes " from " ++ object
 -- ` at #0 cost 3` and the lines of the members, or ` no meeting`
 abbrev pub place_text : Option Meeting → List Journey → List ℕ
 place_text None journeys = codes " no meeting"
-place_text (Some p) journeys = codes " at " ++ (object p.room ++ (codes " cost " ++ (decimal p.cost ++ flat_map member_text journeys)))
+place_text (Some p) journeys =
+    codes " at " ++ (object p.room ++ (codes " cost " ++ (decimal p.cost ++ flat_map member_text journeys)))
 
 -- `meet #1 #2 at #0 cost 3` and the lines of the members, or `meet #1 #2 no meeting`
 abbrev pub meet_text : Option Meeting → List Journey → List ℕ
-meet_text place journeys = codes "meet" ++ (flat_map (λ j. codes " " ++ object j.player) journeys ++ place_text place journeys)
+meet_text place journeys =
+    codes "meet" ++ (flat_map (λ j. codes " " ++ object j.player) journeys ++ place_text place journeys)

@@ -5,7 +5,7 @@ ghost use Rattle.std.specs.Option.{option_map};
 ghost use Rattle.mud_cert.specs.Certificate.{IsAccount};
 ghost use Rattle.mud_search.specs.Least.{label_in, AreBounded};
 ghost use Rattle.mud_guide.specs.Ways.{exits_of};
-ghost use Rattle.mud_guide.specs.Accounts.{AreEntries, IsInside, IsListed, AreListed};
+ghost use Rattle.mud_guide.specs.Listings.{AreEntries, IsInside, IsListed, AreListed};
 
 use crate::journey::Journey;
 use crate::way::Way;
@@ -63,7 +63,7 @@ fn account_of(
 ) -> Result<Member, AllocError>
     requires few { next ≤ 8192 }
     requires inside { IsInside next journey.now }
-    requires bounded { AreBounded labels.now }
+    requires bounded { AreBounded (label_in labels.now) }
     ensures account { IfOk result (IsListed (label_in labels.now member) next journey.now) }
     ensures limits { IfOk result IsAccount }
 {
@@ -81,8 +81,8 @@ pub(crate) fn accounts_of(
 ) -> Result<Vec<Member>, AllocError>
     requires few { next ≤ 8192 }
     requires inside { All (IsInside next) journeys.now }
-    requires bounded { AreBounded labels.now }
-    ensures accounts { IfOk result (λ ms. AreListed labels.now next journeys.now ms.items) }
+    requires bounded { AreBounded (label_in labels.now) }
+    ensures accounts { IfOk result (λ ms. AreListed (label_in labels.now) next journeys.now ms.items) }
     ensures limits { IfOk result (λ ms. All IsAccount ms.items) }
 {
     let mut accounts = Vec::with_capacity(alloc, journeys.len())?;

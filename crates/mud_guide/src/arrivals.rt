@@ -29,7 +29,8 @@ pub(crate) fn last_steps(
 ) -> Result<Vec<Option<Arrival>>, AllocError>
     requires { IsTraveller world.now traveller.now }
     ensures sound { IsSound world.now }
-    ensures last { IfOk result (λ t. AreLast (roads_of world.now traveller.now.player) (label_in labels.now member) world.now.next t.items) }
+    ensures last { IfOk result (λ t.
+        AreLast (roads_of world.now traveller.now.player) (label_in labels.now member) world.now.next t.items) }
 {
     let next = world.next_number();
     let mut table = vec![in alloc; None; next as usize]?;

@@ -15,6 +15,7 @@ use mud_roads::Traveller;
 use mud_search::Labels;
 use mud_world::World;
 use std::alloc::{AllocError, Global};
+use std::marker::Model;
 
 /// Who goes, from which room, and which way; none where no walk leads, or there is nowhere to go.
 #[derive(Drop)]
@@ -22,6 +23,14 @@ pub(crate) struct Journey {
     pub(crate) player: u32,
     pub(crate) from: u32,
     pub(crate) way: Option<Way>,
+}
+
+impl Model for Journey {
+    ghost use Rattle.mud_guide.specs.Journeys.{Journey};
+
+    ghost Value = { Journey };
+
+    ghost view = { λ j. record { player = j.player; from = j.from; way = j.way } };
 }
 
 /// The journey of a member to a room, if there is one to go to.
@@ -35,7 +44,8 @@ pub(crate) fn journey_to(
 ) -> Result<Journey, AllocError>
     requires traveller { IsTraveller world.now traveller.now }
     requires room { ForSome to (λ room. IsTrue (is_room world.now room)) }
-    requires least { Labelled (roads_of world.now traveller.now.player) traveller.now.place (label_in labels.now member) }
+    requires least { Labelled (roads_of world.now traveller.now.player) traveller.now.place
+        (label_in labels.now member) }
     ensures { IfOk result (IsJourney world.now to traveller.now.player) }
 {
     let way = match to {
@@ -59,7 +69,7 @@ pub(crate) fn journeys_to(
 ) -> Result<Vec<Journey>, AllocError>
     requires travellers { All (IsTraveller world.now) travellers.now }
     requires room { ForSome to (λ room. IsTrue (is_room world.now room)) }
-    requires least { AreLeast world.now travellers.now labels.now }
+    requires least { AreLeast world.now travellers.now (label_in labels.now) }
     ensures { IfOk result (λ js. AllZip (λ t j. IsJourney world.now to t.player j) travellers.now js.items) }
 {
     let mut journeys = Vec::with_capacity(alloc, travellers.len())?;

@@ -18,13 +18,14 @@
 //! Proved is that the text tells the canonical route, or the meeting room of least greatest cost
 //! and the route of each member, as specs/Walks.antt of mud_roads defines them, that it says `no
 //! way` and `no meeting` exactly where there is none, and that the certificate has exactly the least
-//! labels and these routes. Want of memory is the one error. The laws of the definitions are the
-//! contracts of [`laws`].
+//! labels and these routes and keeps the limits of certificates, so that its text can be read back.
+//! Want of memory is the one error. The laws of the definitions are the contracts of [`laws`].
 #![tactic(auto)]
 
 mod accounts;
 mod answer;
 mod arrivals;
+mod ask;
 mod journey;
 pub mod laws;
 mod meeting;
@@ -32,4 +33,5 @@ mod route;
 mod texts;
 mod way;
 
-pub use answer::{Answer, meet_alone, route_alone};
+pub use answer::Answer;
+pub use ask::{meet_alone, route_alone};

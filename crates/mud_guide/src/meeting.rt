@@ -4,7 +4,8 @@ ghost use Rattle.std.specs.Prelude.{◌≡◌, ◌<◌, ℕ, All, IfSome, IfNone
 ghost use Rattle.mud_world.specs.State.{is_room};
 ghost use Rattle.mud_roads.specs.Open.{IsTraveller, goer};
 ghost use Rattle.mud_search.specs.Least.{label_in, AreLeast};
-ghost use Rattle.mud_guide.specs.Meetings.{IsGreatest, IsBest, NoneGather, lesser, IsPlace};
+ghost use Rattle.mud_guide.specs.Meetings.{IsPlace};
+ghost use Rattle.mud_guide.specs.Gatherings.{IsGreatest, IsBest, NoneGather, lesser};
 
 use mud_cert::Meeting;
 use mud_roads::Traveller;
@@ -30,8 +31,8 @@ fn greatest(labels: &Labels, members: usize, room: u32) -> Option<u32>
 
 // Of the rooms that all members reach the one of least greatest cost, then of lowest number.
 fn best(labels: &Labels, members: usize, next: u32) -> Option<Meeting>
-    ensures some { IfSome result (IsBest labels.now members next) }
-    ensures none { IfNone result (NoneGather labels.now members next) }
+    ensures some { IfSome result (IsBest (label_in labels.now) members next) }
+    ensures none { IfNone result (NoneGather (label_in labels.now) members next) }
 {
     let mut best: Option<Meeting> = None;
     for room in 0..next {
@@ -56,7 +57,7 @@ fn lesser(best: Option<Meeting>, room: u32, cost: u32) -> Option<Meeting>
 pub(crate) fn meeting_place(world: &World, party: &[Traveller], labels: &Labels) -> Option<Meeting>
     requires travellers { All (IsTraveller world.now) party.now }
     requires some { 0 < length party.now }
-    requires least { AreLeast world.now party.now labels.now }
+    requires least { AreLeast world.now party.now (label_in labels.now) }
     ensures place { IsPlace (map (goer world.now) party.now) result }
     ensures room { IfSome result (λ p. IsTrue (is_room world.now p.room)) }
     ensures greatest { IfSome result (λ p. IsGreatest (λ m. label_in labels.now m p.room) (length party.now) p.cost) }

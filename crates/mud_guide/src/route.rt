@@ -27,7 +27,8 @@ fn walk_to(
 ) -> Result<Vec<Step>, AllocError>
     requires traveller { IsTraveller world.now traveller.now }
     requires room { IsTrue (is_room world.now to) }
-    requires least { Labelled (roads_of world.now traveller.now.player) traveller.now.place (label_in labels.now member) }
+    requires least { Labelled (roads_of world.now traveller.now.player) traveller.now.place
+        (label_in labels.now member) }
     requires reached { IsSome (label_in labels.now member to) }
     ensures { IfOk result (λ ss. IsRoute 1 (roads_of world.now traveller.now.player) traveller.now.place to ss.items) }
 {
@@ -53,7 +54,8 @@ pub(crate) fn way_to(
 ) -> Result<Option<Way>, AllocError>
     requires traveller { IsTraveller world.now traveller.now }
     requires room { IsTrue (is_room world.now to) }
-    requires least { Labelled (roads_of world.now traveller.now.player) traveller.now.place (label_in labels.now member) }
+    requires least { Labelled (roads_of world.now traveller.now.player) traveller.now.place
+        (label_in labels.now member) }
     ensures { IfOk result (λ way. IsWay (roads_of world.now traveller.now.player) traveller.now.place to way) }
 {
     match labels.get(member, to) {

@@ -2,7 +2,8 @@
 
 ghost use Rattle.std.specs.Prelude.{◌≡◌, ◌++◌, OnOk, IfOk, Some, string_bytes, codes};
 ghost use Rattle.std.specs.List.{flat_map};
-ghost use Rattle.mud_guide.specs.Texts.{object, walk_text, cost_text, way_text, member_text, place_text, route_text, meet_text};
+ghost use Rattle.mud_guide.specs.Texts.{object, walk_text, cost_text, way_text, member_text, place_text, route_text};
+ghost use Rattle.mud_guide.specs.Texts.{meet_text};
 
 use crate::journey::Journey;
 use crate::way::Way;
@@ -26,7 +27,8 @@ fn push_object(
 
 // Writes the exits of a walk.
 fn push_exits(alloc: Global, text: &mut String, steps: &[Step]) -> Result<(), AllocError>
-    ensures { OnOk result (string_bytes text.new ≡ string_bytes text.old ++ flat_map (λ x. codes " " ++ object x.exit) steps.now) }
+    ensures { OnOk result (string_bytes text.new ≡ string_bytes text.old
+        ++ flat_map (λ x. codes " " ++ object x.exit) steps.now) }
 {
     for step in steps {
         push_object(alloc, text, " ", step.exit)?;
@@ -80,7 +82,8 @@ pub(crate) fn route_text(alloc: Global, to: u32, journey: &Journey) -> Result<St
 
 // Writes the players of a party.
 fn push_players(alloc: Global, text: &mut String, journeys: &[Journey]) -> Result<(), AllocError>
-    ensures { OnOk result (string_bytes text.new ≡ string_bytes text.old ++ flat_map (λ j. codes " " ++ object j.player) journeys.now) }
+    ensures { OnOk result (string_bytes text.new ≡ string_bytes text.old
+        ++ flat_map (λ j. codes " " ++ object j.player) journeys.now) }
 {
     for journey in journeys {
         push_object(alloc, text, " ", journey.player)?;

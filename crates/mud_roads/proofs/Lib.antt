@@ -5,3 +5,4 @@ pub mod Roads
 pub mod Opened
 pub mod Walking
 pub mod Single
+pub mod Alike

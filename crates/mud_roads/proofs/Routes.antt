@@ -6,7 +6,7 @@ use Rattle.mud_roads.specs.declared.label.Label.{Label}
 use Rattle.mud_roads.specs.declared.label.Step.{Step}
 use Rattle.mud_roads.specs.Walks.{Roads, Walk, AtMost, total, after, IsLeast, Least, EndsLeast}
 use Rattle.mud_roads.specs.Labels.{start_label}
-use Rattle.mud_roads.specs.Laws.{LeastIsOne, LeastCostIsOne, LeastIsValid}
+use Rattle.mud_roads.specs.Laws.{LeastIsOne, LeastIsValid}
 
 pub label-ext : (a b : Label) → a.cost ≡ b.cost → a.exits ≡ b.exits → a ≡ b
 label-ext a b p q =
@@ -118,14 +118,6 @@ least_is_one hop roads from to (Some a) (Some b) p q =
 -- what is labelled with the least label has it
 pub least-one : (hop : ℕ) (roads : Roads) (from to : ℕ) (o : Option Label) (l : Label) → Least hop roads from to o → IsLeast hop roads from to l → o ≡ Some l
 least-one hop roads from to o l p q = least_is_one hop roads from to o (Some l) p q
-
-pub least_cost_is_one : LeastCostIsOne
-least_cost_is_one hop hop' roads from to a b p q =
-    let one : AtMost a (total hop q.walked.0) = p.least q.walked.0 q.walked.1 in
-    let two : AtMost b (total hop' p.walked.0) = q.least p.walked.0 p.walked.1 in
-    let first : (total hop p.walked.0).cost ≡ a.cost = ap (λ (x : Label). x.cost) p.walked.2 in
-    let second : (total hop' q.walked.0).cost ≡ b.cost = ap (λ (x : Label). x.cost) q.walked.2 in
-    omega (arith, one.0, two.0, first, second)
 
 pub least_is_valid : LeastIsValid
 least_is_valid hop roads from labels known = record {

@@ -15,4 +15,5 @@ Reaches labels room l = (k : Label) × (labels room ≡ Some k) × AtMost k l
 -- the start is labelled 0, and each step out of a labelled room leads to a label that is at most the one a step on
 pub record AreValid (hop : ℕ) (roads : Roads) (from : ℕ) (labels : ℕ → Option Label) : Type 0 where
   pub start : labels from ≡ Some start_label
-  pub steps : (room : ℕ) (l : Label) (s : Step) → labels room ≡ Some l → Contains (roads room) s → Reaches labels s.to (after hop l s)
+  pub steps : (room : ℕ) (l : Label) (s : Step) → labels room ≡ Some l → Contains (roads room) s
+      → Reaches labels s.to (after hop l s)

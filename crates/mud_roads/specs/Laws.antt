@@ -6,23 +6,28 @@ use Rattle.mud_world.specs.Sound.{IsSound}
 use Rattle.mud_world.specs.Legal.{refusal, after as world_after}
 use Rattle.mud_roads.specs.declared.label.Label.{Label}
 use Rattle.mud_roads.specs.declared.label.Step.{Step}
-use Rattle.mud_roads.specs.Walks.{Roads, Walk, total, IsLeast, NoWalk, Least, IsRoute, Goer, IsMeeting}
+use Rattle.mud_roads.specs.Walks.{Roads, Walk, total, IsLeast, NoWalk, Least, IsRoute, Goer, IsMeeting, NoMeeting}
 use Rattle.mud_roads.specs.Labels.{AreValid}
 use Rattle.mud_roads.specs.Open.{passable, roads_of}
 
 -- a room has one least label
 abbrev pub LeastIsOne : Type 0
-LeastIsOne = (hop : ℕ) (roads : Roads) (from to : ℕ) (a b : Option Label) → Least hop roads from to a → Least hop roads from to b → a ≡ b
+LeastIsOne =
+    (hop : ℕ) (roads : Roads) (from to : ℕ) (a b : Option Label) → Least hop roads from to a → Least hop roads from to b
+    → a ≡ b
 
--- the least cost is the same, whether exits count or not
-abbrev pub LeastCostIsOne : Type 0
-LeastCostIsOne = (hop hop' : ℕ) (roads : Roads) (from to : ℕ) (a b : Label) → IsLeast hop roads from to a → IsLeast hop' roads from to b → a.cost ≡ b.cost
+-- a room with a least label has one whatever an exit counts as, at the same cost
+abbrev pub LeastIsAlike : Type 0
+LeastIsAlike =
+    (hop hop' : ℕ) (roads : Roads) (from to : ℕ) (l : Label) → IsLeast hop roads from to l
+    → (l' : Label) × IsLeast hop' roads from to l' × (l'.cost ≡ l.cost)
 
 -- with valid labels a walk whose label is its end's is a least one, and no walk leads where there is no label
 abbrev pub ValidIsLeast : Type 0
 ValidIsLeast =
     (hop : ℕ) (roads : Roads) (from : ℕ) (labels : ℕ → Option Label) → AreValid hop roads from labels
-    → ((to : ℕ) (ss : List Step) → Walk roads from ss to → labels to ≡ Some (total hop ss) → IsLeast hop roads from to (total hop ss))
+    → ((to : ℕ) (ss : List Step) → Walk roads from ss to → labels to ≡ Some (total hop ss)
+    → IsLeast hop roads from to (total hop ss))
     × ((to : ℕ) → labels to ≡ None → NoWalk roads from to)
 
 -- least labels are valid
@@ -33,13 +38,16 @@ LeastIsValid =
 
 -- the step is that of an exit which leaves the room and is open to p
 abbrev pub IsRoad : State → ℕ → ℕ → Step → Type 0
-IsRoad w p room s = (passage_of w s.exit ≡ Some (record { source = room; destination = s.to; cost = s.cost })) × IsTrue (passable w p s.exit)
+IsRoad w p room s =
+    (passage_of w s.exit ≡ Some (record { source = room; destination = s.to; cost = s.cost }))
+    × IsTrue (passable w p s.exit)
 
 -- in a sound world p's roads are the steps of the open exits, by rising number
 abbrev pub AreRoads : Type 0
 AreRoads =
     (w : State) → IsSound w → (p room : ℕ)
-    → ((s : Step) → Contains (roads_of w p room) s ↔ IsRoad w p room s) × AllPairs (λ a b. a.exit < b.exit) (roads_of w p room)
+    → ((s : Step) → Contains (roads_of w p room) s ↔ IsRoad w p room s)
+    × AllPairs (λ a b. a.exit < b.exit) (roads_of w p room)
 
 -- p's walks through these exits, one after the other, are legal changes that lead to a room
 abbrev pub IsWalked : State → ℕ → List Step → ℕ → Type 0
@@ -62,4 +70,13 @@ RouteIsOne =
 
 -- a party has one meeting room, at one cost
 abbrev pub MeetingIsOne : Type 0
-MeetingIsOne = (hop : ℕ) (party : List Goer) (r c r' c' : ℕ) → IsMeeting hop party r c → IsMeeting hop party r' c' → (r ≡ r') × (c ≡ c')
+MeetingIsOne =
+    (hop : ℕ) (party : List Goer) (r c r' c' : ℕ) → IsMeeting hop party r c → IsMeeting hop party r' c'
+    → (r ≡ r') × (c ≡ c')
+
+-- the meeting room and its cost are the same whatever an exit counts as, and so is that there is none
+abbrev pub MeetingIsAlike : Type 0
+MeetingIsAlike =
+    (hop hop' : ℕ) (party : List Goer)
+    → ((room cost : ℕ) → IsMeeting hop party room cost → IsMeeting hop' party room cost)
+    × (NoMeeting hop party → NoMeeting hop' party)

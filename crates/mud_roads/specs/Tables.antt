@@ -1,5 +1,6 @@
--- Rows of steps in memory, one after the other. Private clauses alone cite this file.
-use Rattle.std.specs.Prelude.{◌≡◌, ℕ, ◌-◌, ◌≤◌, List, [], ◌∷◌, length, take, drop}
+-- What a traveller has in memory. Private clauses alone cite this file.
+use Rattle.std.specs.Prelude.{◌≡◌, ℕ, ◌-◌, ◌≤◌, Bool, false, List, [], ◌∷◌, length, take, drop, slice_index_or}
+use Rattle.mud_world.specs.State.{State, unlocked}
 use Rattle.mud_roads.specs.declared.label.Step.{Step}
 
 -- the rows that end at these places, where the first begins at `from`; `steps` are those from there on
@@ -11,3 +12,7 @@ rows from (end ∷ ends) steps = take (end - from) steps ∷ rows end ends (drop
 abbrev pub Fit : ℕ → List ℕ → List Step → Type 0
 Fit from [] steps = steps ≡ []
 Fit from (end ∷ ends) steps = (from ≤ end) × (end - from ≤ length steps) × Fit end ends (drop (end - from) steps)
+
+-- the list says of each number whether the object is unlocked for p
+abbrev pub Knows : State → ℕ → List Bool → Type 0
+Knows w p opened = (n : ℕ) → slice_index_or opened n false ≡ unlocked w p n

@@ -1,6 +1,7 @@
--- Walks, least labels, routes and meetings, over any roads. Each exit of a walk counts as `hop`: 1 where the number of exits
--- matters, 0 where only costs do.
-use Rattle.std.specs.Prelude.{◌≡◌, ℕ, ◌+◌, ◌<◌, ◌≤◌, ◌⊎◌, List, [], ◌∷◌, sum_by, reverse, Contains, All, Any, Option, None, Some}
+-- Walks, least labels, routes and meetings, over any roads. Each exit of a walk counts as `hop`: 1 where the number of
+-- exits matters, 0 where only costs do.
+use Rattle.std.specs.Prelude.{◌≡◌, ℕ, ◌+◌, ◌<◌, ◌≤◌, ◌⊎◌, List, [], ◌∷◌, sum_by, reverse, Contains, All, Any, Option}
+use Rattle.std.specs.Prelude.{None, Some}
 use Rattle.mud_roads.specs.declared.label.Label.{Label}
 use Rattle.mud_roads.specs.declared.label.Step.{Step}
 

@@ -1,15 +1,17 @@
 //! What is known of the definitions alone: each contract is a law, and its function does nothing.
 
-ghost use Rattle.mud_roads.specs.Laws.{LeastIsOne, LeastCostIsOne, ValidIsLeast, LeastIsValid, AreRoads, WalksAreLegal, RouteIsOne, MeetingIsOne};
+ghost use Rattle.mud_roads.specs.Laws.{LeastIsOne, LeastIsAlike, ValidIsLeast, LeastIsValid, AreRoads, WalksAreLegal};
+ghost use Rattle.mud_roads.specs.Laws.{RouteIsOne, MeetingIsOne, MeetingIsAlike};
 
 /// A room has one least label.
 pub fn least()
     ensures { LeastIsOne }
 {}
 
-/// The least cost is the same, whether exits count or not.
+/// Costs alone and costs with exits are one notion: a least label exists for the one exactly where
+/// for the other, and costs the same.
 pub fn least_cost()
-    ensures { LeastCostIsOne }
+    ensures { LeastIsAlike }
 {}
 
 /// With valid labels a walk whose label is its end's is a least one, and no walk leads where there
@@ -42,4 +44,10 @@ pub fn one_route()
 /// A party has one meeting room at most.
 pub fn one_meeting()
     ensures { MeetingIsOne }
+{}
+
+/// A room is the meeting room by costs alone exactly where it is so by costs with exits, and there
+/// is none by the one exactly where by the other.
+pub fn meeting_cost()
+    ensures { MeetingIsAlike }
 {}

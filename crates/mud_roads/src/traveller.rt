@@ -1,8 +1,8 @@
 //! A player of a world, and what is open to him.
 
-ghost use Rattle.std.specs.Prelude.{◌≡◌, ℕ, [], IfOk, IsTrue, slice_index_or};
+ghost use Rattle.std.specs.Prelude.{◌≡◌, ℕ, IfOk, IsTrue};
 ghost use Rattle.mud_world.specs.State.{is_player};
-ghost use Rattle.mud_roads.specs.Open.{passable, roads_of, IsTraveller};
+ghost use Rattle.mud_roads.specs.Open.{passable, roads_of, known_roads, IsTraveller};
 
 use crate::Step;
 use crate::access::Access;
@@ -22,11 +22,13 @@ pub struct Traveller {
 }
 
 impl Model for Traveller {
-    ghost use Rattle.mud_roads.specs.Open.{Knowledge};
+    ghost use Rattle.mud_roads.specs.Open.{Knowledge, known, knowledge_code};
 
     ghost Value = { Knowledge };
 
-    ghost view = { λ t. record { player = t.access.player; place = t.place; opened = t.access.opened.items; roads = t.roads } };
+    ghost coded = { knowledge_code };
+
+    ghost view = { λ t. known t.access.player t.place t.access.opened.items t.roads };
 }
 
 impl Traveller {
@@ -86,7 +88,7 @@ impl Traveller {
     /// The same, as he knows them since he was made. It takes no memory and does not look at the
     /// world.
     pub fn steps_from(&self, room: u32) -> &[Step]
-        ensures { result.now ≡ slice_index_or self.now.roads room [] }
+        ensures { result.now ≡ known_roads self.now room }
     {
         self.roads.row(room)
     }

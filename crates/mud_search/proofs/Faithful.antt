@@ -13,10 +13,11 @@ use Rattle.mud_roads.proofs.Bounds.{valid_is_least}
 use Rattle.mud_roads.proofs.Routes.{label-ext}
 use Rattle.mud_search.specs.declared.slot.Slot.{Slot}
 use Rattle.mud_search.specs.declared.slot.Slot.TheVariants.{Unknown, Open, Held, Finished}
-use Rattle.mud_search.specs.Slots.{slot_at, label_at, label_of, is_open, is_held, is_below, falls, offered, offers, settled}
-use Rattle.mud_search.specs.Facts.{visited, is_in, IsWalked, IsFaithful}
+use Rattle.mud_search.specs.Boards.{slot_at, label_at, is_below, falls, offered, offers, settled, IsBoardOf}
+use Rattle.mud_search.specs.Facts.{visited, is_in, IsWalked}
+use Rattle.mud_search.specs.Slots.{label_of, is_open, is_held}
+use Rattle.mud_search.specs.Tasks.{Below}
 use Rattle.mud_search.proofs.Inside.{AreWithin}
-use Rattle.mud_search.specs.Boards.{Below}
 use Rattle.mud_search.proofs.Trails.{Falls, trail-falls, trail-reaches, trail-walk, trail-short, trail-cost, total-reverse, exits-length}
 
 pub label-set_same : (slots : List Slot) (d : ℕ) (v : Slot) → d < length slots → label_at (set slots d v) d ≡ label_of v
@@ -45,60 +46,62 @@ pub some-inj : {A : Type 0} (a b : A) → Some a ≡ Some b → a ≡ b
 some-inj a b e = cc
 
 -- a slot may be written with a walk's label that is no greater than the one before
-pub faithful-set : (roads : Roads) (from rooms : ℕ) (slots : List Slot) → IsFaithful roads from rooms slots
+pub faithful-set : (roads : Roads) (from rooms : ℕ) (slots : List Slot) → IsBoardOf roads from rooms slots
     → (d : ℕ) (v : Slot) (k : Label) → d < rooms → label_of v ≡ Some k
     → ((l : Label) → Reaches (label_at slots) d l → AtMost k l)
     → IsWalked roads (label_at (set slots d v)) from d k
     → ((s : Step) → v ≡ Finished k → Contains (roads d) s → Reaches (label_at (set slots d v)) s.to (after 1 k s))
-    → IsFaithful roads from rooms (set slots d v)
+    → IsBoardOf roads from rooms (set slots d v)
 faithful-set roads from rooms slots sound d v k h is low walked done =
     let within : d < length slots = omega (arith, sound.whole) in
     let now = label_at (set slots d v) in
     let down : Falls (label_at slots) now = falls-set slots d v k within is low in
     record {
       whole = length-set slots d v ∙ sound.whole;
-      walked = λ room l e.
-          elim (cases_eq room d) [
-            | inl same ↦
-                let kl : k ≡ l = some-inj k l (sym is ∙ sym (label-set_same slots d v within) ∙ ap now (sym same) ∙ e) in
-                let P : Label → Type 0 = λ j. IsWalked roads now from room j in
-                let Q : ℕ → Type 0 = λ r. IsWalked roads now from r k in
-                subst P kl (subst Q (sym same) walked)
-            | inr other ↦
-                let old : IsWalked roads (label_at slots) from room l = sound.walked room l (sym (label-set_other slots d v room other) ∙ e) in
-                (old.0, trail-falls roads (label_at slots) now from down old.0 room old.1, old.2)
-          ];
-      start =
-          elim (cases_eq from d) [
-            | inl same ↦
-                let zero_label : k ≡ start_label = start-least k (low start_label (start_label, ap (label_at slots) (sym same) ∙ sound.start, (omega arith, λ x. omega arith))) in
-                ap now same ∙ label-set_same slots d v within ∙ is ∙ ap Some zero_label
-            | inr other ↦ label-set_other slots d v from other ∙ sound.start
-          ];
-      finished = λ room l s e c.
-          elim (cases_eq room d) [
-            | inl same ↦
-                let at : v ≡ Finished l = sym (get_or-set_same slots d v Unknown within) ∙ ap (slot_at (set slots d v)) (sym same) ∙ e in
-                let kl : k ≡ l = some-inj k l (sym is ∙ ap label_of at) in
-                let P : Label → Type 0 = λ j. Reaches now s.to (after 1 j s) in
-                let Q : ℕ → Type 0 = λ r. Contains (roads r) s in
-                subst P kl (done s (at ∙ ap Finished (sym kl)) (subst Q same c))
-            | inr other ↦ down s.to (after 1 l s) (sound.finished room l s (sym (get_or-set_other slots d room v Unknown other) ∙ e) c)
-          ];
+      faithful = record {
+        walked = λ room l e.
+            elim (cases_eq room d) [
+              | inl same ↦
+                  let kl : k ≡ l = some-inj k l (sym is ∙ sym (label-set_same slots d v within) ∙ ap now (sym same) ∙ e) in
+                  let P : Label → Type 0 = λ j. IsWalked roads now from room j in
+                  let Q : ℕ → Type 0 = λ r. IsWalked roads now from r k in
+                  subst P kl (subst Q (sym same) walked)
+              | inr other ↦
+                  let old : IsWalked roads (label_at slots) from room l = sound.faithful.walked room l (sym (label-set_other slots d v room other) ∙ e) in
+                  (old.0, trail-falls roads (label_at slots) now from down old.0 room old.1, old.2)
+            ];
+        start =
+            elim (cases_eq from d) [
+              | inl same ↦
+                  let zero_label : k ≡ start_label = start-least k (low start_label (start_label, ap (label_at slots) (sym same) ∙ sound.faithful.start, (omega arith, λ x. omega arith))) in
+                  ap now same ∙ label-set_same slots d v within ∙ is ∙ ap Some zero_label
+              | inr other ↦ label-set_other slots d v from other ∙ sound.faithful.start
+            ];
+        finished = λ room l s e c.
+            elim (cases_eq room d) [
+              | inl same ↦
+                  let at : v ≡ Finished l = sym (get_or-set_same slots d v Unknown within) ∙ ap (slot_at (set slots d v)) (sym same) ∙ e in
+                  let kl : k ≡ l = some-inj k l (sym is ∙ ap label_of at) in
+                  let P : Label → Type 0 = λ j. Reaches now s.to (after 1 j s) in
+                  let Q : ℕ → Type 0 = λ r. Contains (roads r) s in
+                  subst P kl (done s (at ∙ ap Finished (sym kl)) (subst Q same c))
+              | inr other ↦ down s.to (after 1 l s) (sound.faithful.finished room l s (sym (get_or-set_other slots d room v Unknown other) ∙ e) c)
+            ];
+      };
     }
 
 -- a slot may change hands
-pub faithful-relabelled : (roads : Roads) (from rooms : ℕ) (slots : List Slot) → IsFaithful roads from rooms slots
+pub faithful-relabelled : (roads : Roads) (from rooms : ℕ) (slots : List Slot) → IsBoardOf roads from rooms slots
     → (d : ℕ) (v : Slot) (k : Label) → d < rooms → label_at slots d ≡ Some k → label_of v ≡ Some k
     → ((s : Step) → v ≡ Finished k → Contains (roads d) s → Reaches (label_at slots) s.to (after 1 k s))
-    → IsFaithful roads from rooms (set slots d v)
+    → IsBoardOf roads from rooms (set slots d v)
 faithful-relabelled roads from rooms slots sound d v k h was is done =
     let within : d < length slots = omega (arith, sound.whole) in
     let low : (l : Label) → Reaches (label_at slots) d l → AtMost k l = λ l r.
     let P : Label → Type 0 = λ j. AtMost j l in
     subst P (some-inj r.0 k (sym r.1 ∙ was)) r.2 in
     let down : Falls (label_at slots) (label_at (set slots d v)) = falls-set slots d v k within is low in
-    let old : IsWalked roads (label_at slots) from d k = sound.walked d k was in
+    let old : IsWalked roads (label_at slots) from d k = sound.faithful.walked d k was in
     faithful-set roads from rooms slots sound d v k h is low
     (old.0, trail-falls roads (label_at slots) (label_at (set slots d v)) from down old.0 d old.1, old.2)
     (λ s e c. down s.to (after 1 k s) (done s e c))
@@ -118,11 +121,11 @@ bool-cases true = inl refl
 bool-cases false = inr refl
 
 -- a step may lower the label where it leads
-pub faithful-lowered : (roads : Roads) (from rooms : ℕ) (slots : List Slot) → IsFaithful roads from rooms slots
+pub faithful-lowered : (roads : Roads) (from rooms : ℕ) (slots : List Slot) → IsBoardOf roads from rooms slots
     → AreWithin roads rooms
     → (by : ℕ) (l : Label) (s : Step) → label_at slots by ≡ Some l → Contains (roads by) s
     → ((k : Label) → label_at slots s.to ≡ Some k → Below (after 1 l s) k)
-    → IsFaithful roads from rooms (set slots s.to (Open (after 1 l s)))
+    → IsBoardOf roads from rooms (set slots s.to (Open (after 1 l s)))
 faithful-lowered roads from rooms slots sound inside by l s was c less =
     let h : s.to < rooms = (inside by s c).0 in
     let within : s.to < length slots = omega (arith, sound.whole) in
@@ -133,12 +136,12 @@ faithful-lowered roads from rooms slots sound inside by l s was c less =
     (omega arith, λ e. omega arith) in
     let now = label_at (set slots s.to (Open (after 1 l s))) in
     let down : Falls (label_at slots) now = falls-set slots s.to v (after 1 l s) within refl low in
-    let old : IsWalked roads (label_at slots) from by l = sound.walked by l was in
+    let old : IsWalked roads (label_at slots) from by l = sound.faithful.walked by l was in
     let sum : total 1 (s ∷ old.0) ≡ after 1 l s = total-cons s old.0 ∙ ap (λ (k : Label). after 1 k s) old.2 in
     let fresh : is_in s.to (visited from old.0) ≡ false =
     elim (bool-cases (is_in s.to (visited from old.0))) [
       | inl seen ↦
-          let r : Reaches (label_at slots) s.to (total 1 old.0) = trail-reaches roads (label_at slots) from sound.start old.0 by old.1 s.to seen in
+          let r : Reaches (label_at slots) s.to (total 1 old.0) = trail-reaches roads (label_at slots) from sound.faithful.start old.0 by old.1 s.to seen in
           let b : Below (after 1 l s) r.0 = less r.0 r.1 in
           let p : AtMost r.0 (total 1 old.0) = r.2 in
           let cost : (total 1 old.0).cost ≡ l.cost = ap (λ (k : Label). k.cost) old.2 in
@@ -158,7 +161,7 @@ faithful-lowered roads from rooms slots sound inside by l s was c less =
 
 -- what is kept from one list of slots to the next, where the steps of a room are followed
 pub record Follows (roads : Roads) (from rooms by : ℕ) (l : Label) (before then : List Slot) : Type 0 where
-  pub sound : IsFaithful roads from rooms then
+  pub sound : IsBoardOf roads from rooms then
   pub still : label_at then by ≡ Some l
   pub kept : slot_at then by ≡ slot_at before by
   pub down : Falls (label_at before) (label_at then)
@@ -170,7 +173,7 @@ self-loop l k s e b =
     let c : Below (after 1 l s) l = subst P e b in
     omega (arith, c.1 (omega arith))
 
-pub follows-offered : (roads : Roads) (from rooms : ℕ) (slots : List Slot) → IsFaithful roads from rooms slots → AreWithin roads rooms
+pub follows-offered : (roads : Roads) (from rooms : ℕ) (slots : List Slot) → IsBoardOf roads from rooms slots → AreWithin roads rooms
     → (by : ℕ) (l : Label) (s : Step) → label_at slots by ≡ Some l → Contains (roads by) s
     → Follows roads from rooms by l slots (offered l s slots) × Reaches (label_at (offered l s slots)) s.to (after 1 l s)
 follows-offered roads from rooms slots sound inside by l s was c =
@@ -221,7 +224,7 @@ first-or x xs y (suc k, h, e) = inr (k, omega arith, e)
 -- all steps out of a room may be followed, and none then leads to a greater label
 pub follows-offers : (roads : Roads) (from rooms : ℕ) → AreWithin roads rooms → (by : ℕ) (l : Label)
     → (ss : List Step) → ((s : Step) → Contains ss s → Contains (roads by) s)
-    → (slots : List Slot) → IsFaithful roads from rooms slots → label_at slots by ≡ Some l
+    → (slots : List Slot) → IsBoardOf roads from rooms slots → label_at slots by ≡ Some l
     → Follows roads from rooms by l slots (offers l ss slots)
     × ((s : Step) → Contains ss s → Reaches (label_at (offers l ss slots)) s.to (after 1 l s))
 follows-offers roads from rooms inside by l [] those slots sound was =
@@ -247,8 +250,8 @@ follows-offers roads from rooms inside by l (s ∷ ss) those slots sound was =
 -- a room whose steps are followed may be finished
 pub faithful-settled : (roads : Roads) (from rooms : ℕ) → AreWithin roads rooms → (room : ℕ) (l : Label)
     → (steps : List Step) → steps ≡ roads room
-    → (slots : List Slot) → IsFaithful roads from rooms slots → label_at slots room ≡ Some l → room < rooms
-    → IsFaithful roads from rooms (settled room l steps slots)
+    → (slots : List Slot) → IsBoardOf roads from rooms slots → label_at slots room ≡ Some l → room < rooms
+    → IsBoardOf roads from rooms (settled room l steps slots)
 faithful-settled roads from rooms inside room l steps are slots sound was h =
     let P : Step → List Step → Type 0 = λ s ss. Contains ss s in
     let all = follows-offers roads from rooms inside room l steps (λ s c. subst (P s) are c) slots sound was in
@@ -256,11 +259,11 @@ faithful-settled roads from rooms inside room l steps are slots sound was h =
     (λ s e c. all.1 s (subst (P s) (sym are) c))
 
 -- no label is greater than the longest walk that visits no room twice
-pub label-bound : (roads : Roads) (from rooms : ℕ) (slots : List Slot) → IsFaithful roads from rooms slots → AreWithin roads rooms
+pub label-bound : (roads : Roads) (from rooms : ℕ) (slots : List Slot) → IsBoardOf roads from rooms slots → AreWithin roads rooms
     → (room : ℕ) (l : Label) → label_at slots room ≡ Some l → (l.exits < rooms) × (l.cost ≤ 10000 * l.exits)
 label-bound roads from rooms slots sound inside room l e =
-    let at = sound.walked room l e in
-    let start : from < rooms = omega (arith, labelled-within slots from start_label sound.start, sound.whole) in
+    let at = sound.faithful.walked room l e in
+    let start : from < rooms = omega (arith, labelled-within slots from start_label sound.faithful.start, sound.whole) in
     let cost : (total 1 at.0).cost ≡ l.cost = ap (λ (k : Label). k.cost) at.2 in
     let exits : length at.0 ≡ l.exits = sym (exits-length at.0) ∙ ap (λ (k : Label). k.exits) at.2 in
     let short : length at.0 < rooms = trail-short roads (label_at slots) from rooms inside start at.0 room at.1 in
@@ -316,20 +319,20 @@ rest-finished slots rest room l e = go (slot_at slots room) refl
     go (Finished k) at = at ∙ ap Finished (some-inj k l (sym (ap label_of at) ∙ e))
 
 -- at rest the labels are the least
-pub rest-least : (roads : Roads) (from rooms : ℕ) (slots : List Slot) → IsFaithful roads from rooms slots → IsStill slots
+pub rest-least : (roads : Roads) (from rooms : ℕ) (slots : List Slot) → IsBoardOf roads from rooms slots → IsStill slots
     → (room : ℕ) → Least 1 roads from room (label_at slots room)
 rest-least roads from rooms slots sound rest room = go (label_at slots room) refl
   where
     valid : AreValid 1 roads from (label_at slots)
     valid = record {
-      start = sound.start;
-      steps = λ r l s e c. sound.finished r l s (rest-finished slots rest r l e) c;
+      start = sound.faithful.start;
+      steps = λ r l s e c. sound.faithful.finished r l s (rest-finished slots rest r l e) c;
     }
 
     go : (o : Option Label) → label_at slots room ≡ o → Least 1 roads from room o
     go None at = (valid_is_least 1 roads from (label_at slots) valid).1 room at
     go (Some l) at =
-        let walked = sound.walked room l at in
+        let walked = sound.faithful.walked room l at in
         let sum : total 1 (reverse walked.0) ≡ l = total-reverse walked.0 ∙ walked.2 in
         let P : Label → Type 0 = λ k. IsLeast 1 roads from room k in
         subst P sum ((valid_is_least 1 roads from (label_at slots) valid).0 room (reverse walked.0) (trail-walk roads (label_at slots) from walked.0 room walked.1) (at ∙ ap Some (sym sum)))

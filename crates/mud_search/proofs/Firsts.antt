@@ -8,8 +8,8 @@ use Rattle.mud_roads.specs.declared.label.Label.{Label}
 use Rattle.mud_search.specs.declared.slot.Slot.{Slot}
 use Rattle.mud_search.specs.declared.slot.Slot.TheVariants.{Unknown, Open}
 use Rattle.mud_search.specs.declared.task.Task.{Task}
-use Rattle.mud_search.specs.Slots.{slot_at, is_below, IsBefore}
-use Rattle.mud_search.specs.Boards.{slot_of, IsTaskBefore, IsFirst, lesser}
+use Rattle.mud_search.specs.Boards.{slot_at, is_below, IsBefore, slot_of, lesser}
+use Rattle.mud_search.specs.Tasks.{IsTaskBefore, IsFirst}
 
 -- the task is the first of the members so far; with none no room of theirs is open
 abbrev pub BestSoFar : List (List Slot) → ℕ → Option Task → Type 0
@@ -126,7 +126,7 @@ open-member boards m r l e =
 
 -- past the last member the best is the first of all
 pub best-all-some : (boards : List (List Slot)) (n : ℕ) (best : Option Task) → length boards ≤ n → BestSoFar boards n best
-    → IfSome best (λ t. IsFirst boards t)
+    → IfSome best (λ t. IsFirst (slot_of boards) t)
 best-all-some boards n None h b = tt
 best-all-some boards n (Some t) h b = record {
   is_open = b.1;

@@ -1,5 +1,5 @@
 -- The facts of a frontier last.
-use Rattle.std.proofs.Common.{◌≡◌, ◌≢◌, ℕ, ◌+◌, ◌^◌, ◌<◌, ◌≤◌, ◌⊎◌, inl, inr, Bool, true, false, List, [], length, map, get_or, set, replicate, Option, None, Some, refl, sym, ◌∙◌, ap, subst, arith, get_or-set_same, get_or-set_other, length-set}
+use Rattle.std.proofs.Common.{◌≡◌, ◌≢◌, ℕ, ◌+◌, ◌^◌, ◌<◌, ◌≤◌, ◌⊎◌, inl, inr, Bool, true, false, List, [], length, map, get_or, set, replicate, None, Some, refl, sym, ◌∙◌, ap, subst, arith, get_or-set_same, get_or-set_other, length-set}
 use Rattle.std.specs.Bool.{OnTrue, OnFalse}
 use Rattle.std.proofs.Math.ListN.{get_or-map}
 use Rattle.std.proofs.lemmas.List.Sums.{get_or-le-sum_by}
@@ -11,35 +11,45 @@ use Rattle.std.proofs.lemmas.Option.{slice_get_within, get_or_from_slice_get, sl
 use Rattle.std.specs.Option.{option_map}
 use Rattle.mud_roads.specs.declared.label.Label.{Label}
 use Rattle.mud_roads.specs.declared.label.Step.{Step}
-use Rattle.mud_roads.specs.Walks.{AtMost, after, Least}
+use Rattle.mud_roads.specs.Walks.{AtMost, after}
 use Rattle.mud_roads.specs.Labels.{start_label, Reaches}
 use Rattle.mud_world.specs.State.{State}
-use Rattle.mud_roads.specs.Open.{Knowledge, IsTraveller, roads_of}
+use Rattle.mud_roads.specs.Open.{Knowledge, known, IsTraveller, roads_of}
 use Rattle.mud_world.specs.Sound.{IsSound}
 use Rattle.mud_search.proofs.Inside.{world-within, place-within}
 use Rattle.mud_search.specs.declared.slot.Slot.{Slot}
 use Rattle.mud_search.specs.declared.slot.Slot.TheVariants.{Unknown, Open, Held, Finished}
-use Rattle.mud_search.specs.Slots.{slot_at, label_at, label_of, settled, is_open, is_held, offers}
-use Rattle.mud_search.specs.Facts.{IsFaithful}
-use Rattle.mud_search.specs.Boards.{IsFrontier, board_of, slot_of, with_slot, begun_at, begun, potential, weight, labels_of, IsDone}
-use Rattle.mud_search.specs.Least.{AreLeast, AreBounded, label_in}
+use Rattle.mud_search.specs.Boards.{slot_at, label_at, settled, offers, IsBoardOf, IsKept, board_of, slot_of, begun_at, potential, weight, lists_of}
+use Rattle.mud_search.specs.Slots.{label_of, is_open, is_held}
+use Rattle.mud_search.specs.Facts.{IsFrontier}
+use Rattle.mud_search.specs.Tasks.{IsBegun, IsDone}
+use Rattle.mud_search.specs.Least.{AreLeast, AreBounded, label_in, labelling}
+use Rattle.mud_search.specs.Rooms.{rooms, labels_in}
 use Rattle.mud_search.proofs.Trails.{Falls}
 use Rattle.mud_search.proofs.Faithful.{faithful-relabelled, faithful-settled, label-bound, rest-least, IsStill, still-from_rest, follows-offers, falls-set, some-inj, offers-slot}
 use Rattle.mud_search.proofs.Firsts.{open-member}
 use Rattle.mud_search.proofs.Potential.{weight-settled_left, potential-set_less}
 
+-- with another slot at a member's room
+abbrev pub with_slot : List (List Slot) → ℕ → ℕ → Slot → List (List Slot)
+with_slot boards member room v = set boards member (set (board_of boards member) room v)
+
+-- the boards of the beginning
+abbrev pub begun : ℕ → List Knowledge → List (List Slot)
+begun rooms ts = map (begun_at rooms) ts
+
 -- what stands where a list of members is asked past its end
 abbrev nobody : Knowledge
-nobody = record { player = 0; place = 0; opened = []; roads = [] }
+nobody = known 0 0 [] []
 
 member-of : (ts : List Knowledge) (m : ℕ) → m < length ts → (t : Knowledge) × (slice_get ts m ≡ Some t)
 member-of ts m h = (get_or ts m nobody, slice_get-get_or ts m nobody h)
 
 -- one member's slots may change to sound ones
-pub frontier-set : (w : State) (ts : List Knowledge) (boards : List (List Slot)) → IsFrontier w ts boards
+pub frontier-set : (w : State) (ts : List Knowledge) (boards : List (List Slot)) → IsKept w ts boards
     → (m : ℕ) (b : List Slot) → m < length boards
-    → ((t : Knowledge) → slice_get ts m ≡ Some t → IsFaithful (roads_of w t.player) t.place w.next b)
-    → IsFrontier w ts (set boards m b)
+    → ((t : Knowledge) → slice_get ts m ≡ Some t → IsBoardOf (roads_of w t.player) t.place w.next b)
+    → IsKept w ts (set boards m b)
 frontier-set w ts boards f m b h sound = record {
   sound = f.sound;
   count = length-set boards m b ∙ f.count;
@@ -47,11 +57,11 @@ frontier-set w ts boards f m b h sound = record {
   faithful = λ n t is.
       elim (cases_eq n m) [
         | inl same ↦
-            let P : List Slot → Type 0 = λ x. IsFaithful (roads_of w t.player) t.place w.next x in
+            let P : List Slot → Type 0 = λ x. IsBoardOf (roads_of w t.player) t.place w.next x in
             let e : board_of (set boards m b) n ≡ b = ap (λ (k : ℕ). get_or (set boards m b) k []) same ∙ get_or-set_same boards m b [] h in
             subst P (sym e) (sound t (ap (slice_get ts) (sym same) ∙ is))
         | inr other ↦
-            let P : List Slot → Type 0 = λ x. IsFaithful (roads_of w t.player) t.place w.next x in
+            let P : List Slot → Type 0 = λ x. IsBoardOf (roads_of w t.player) t.place w.next x in
             subst P (sym (get_or-set_other boards m n b [] other)) (f.faithful n t is)
       ];
 }
@@ -68,59 +78,69 @@ labelled-within slots room l e =
     ]
 
 -- a room may change hands
-pub frontier-relabelled : (w : State) (ts : List Knowledge) (boards : List (List Slot)) → IsFrontier w ts boards
+pub frontier-relabelled : (w : State) (ts : List Knowledge) (boards : List (List Slot)) → IsKept w ts boards
     → (m room : ℕ) (v : Slot) (l : Label) → m < length boards → label_at (board_of boards m) room ≡ Some l → label_of v ≡ Some l → ((k : Label) → v ≢ Finished k)
-    → IsFrontier w ts (with_slot boards m room v)
+    → IsKept w ts (with_slot boards m room v)
 frontier-relabelled w ts boards f m room v l h was is not_done =
     frontier-set w ts boards f m (set (board_of boards m) room v) h (λ t e.
     let sound = f.faithful m t e in
     let within : room < w.next = omega (arith, sound.whole, labelled-within (board_of boards m) room l was) in
     faithful-relabelled (roads_of w t.player) t.place w.next (board_of boards m) sound room v l within was is (λ s d c. absurd (not_done l d)))
 
+-- a blank board
+blank-at : (n room : ℕ) → slot_at (replicate n Unknown) room ≡ Unknown
+blank-at n room =
+    elim (cases_lt room n) [
+      | inl inside ↦ get_or-replicate n room Unknown Unknown inside
+      | inr past ↦ get_or_past (replicate n Unknown) room Unknown (rw length-replicate past)
+    ]
+
+begun-first : (n : ℕ) (t : Knowledge) → t.place < n → slot_at (begun_at n t) t.place ≡ Open start_label
+begun-first n t h =
+    let blank : List Slot = replicate n Unknown in
+    let within : t.place < length blank = rw length-replicate h in
+    get_or-set_same blank t.place (Open start_label) Unknown within
+
+begun-other : (n : ℕ) (t : Knowledge) (room : ℕ) → room ≢ t.place → slot_at (begun_at n t) room ≡ Unknown
+begun-other n t room other = get_or-set_other (replicate n Unknown) t.place room (Open start_label) Unknown other ∙ blank-at n room
+
 -- at first the place alone is labelled
-pub begun-faithful : (w : State) (t : Knowledge) → t.place < w.next → IsFaithful (roads_of w t.player) t.place w.next (begun_at w.next t)
+pub begun-faithful : (w : State) (t : Knowledge) → t.place < w.next → IsBoardOf (roads_of w t.player) t.place w.next (begun_at w.next t)
 begun-faithful w t h =
     let slots : List Slot = begun_at w.next t in
     let blank : List Slot = replicate w.next Unknown in
-    let within : t.place < length blank = rw length-replicate h in
-    let first : slot_at slots t.place ≡ Open start_label = get_or-set_same blank t.place (Open start_label) Unknown within in
-    let unknown : (room : ℕ) → room ≢ t.place → slot_at slots room ≡ Unknown = λ room other.
-    get_or-set_other blank t.place room (Open start_label) Unknown other ∙ blank-at w.next room in
+    let first : slot_at slots t.place ≡ Open start_label = begun-first w.next t h in
+    let unknown : (room : ℕ) → room ≢ t.place → slot_at slots room ≡ Unknown = begun-other w.next t in
     record {
       whole = length-set blank t.place (Open start_label) ∙ length-replicate w.next Unknown;
-      walked = λ room l e.
-          elim (cases_eq room t.place) [
-            | inl same ↦
-                let label : Some start_label ≡ Some l = sym (ap label_of first) ∙ ap (label_at slots) (sym same) ∙ e in
-                ([], sym same, some-inj start_label l label)
-            | inr other ↦
-                let bad : None ≡ Some l = sym (ap label_of (unknown room other)) ∙ e in
-                absurd (cc)
-          ];
-      start = ap label_of first;
-      finished = λ room l s e c.
-          elim (cases_eq room t.place) [
-            | inl same ↦
-                let bad : Open start_label ≡ Finished l = sym first ∙ ap (slot_at slots) (sym same) ∙ e in
-                absurd (cc)
-            | inr other ↦
-                let bad : Unknown ≡ Finished l = sym (unknown room other) ∙ e in
-                absurd (cc)
-          ];
+      faithful = record {
+        walked = λ room l e.
+            elim (cases_eq room t.place) [
+              | inl same ↦
+                  let label : Some start_label ≡ Some l = sym (ap label_of first) ∙ ap (label_at slots) (sym same) ∙ e in
+                  ([], sym same, some-inj start_label l label)
+              | inr other ↦
+                  let bad : None ≡ Some l = sym (ap label_of (unknown room other)) ∙ e in
+                  absurd (cc)
+            ];
+        start = ap label_of first;
+        finished = λ room l s e c.
+            elim (cases_eq room t.place) [
+              | inl same ↦
+                  let bad : Open start_label ≡ Finished l = sym first ∙ ap (slot_at slots) (sym same) ∙ e in
+                  absurd (cc)
+              | inr other ↦
+                  let bad : Unknown ≡ Finished l = sym (unknown room other) ∙ e in
+                  absurd (cc)
+            ];
+      };
     }
   where
     some-inj : (a b : Label) → Some a ≡ Some b → a ≡ b
     some-inj a b e = cc
 
-    blank-at : (n room : ℕ) → slot_at (replicate n Unknown) room ≡ Unknown
-    blank-at n room =
-        elim (cases_lt room n) [
-          | inl inside ↦ get_or-replicate n room Unknown Unknown inside
-          | inr past ↦ get_or_past (replicate n Unknown) room Unknown (rw length-replicate past)
-        ]
-
 -- what a settled room needs, and what it leaves
-module _ (w : State) (ts : List Knowledge) (boards : List (List Slot)) (f : IsFrontier w ts boards) (m room : ℕ) (h : m < length boards) (steps : List Step)
+module _ (w : State) (ts : List Knowledge) (boards : List (List Slot)) (f : IsKept w ts boards) (m room : ℕ) (h : m < length boards) (steps : List Step)
     (are : (t : Knowledge) → slice_get ts m ≡ Some t → steps ≡ roads_of w t.player room) where
   within-ts : m < length ts
   within-ts = omega (arith, f.count)
@@ -145,7 +165,7 @@ module _ (w : State) (ts : List Knowledge) (boards : List (List Slot)) (f : IsFr
       let all : All R (roads_of w who.player room) = λ k d lt. world-within w who f.sound room (get_or (roads_of w who.player room) k d) (Contains-get_or (roads_of w who.player room) k d lt) in
       subst P (sym (are who is-who)) (subst Q (sym (f.faithful m who is-who).whole) all)
 
-  pub put-kept : (l : Label) → label_at (board_of boards m) room ≡ Some l → IsFrontier w ts (set boards m (settled room l steps (board_of boards m)))
+  pub put-kept : (l : Label) → label_at (board_of boards m) room ≡ Some l → IsKept w ts (set boards m (settled room l steps (board_of boards m)))
   put-kept l e =
       frontier-set w ts boards f m (settled room l steps (board_of boards m)) h (λ t is.
       let sound = f.faithful m t is in
@@ -164,7 +184,7 @@ module _ (w : State) (ts : List Knowledge) (boards : List (List Slot)) (f : IsFr
       (weight-settled_left (roads_of w who.player) who.place w.next (world-within w who f.sound) f.sound.limit room l steps (are who is-who) (board_of boards m) sound was heavy within)
 
   pub put-done : (l : Label) → label_at (board_of boards m) room ≡ Some l
-      → IsDone boards (set boards m (settled room l steps (board_of boards m))) (record { member = m; room = room; label = l }) steps
+      → IsDone (slot_of boards) (slot_of (set boards m (settled room l steps (board_of boards m)))) (record { member = m; room = room; label = l }) steps
   put-done l was =
       let sound = f.faithful m who is-who in
       let slots = board_of boards m in
@@ -195,13 +215,13 @@ module _ (w : State) (ts : List Knowledge) (boards : List (List Slot)) (f : IsFr
       }
 
 -- at first all is sound
-pub frontier-begun : (w : State) (ts : List Knowledge) → IsSound w → All (IsTraveller w) ts → length ts ≤ 8 → IsFrontier w ts (begun w.next ts)
+pub frontier-begun : (w : State) (ts : List Knowledge) → IsSound w → All (IsTraveller w) ts → length ts ≤ 8 → IsKept w ts (begun w.next ts)
 frontier-begun w ts g these few = record {
   sound = g;
   count = length-map ts (begun_at w.next);
   few = few;
   faithful = λ m t is.
-      let P : List Slot → Type 0 = λ b. IsFaithful (roads_of w t.player) t.place w.next b in
+      let P : List Slot → Type 0 = λ b. IsBoardOf (roads_of w t.player) t.place w.next b in
       let got : slice_get (map (begun_at w.next) ts) m ≡ Some (begun_at w.next t) = slice_get-map (begun_at w.next) ts m ∙ ap (option_map (begun_at w.next)) is in
       let place : t.place < w.next = at-place t m is in
       subst P (sym (get_or_from_slice_get (map (begun_at w.next) ts) m (begun_at w.next t) [] got)) (begun-faithful w t place);
@@ -213,35 +233,37 @@ frontier-begun w ts g these few = record {
         place-within w t g (subst P (get_or_from_slice_get ts m t t is) (All-get_or P ts m t (slice_get_within ts m t is) these))
 
 -- a room that is held may be opened again, and nothing else
-pub frontier-released : (w : State) (ts : List Knowledge) (boards : List (List Slot)) → IsFrontier w ts boards
+pub frontier-released : (w : State) (ts : List Knowledge) (boards : List (List Slot)) → IsKept w ts boards
     → (m room : ℕ) (l : Label) (b : List Slot) → m < length boards → (done : Bool)
     → OnTrue done ((slot_of boards m room ≡ Held l) × (b ≡ set (board_of boards m) room (Open l)))
     → OnFalse done ((slot_of boards m room ≢ Held l) × (b ≡ board_of boards m))
-    → IsFrontier w ts (set boards m b)
+    → IsKept w ts (set boards m b)
 frontier-released w ts boards f m room l b h true t u =
-    let P : List Slot → Type 0 = λ x. IsFrontier w ts (set boards m x) in
+    let P : List Slot → Type 0 = λ x. IsKept w ts (set boards m x) in
     subst P (sym t.1) (frontier-relabelled w ts boards f m room (Open l) l h (ap label_of t.0) refl (λ k e. cc))
 frontier-released w ts boards f m room l b h false t u =
-    let P : List Slot → Type 0 = λ x. IsFrontier w ts (set boards m x) in
+    let P : List Slot → Type 0 = λ x. IsKept w ts (set boards m x) in
     subst P (sym u.1) (frontier-set w ts boards f m (board_of boards m) h (λ t e. f.faithful m t e))
 
 -- the labels of slots are the slots' labels
-label-of_boards : (boards : List (List Slot)) (m room : ℕ) → label_in (labels_of boards) m room ≡ label_at (board_of boards m) room
+pub label-of_boards : (boards : List (List Slot)) (m room : ℕ) → label_in (labelling (lists_of boards)) m room ≡ label_at (board_of boards m) room
 label-of_boards boards m room = ap (λ b. get_or b room None) (get_or-map (map label_of) boards m []) ∙ get_or-map label_of (board_of boards m) room Unknown
 
+-- none past the last member
+pub label-past : (boards : List (List Slot)) (m room : ℕ) → length boards ≤ m → label_at (board_of boards m) room ≡ None
+label-past boards m room past = ap (λ (b : List Slot). label_at b room) (get_or_past boards m [] past)
+
 -- where no room is open or held the labels are the least
-pub frontier-still : (w : State) (ts : List Knowledge) (boards : List (List Slot)) → IsFrontier w ts boards
+pub frontier-still : (w : State) (ts : List Knowledge) (boards : List (List Slot)) → IsKept w ts boards
     → ((m room : ℕ) (l : Label) → slot_of boards m room ≡ Open l → ⊥)
     → ((m room : ℕ) (l : Label) → slot_of boards m room ≡ Held l → ⊥)
-    → AreLeast w ts (labels_of boards)
+    → AreLeast w ts (labels_in (rooms boards))
 frontier-still w ts boards f unopened unheld m room t is =
-    let P : Option Label → Type 0 = λ o. Least 1 (roads_of w t.player) t.place room o in
-    subst P (sym (label-of_boards boards m room)) (rest-least (roads_of w t.player) t.place w.next (board_of boards m) (f.faithful m t is) (record { unopened = unopened m; unheld = unheld m }) room)
+    rest-least (roads_of w t.player) t.place w.next (board_of boards m) (f.faithful m t is) (record { unopened = unopened m; unheld = unheld m }) room
 
 -- no label is too great
-pub frontier-bounded : (w : State) (ts : List Knowledge) (boards : List (List Slot)) → IsFrontier w ts boards → AreBounded (labels_of boards)
-frontier-bounded w ts boards f m room l e =
-    let was : label_at (board_of boards m) room ≡ Some l = sym (label-of_boards boards m room) ∙ e in
+pub frontier-bounded : (w : State) (ts : List Knowledge) (boards : List (List Slot)) → IsKept w ts boards → AreBounded (labels_in (rooms boards))
+frontier-bounded w ts boards f m room l was =
     let h : m < length ts = omega (arith, f.count, labelled-member boards m room l was) in
     let t = member-of ts m h in
     let bound = label-bound (roads_of w t.0.player) t.0.place w.next (board_of boards m) (f.faithful m t.0 t.1) (world-within w t.0 f.sound) room l was in
@@ -258,8 +280,8 @@ frontier-bounded w ts boards f m room l e =
         ]
 
 -- and so where the counts are 0
-pub frontier-rest : (w : State) (ts : List Knowledge) (boards : List (List Slot)) → IsFrontier w ts boards
-    → sum_by (count_by is_open) boards ≡ 0 → sum_by (count_by is_held) boards ≡ 0 → AreLeast w ts (labels_of boards)
+pub frontier-rest : (w : State) (ts : List Knowledge) (boards : List (List Slot)) → IsKept w ts boards
+    → sum_by (count_by is_open) boards ≡ 0 → sum_by (count_by is_held) boards ≡ 0 → AreLeast w ts (labels_in (rooms boards))
 frontier-rest w ts boards f opened held =
     frontier-still w ts boards f
     (λ m room l e. (none m (open-member boards m room l e)).unopened room l e)
@@ -279,3 +301,48 @@ frontier-rest w ts boards f opened held =
               let bad : Unknown ≡ Held l = sym (ap (λ (b : List Slot). slot_at b r) (get_or_past boards m [] past)) ∙ e in
               absurd (cc)
         ]
+
+-- at first the places alone are known
+pub begun-is : (w : State) (ts : List Knowledge) → IsSound w → All (IsTraveller w) ts → IsBegun ts (slot_of (begun w.next ts))
+begun-is w ts g these = record {
+  place = λ m t is. ap (λ b. slot_at b t.place) (board m t is) ∙ begun-first w.next t (inside m t is);
+  others = λ m room apart.
+      elim (cases_lt m (length ts)) [
+        | inl h ↦
+            let t = member-of ts m h in
+            ap (λ b. slot_at b room) (board m t.0 t.1) ∙ begun-other w.next t.0 room (apart t.0 t.1)
+        | inr past ↦
+            let long = length-map ts (begun_at w.next) in
+            ap (λ b. slot_at b room) (get_or_past (begun w.next ts) m [] (omega (arith, long, past)))
+      ];
+}
+  where
+    board : (m : ℕ) (t : Knowledge) → slice_get ts m ≡ Some t → board_of (begun w.next ts) m ≡ begun_at w.next t
+    board m t is = get_or_from_slice_get (begun w.next ts) m (begun_at w.next t) [] (slice_get-map (begun_at w.next) ts m ∙ ap (option_map (begun_at w.next)) is)
+
+    inside : (m : ℕ) (t : Knowledge) → slice_get ts m ≡ Some t → t.place < w.next
+    inside m t is =
+        let P : Knowledge → Type 0 = λ x. IsTraveller w x in
+        place-within w t g (subst P (get_or_from_slice_get ts m t t is) (All-get_or P ts m t (slice_get_within ts m t is) these))
+
+-- what is kept, as it is told
+pub frontier-facts : (w : State) (ts : List Knowledge) (boards : List (List Slot)) → IsKept w ts boards → IsFrontier w ts (slot_of boards)
+frontier-facts w ts boards f = record {
+  sound = f.sound;
+  few = f.few;
+  inside = λ m room known.
+      elim (cases_lt m (length ts)) [
+        | inl h ↦
+            let t = member-of ts m h in
+            elim (cases_lt room w.next) [
+              | inl within ↦ (h, within)
+              | inr past ↦
+                  let whole = (f.faithful m t.0 t.1).whole in
+                  absurd (known (get_or_past (board_of boards m) room Unknown (omega (arith, whole, past))))
+            ]
+        | inr past ↦
+            let count = f.count in
+            absurd (known (ap (λ b. slot_at b room) (get_or_past boards m [] (omega (arith, count, past)))))
+      ];
+  faithful = λ m t is. (f.faithful m t is).faithful;
+}

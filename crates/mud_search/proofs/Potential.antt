@@ -7,10 +7,10 @@ use Rattle.mud_roads.specs.declared.label.Step.{Step}
 use Rattle.mud_roads.specs.Walks.{Roads, after}
 use Rattle.mud_search.specs.declared.slot.Slot.{Slot}
 use Rattle.mud_search.specs.declared.slot.Slot.TheVariants.{Unknown, Open, Held, Finished}
-use Rattle.mud_search.specs.Slots.{slot_at, label_at, label_of, falls, offered, offers, settled}
-use Rattle.mud_search.specs.Facts.{IsFaithful}
+use Rattle.mud_search.specs.Boards.{slot_at, label_at, falls, offered, offers, settled, IsBoardOf, weight, potential, board_of}
+use Rattle.mud_search.specs.Slots.{label_of}
+use Rattle.mud_search.specs.Tasks.{Below}
 use Rattle.mud_search.proofs.Inside.{AreWithin}
-use Rattle.mud_search.specs.Boards.{weight, potential, board_of, Below}
 use Rattle.mud_search.proofs.Faithful.{below-from_test, faithful-lowered, label-bound, label-set_same, follows-offered, follows-offers, some-inj, here, there}
 
 -- a lighter slot makes the whole lighter
@@ -29,7 +29,7 @@ weight-lower (Open k) a small dear less = omega (arith, rank-falls a k small (le
 weight-lower (Held k) a small dear less = omega (arith, rank-falls a k small (less k refl))
 weight-lower (Finished k) a small dear less = omega (arith, rank-falls a k small (less k refl))
 
-weight-offered : (roads : Roads) (from rooms : ℕ) (slots : List Slot) → IsFaithful roads from rooms slots → AreWithin roads rooms → rooms ≤ 8192
+weight-offered : (roads : Roads) (from rooms : ℕ) (slots : List Slot) → IsBoardOf roads from rooms slots → AreWithin roads rooms → rooms ≤ 8192
     → (by : ℕ) (l : Label) (s : Step) → label_at slots by ≡ Some l → Contains (roads by) s
     → sum_by weight (offered l s slots) ≤ sum_by weight slots
 weight-offered roads from rooms slots sound inside few by l s was c = go (falls (after 1 l s) (label_at slots s.to)) refl
@@ -40,14 +40,14 @@ weight-offered roads from rooms slots sound inside few by l s was c = go (falls 
         let within : s.to < length slots = omega (arith, sound.whole) in
         let less : (k : Label) → label_at slots s.to ≡ Some k → Below (after 1 l s) k = λ k e.
         below-from_test (after 1 l s) k (sym (ap (falls (after 1 l s)) e) ∙ lower) in
-        let next : IsFaithful roads from rooms (set slots s.to (Open (after 1 l s))) = faithful-lowered roads from rooms slots sound inside by l s was c less in
+        let next : IsBoardOf roads from rooms (set slots s.to (Open (after 1 l s))) = faithful-lowered roads from rooms slots sound inside by l s was c less in
         let bound = label-bound roads from rooms (set slots s.to (Open (after 1 l s))) next inside s.to (after 1 l s) (label-set_same slots s.to (Open (after 1 l s)) within) in
         rw lower (weight-set slots s.to (Open (after 1 l s)) within (weight-lower (slot_at slots s.to) (after 1 l s) (omega (arith, bound.0)) bound.1 less))
     go false higher = rw higher (omega arith)
 
 pub weight-offers : (roads : Roads) (from rooms : ℕ) → AreWithin roads rooms → rooms ≤ 8192 → (by : ℕ) (l : Label)
     → (ss : List Step) → ((s : Step) → Contains ss s → Contains (roads by) s)
-    → (slots : List Slot) → IsFaithful roads from rooms slots → label_at slots by ≡ Some l
+    → (slots : List Slot) → IsBoardOf roads from rooms slots → label_at slots by ≡ Some l
     → sum_by weight (offers l ss slots) ≤ sum_by weight slots
 weight-offers roads from rooms inside few by l [] those slots sound was = omega arith
 weight-offers roads from rooms inside few by l (s ∷ ss) those slots sound was =
@@ -66,7 +66,7 @@ weight-finished (Finished k) l e = let same : k ≡ l = some-inj k l e in rw sam
 
 pub weight-settled : (roads : Roads) (from rooms : ℕ) → AreWithin roads rooms → rooms ≤ 8192 → (room : ℕ) (l : Label)
     → (steps : List Step) → steps ≡ roads room
-    → (slots : List Slot) → IsFaithful roads from rooms slots → label_at slots room ≡ Some l → room < rooms
+    → (slots : List Slot) → IsBoardOf roads from rooms slots → label_at slots room ≡ Some l → room < rooms
     → sum_by weight (settled room l steps slots) ≤ sum_by weight slots
 weight-settled roads from rooms inside few room l steps are slots sound was h =
     let P : Step → List Step → Type 0 = λ s ss. Contains ss s in
@@ -86,7 +86,7 @@ potential-set boards m b h low = omega (arith, sum_by-set (sum_by weight) boards
 -- a room that is settled, and was not finished, makes the whole lighter
 pub weight-settled_left : (roads : Roads) (from rooms : ℕ) → AreWithin roads rooms → rooms ≤ 8192 → (room : ℕ) (l : Label)
     → (steps : List Step) → steps ≡ roads room
-    → (slots : List Slot) → IsFaithful roads from rooms slots → label_at slots room ≡ Some l → weight (Finished l) < weight (slot_at slots room) → room < rooms
+    → (slots : List Slot) → IsBoardOf roads from rooms slots → label_at slots room ≡ Some l → weight (Finished l) < weight (slot_at slots room) → room < rooms
     → sum_by weight (settled room l steps slots) < sum_by weight slots
 weight-settled_left roads from rooms inside few room l steps are slots sound was heavy h =
     let P : Step → List Step → Type 0 = λ s ss. Contains ss s in

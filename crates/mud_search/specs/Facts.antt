@@ -1,13 +1,17 @@
--- What holds of a traveller's slots, whoever took and put what.
-use Rattle.std.specs.Prelude.{◌≡◌, ℕ, Bool, false, nat_eq, List, [], ◌∷◌, Option, Some, length, Contains}
+-- What holds of the slots of a search, whoever took and put what.
+use Rattle.std.specs.Prelude.{◌≡◌, ◌≢◌, ℕ, ◌<◌, ◌≤◌, Bool, false, nat_eq, List, [], ◌∷◌, Option, Some, length}
+use Rattle.std.specs.Prelude.{slice_get, Contains}
 use Rattle.std.specs.List.{list_any}
+use Rattle.mud_world.specs.State.{State}
+use Rattle.mud_world.specs.Sound.{IsSound}
 use Rattle.mud_roads.specs.declared.label.Label.{Label}
 use Rattle.mud_roads.specs.declared.label.Step.{Step}
 use Rattle.mud_roads.specs.Walks.{Roads, after, total}
 use Rattle.mud_roads.specs.Labels.{start_label, Reaches}
+use Rattle.mud_roads.specs.Open.{Knowledge, roads_of}
 use Rattle.mud_search.specs.declared.slot.Slot.{Slot}
-use Rattle.mud_search.specs.declared.slot.Slot.TheVariants.{Finished}
-use Rattle.mud_search.specs.Slots.{slot_at, label_at}
+use Rattle.mud_search.specs.declared.slot.Slot.TheVariants.{Unknown, Finished}
+use Rattle.mud_search.specs.Slots.{labels_of}
 
 -- the rooms that a walk visits, read from its end
 abbrev pub visited : ℕ → List Step → List ℕ
@@ -30,8 +34,16 @@ abbrev pub IsWalked : Roads → (ℕ → Option Label) → ℕ → ℕ → Label
 IsWalked roads labels from to l = (ss : List Step) × Trail roads labels from ss to × (total 1 ss ≡ l)
 
 -- every label is that of a walk; the start is labelled 0; the steps out of a finished room lead to no greater labels
-pub record IsFaithful (roads : Roads) (from rooms : ℕ) (slots : List Slot) : Type 0 where
-  pub whole : length slots ≡ rooms
-  pub walked : (room : ℕ) (l : Label) → label_at slots room ≡ Some l → IsWalked roads (label_at slots) from room l
-  pub start : label_at slots from ≡ Some start_label
-  pub finished : (room : ℕ) (l : Label) (s : Step) → slot_at slots room ≡ Finished l → Contains (roads room) s → Reaches (label_at slots) s.to (after 1 l s)
+pub record IsFaithful (roads : Roads) (from : ℕ) (slots : ℕ → Slot) : Type 0 where
+  pub walked : (room : ℕ) (l : Label) → labels_of slots room ≡ Some l → IsWalked roads (labels_of slots) from room l
+  pub start : labels_of slots from ≡ Some start_label
+  pub finished : (room : ℕ) (l : Label) (s : Step) → slots room ≡ Finished l → Contains (roads room) s
+      → Reaches (labels_of slots) s.to (after 1 l s)
+
+-- the world is sound, there are at most 8 members, only their rooms are known, and the slots of each are faithful to
+-- his roads
+pub record IsFrontier (w : State) (ts : List Knowledge) (slots : ℕ → ℕ → Slot) : Type 0 where
+  pub sound : IsSound w
+  pub few : length ts ≤ 8
+  pub inside : (m room : ℕ) → slots m room ≢ Unknown → (m < length ts) × (room < w.next)
+  pub faithful : (m : ℕ) (t : Knowledge) → slice_get ts m ≡ Some t → IsFaithful (roads_of w t.player) t.place (slots m)

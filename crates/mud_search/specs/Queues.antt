@@ -1,8 +1,11 @@
--- The rooms that wait, in memory: a heap of entries, and where each room stands in it. Private clauses alone cite this file.
-use Rattle.std.specs.Prelude.{◌≡◌, ◌≢◌, ℕ, ◌-◌, ◌/◌, ◌^◌, ◌<◌, ◌≤◌, nat_lt, if◌then◌else◌, List, Option, None, Some, length, map, slice_index, slice_index_or}
+-- The rooms that wait, in memory: a heap of entries, and where each room stands in it.
+-- Private clauses alone cite this file.
+use Rattle.std.specs.Prelude.{◌≡◌, ◌≢◌, ℕ, ◌-◌, ◌/◌, ◌^◌, ◌<◌, ◌≤◌, nat_lt, if◌then◌else◌, List, Option, None, Some}
+use Rattle.std.specs.Prelude.{length, map, slice_index, slice_index_or}
 use Rattle.mud_roads.specs.declared.label.Label.{Label}
 use Rattle.mud_search.specs.declared.queue.Entry.{Entry}
-use Rattle.mud_search.specs.Slots.{IsBefore}
+use Rattle.mud_search.specs.declared.queue.Heap.{Heap}
+use Rattle.mud_search.specs.Boards.{IsBefore}
 
 -- the entry at a place
 abbrev pub entry_at : List Entry → ℕ → Entry
@@ -20,6 +23,10 @@ label_there entries waiting p = if nat_lt p waiting then Some (entry_at entries 
 abbrev pub waiting_labels : List Entry → List ℕ → ℕ → List (Option Label)
 waiting_labels entries places waiting = map (λ p. label_there entries waiting p) places
 
+-- the same of a heap
+abbrev pub heap_labels : Heap → List (Option Label)
+heap_labels h = waiting_labels h.entries.items h.places.items h.waiting
+
 -- a lesser label, or the same and no greater room
 abbrev pub IsNoLater : Entry → Entry → Type 0
 IsNoLater a b = IsBefore a.label a.room b.label b.room
@@ -28,8 +35,10 @@ IsNoLater a b = IsBefore a.label a.room b.label b.room
 pub record IsMatched (entries : List Entry) (places : List ℕ) : Type 0 where
   pub few : length entries < 2 ^ 32
   pub whole : length places ≡ length entries
-  pub here : (i : ℕ) → i < length entries → ((entry_at entries i).room < length entries) × (place_at places (entry_at entries i).room ≡ i)
-  pub there : (r : ℕ) → r < length entries → (place_at places r < length entries) × ((entry_at entries (place_at places r)).room ≡ r)
+  pub here : (i : ℕ) → i < length entries
+      → ((entry_at entries i).room < length entries) × (place_at places (entry_at entries i).room ≡ i)
+  pub there : (r : ℕ) → r < length entries
+      → (place_at places r < length entries) × ((entry_at entries (place_at places r)).room ≡ r)
 
 -- those that wait stand in front, none before the one above it
 pub record IsQueue (entries : List Entry) (places : List ℕ) (waiting : ℕ) : Type 0 where
@@ -39,13 +48,17 @@ pub record IsQueue (entries : List Entry) (places : List ℕ) (waiting : ℕ) : 
 
 -- in order, whatever stands at this place
 pub record IsOrderedBut (entries : List Entry) (waiting at : ℕ) : Type 0 where
-  pub rest : (i : ℕ) → 0 < i → i < waiting → i ≢ at → (i - 1) / 2 ≢ at → IsNoLater (entry_at entries ((i - 1) / 2)) (entry_at entries i)
-  pub past : (i : ℕ) → 0 < i → i < waiting → (i - 1) / 2 ≡ at → 0 < at → IsNoLater (entry_at entries ((at - 1) / 2)) (entry_at entries i)
+  pub rest : (i : ℕ) → 0 < i → i < waiting → i ≢ at → (i - 1) / 2 ≢ at
+      → IsNoLater (entry_at entries ((i - 1) / 2)) (entry_at entries i)
+  pub past : (i : ℕ) → 0 < i → i < waiting → (i - 1) / 2 ≡ at → 0 < at
+      → IsNoLater (entry_at entries ((at - 1) / 2)) (entry_at entries i)
 
 -- in order, but that what stands at this place may have to sink
 pub record IsOrderedDownTo (entries : List Entry) (waiting at : ℕ) : Type 0 where
-  pub rest : (i : ℕ) → 0 < i → i < waiting → (i - 1) / 2 ≢ at → IsNoLater (entry_at entries ((i - 1) / 2)) (entry_at entries i)
-  pub past : (i : ℕ) → 0 < i → i < waiting → (i - 1) / 2 ≡ at → 0 < at → IsNoLater (entry_at entries ((at - 1) / 2)) (entry_at entries i)
+  pub rest : (i : ℕ) → 0 < i → i < waiting → (i - 1) / 2 ≢ at
+      → IsNoLater (entry_at entries ((i - 1) / 2)) (entry_at entries i)
+  pub past : (i : ℕ) → 0 < i → i < waiting → (i - 1) / 2 ≡ at → 0 < at
+      → IsNoLater (entry_at entries ((at - 1) / 2)) (entry_at entries i)
 
 -- two entries have changed places
 pub record IsSwapped (before after : List Entry) (i j : ℕ) : Type 0 where

@@ -1,8 +1,8 @@
 //! The least labels, by the caller's thread.
 
-ghost use Rattle.std.specs.Prelude.{◌≡◌, ◌≤◌, All, IfOk, length};
+ghost use Rattle.std.specs.Prelude.{◌≡◌, ◌≤◌, ℕ, All, None, IfOk, length};
 ghost use Rattle.mud_roads.specs.Open.{IsTraveller};
-ghost use Rattle.mud_search.specs.Least.{AreLeast, AreBounded};
+ghost use Rattle.mud_search.specs.Least.{label_in, AreLeast, AreBounded};
 
 use crate::found::Labels;
 use crate::frontier::Frontier;
@@ -21,9 +21,9 @@ pub fn labels_alone(
 ) -> Result<Labels, AllocError>
     requires travellers { All (IsTraveller world.now) travellers.now }
     requires few { length travellers.now ≤ 8 }
-    ensures members { IfOk result (λ labels. length labels ≡ length travellers.now) }
-    ensures least { IfOk result (AreLeast world.now travellers.now) }
-    ensures bounded { IfOk result AreBounded }
+    ensures least { IfOk result (λ labels. AreLeast world.now travellers.now (label_in labels)) }
+    ensures members { IfOk result (λ labels. (m room : ℕ) → length travellers.now ≤ m → label_in labels m room ≡ None) }
+    ensures bounded { IfOk result (λ labels. AreBounded (label_in labels)) }
 {
     alone_for::<Brand>(alloc, world, travellers)
 }
@@ -38,9 +38,9 @@ fn alone_for<J: Job>(
     requires travellers { travellers.now ≡ J.travellers }
     requires these { All (IsTraveller J.world) J.travellers }
     requires few { length J.travellers ≤ 8 }
-    ensures members { IfOk result (λ labels. length labels ≡ length J.travellers) }
-    ensures least { IfOk result (AreLeast J.world J.travellers) }
-    ensures bounded { IfOk result AreBounded }
+    ensures least { IfOk result (λ labels. AreLeast J.world J.travellers (label_in labels)) }
+    ensures members { IfOk result (λ labels. (m room : ℕ) → length J.travellers ≤ m → label_in labels m room ≡ None) }
+    ensures bounded { IfOk result (λ labels. AreBounded (label_in labels)) }
 {
     let mut frontier = Frontier::<J>::new(alloc, world, travellers)?;
     frontier.finish(travellers);

@@ -1,10 +1,12 @@
 //! The rooms of one traveller.
 
-ghost use Rattle.std.specs.Prelude.{◌≡◌, ◌≢◌, ℕ, ◌+◌, All, ◌<◌, ◌≤◌, ◌^◌, IfOk, IfSome, IfNone, length, slice_get, slice_set, replicate, count_by};
+ghost use Rattle.std.specs.Prelude.{◌≡◌, ◌≢◌, ℕ, ◌+◌, All, ◌<◌, ◌≤◌, ◌^◌, IfOk, IfSome, IfNone, length, slice_get};
+ghost use Rattle.std.specs.Prelude.{slice_set, replicate, count_by};
 ghost use Rattle.std.specs.Bool.{OnTrue, OnFalse};
 ghost use Rattle.mud_roads.specs.declared.label.Label.{Label};
 ghost use Rattle.mud_roads.specs.Labels.{start_label};
-ghost use Rattle.mud_search.specs.Slots.{is_open, is_held, IsBefore, slot_at, label_at, falls, offered, offers, settled};
+ghost use Rattle.mud_search.specs.Slots.{is_open, is_held};
+ghost use Rattle.mud_search.specs.Boards.{IsBefore, slot_at, label_at, open_label, falls, offered, offers, settled};
 
 use crate::queue::Queue;
 use crate::slot::Slot;
@@ -24,7 +26,7 @@ pub(crate) struct Board {
 impl Model for Board {
     ghost use Rattle.std.specs.Prelude.{List};
     ghost use Rattle.mud_search.specs.declared.slot.Slot.{Slot};
-    ghost use Rattle.mud_search.specs.Slots.{IsBoard};
+    ghost use Rattle.mud_search.specs.Boards.{IsBoard};
 
     ghost Value = { List Slot };
 
@@ -70,7 +72,8 @@ impl Board {
     // The open room of least label, of these the lowest.
     pub(crate) fn least(&self) -> Option<(Label, u32)>
         ensures some { IfSome result (λ t. slot_at self.now t.1 ≡ Slot.Open t.0) }
-        ensures least { IfSome result (λ t. (room : ℕ) (l : Label) → slot_at self.now room ≡ Slot.Open l → IsBefore t.0 t.1 l room) }
+        ensures least { IfSome result (λ t. (room : ℕ) (l : Label) → slot_at self.now room ≡ Slot.Open l
+            → IsBefore t.0 t.1 l room) }
         ensures none { IfNone result ((room : ℕ) (l : Label) → slot_at self.now room ≡ Slot.Open l → ⊥) }
     {
         match self.order.first() {
@@ -91,10 +94,7 @@ impl Board {
         self.slots[at] = slot;
         self.opened += usize::from(slot.is_open());
         self.held += usize::from(slot.is_held());
-        match slot {
-            Slot::Open(label) => self.order.add(room, label),
-            Slot::Unknown | Slot::Held(_) | Slot::Finished(_) => self.order.remove(room),
-        }
+        self.order.set(room, open_label(slot));
     }
 
     // Writes the label one step on where it leads, if that has none or a greater one.
@@ -128,7 +128,8 @@ impl Board {
 
     // Opens a room that is held with this label. Says whether it was.
     pub(crate) fn release(&mut self, room: u32, label: Label) -> bool
-        ensures held { OnTrue result ((slot_at self.old room ≡ Slot.Held label) × (self.new ≡ slice_set self.old room (Slot.Open label))) }
+        ensures held { OnTrue result ((slot_at self.old room ≡ Slot.Held label)
+            × (self.new ≡ slice_set self.old room (Slot.Open label))) }
         ensures other { OnFalse result ((slot_at self.old room ≢ Slot.Held label) × (self.new ≡ self.old)) }
     {
         let at = room as usize;
@@ -184,9 +185,11 @@ impl Board {
 
     // Follows all steps of a room that has this label, and finishes it. Says whether it has.
     pub(crate) fn settle(&mut self, room: u32, label: Label, steps: &[Step]) -> bool
-        requires bound { (l : Label) → label_at self.old room ≡ Some l → (l.cost + 10000 < 2 ^ 32) × (l.exits + 1 < 2 ^ 32) }
+        requires bound { (l : Label) → label_at self.old room ≡ Some l
+            → (l.cost + 10000 < 2 ^ 32) × (l.exits + 1 < 2 ^ 32) }
         requires steps { All (λ s. (s.to < length self.old) × (s.cost ≤ 10000)) steps.now }
-        ensures done { OnTrue result ((label_at self.old room ≡ Some label) × (self.new ≡ settled room label steps.now self.old)) }
+        ensures done { OnTrue result ((label_at self.old room ≡ Some label)
+            × (self.new ≡ settled room label steps.now self.old)) }
         ensures stale { OnFalse result ((label_at self.old room ≢ Some label) × (self.new ≡ self.old)) }
     {
         if self.label(room) == Some(label) {
@@ -196,6 +199,16 @@ impl Board {
         } else {
             false
         }
+    }
+}
+
+// The label of an open slot.
+fn open_label(slot: Slot) -> Option<Label>
+    ensures { result ≡ open_label slot }
+{
+    match slot {
+        Slot::Open(label) => Some(label),
+        Slot::Unknown | Slot::Held(_) | Slot::Finished(_) => None,
     }
 }
 

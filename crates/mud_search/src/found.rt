@@ -1,34 +1,35 @@
 //! The labels that were found.
 
 ghost use Rattle.std.specs.Prelude.{◌≡◌};
-ghost use Rattle.mud_search.specs.Least.{label_in};
-ghost use Rattle.mud_search.specs.Boards.{labels_of};
+ghost use Rattle.mud_search.specs.Least.{labelling, label_in};
+ghost use Rattle.mud_search.specs.Boards.{lists_of};
 
 use crate::board::Board;
 use mud_roads::Label;
 use std::marker::Model;
 
-/// The labels of each member of a party at each room. A contract sees for each member a list, by
-/// room, of labels or none.
+/// The labels of each member of a party at each room. A contract sees a label, or none, for each
+/// member and room.
 #[derive(Drop)]
 pub struct Labels {
     boards: Vec<Board>,
 }
 
 impl Model for Labels {
-    ghost use Rattle.std.specs.Prelude.{List, Option};
-    ghost use Rattle.mud_roads.specs.declared.label.Label.{Label};
-    ghost use Rattle.mud_search.specs.Boards.{labels_of};
+    ghost use Rattle.mud_search.specs.Least.{Labelling, labelling, labelling_code};
+    ghost use Rattle.mud_search.specs.Boards.{lists_of};
 
-    ghost Value = { List (List (Option Label)) };
+    ghost Value = { Labelling };
 
-    ghost view = { λ l. labels_of l.boards.items };
+    ghost coded = { labelling_code };
+
+    ghost view = { λ l. labelling (lists_of l.boards.items) };
 }
 
 impl Labels {
     // The labels that the boards have.
     pub(crate) fn of(boards: Vec<Board>) -> Labels
-        ensures { result ≡ labels_of boards.items }
+        ensures { result ≡ labelling (lists_of boards.items) }
     {
         Labels { boards }
     }

@@ -1,11 +1,14 @@
 //! The rooms of all members.
 
-ghost use Rattle.std.specs.Prelude.{◌≡◌, ◌≢◌, ℕ, ◌<◌, ◌≤◌, All, IfOk, IfSome, IfNone, length, slice_get, sum_by, count_by};
+ghost use Rattle.std.specs.Prelude.{◌≡◌, ◌≢◌, ℕ, ◌<◌, ◌≤◌, All, IfOk, IfSome, IfNone, None, Some, length, slice_get};
 ghost use Rattle.mud_roads.specs.declared.label.Label.{Label};
 ghost use Rattle.mud_roads.specs.Open.{Knowledge, IsTraveller, roads_of};
-ghost use Rattle.mud_search.specs.Slots.{is_open, is_held};
-ghost use Rattle.mud_search.specs.Least.{AreLeast, AreBounded};
-ghost use Rattle.mud_search.specs.Boards.{slot_of, with_slot, begun, IsFirst, Settles, potential, IsLeft, IsDone, IsFrontier, lesser, labels_of};
+ghost use Rattle.mud_search.specs.Slots.{is_open, is_held, labels_of};
+ghost use Rattle.mud_search.specs.Rooms.{boards_in, slot_in, labels_in, how_many};
+ghost use Rattle.mud_search.specs.Facts.{IsFrontier};
+ghost use Rattle.mud_search.specs.Tasks.{IsBegun, IsFirst, IsChanged, IsDone};
+ghost use Rattle.mud_search.specs.Least.{label_in, AreLeast, AreBounded};
+ghost use Rattle.mud_search.specs.Boards.{IsLeft, potential, lesser};
 
 use crate::board::Board;
 use crate::found::Labels;
@@ -17,8 +20,8 @@ use mud_world::World;
 use std::alloc::{AllocError, Global};
 use std::marker::{Model, PhantomData};
 
-/// The rooms of all members of a party while a search goes on. A contract sees a list of slots, by
-/// room, for each member. Its facts hold after every call (`IsFrontier`): each label is that of a
+/// The rooms of all members of a party while a search goes on. A contract sees a slot for each
+/// member and room, Unknown past the last. Its facts hold after every call (`IsFrontier`): each label is that of a
 /// walk, a member's place has the label of no cost and no exits, and no step out of a finished room
 /// leads to a greater label than its own.
 #[derive(Drop)]
@@ -28,15 +31,16 @@ pub struct Frontier<J: Job> {
 }
 
 impl<J: Job> Model for Frontier<J> {
-    ghost use Rattle.std.specs.Prelude.{List};
-    ghost use Rattle.mud_search.specs.declared.slot.Slot.{Slot};
-    ghost use Rattle.mud_search.specs.Boards.{IsFrontier};
+    ghost use Rattle.mud_search.specs.Rooms.{Rooms, rooms, rooms_code};
+    ghost use Rattle.mud_search.specs.Boards.{IsKept};
 
-    ghost Value = { List (List Slot) };
+    ghost Value = { Rooms };
 
-    ghost view = { λ f. f.boards.items };
+    ghost coded = { rooms_code };
 
-    ghost invariant = { λ f. IsFrontier J.world J.travellers f.boards.items };
+    ghost view = { λ f. rooms f.boards.items };
+
+    ghost invariant = { λ f. IsKept J.world J.travellers f.boards.items };
 }
 
 impl<J: Job> Frontier<J> {
@@ -48,7 +52,7 @@ impl<J: Job> Frontier<J> {
         requires travellers { travellers.now ≡ J.travellers }
         requires these { All (IsTraveller J.world) J.travellers }
         requires few { length J.travellers ≤ 8 }
-        ensures { IfOk result (λ f. f ≡ begun J.world.next J.travellers) }
+        ensures { IfOk result (λ f. IsBegun J.travellers (slot_in f)) }
     {
         let mut boards = Vec::with_capacity(alloc, travellers.len())?;
         let rooms = world.next_number();
@@ -63,8 +67,8 @@ impl<J: Job> Frontier<J> {
 
     // The open room of least label; of these the first member's, of these the lowest.
     fn first(&self) -> Option<Task>
-        ensures some { IfSome result (λ t. IsFirst self.now t) }
-        ensures none { IfNone result ((m r : ℕ) (l : Label) → slot_of self.now m r ≡ Slot.Open l → ⊥) }
+        ensures some { IfSome result (λ t. IsFirst (slot_in self.now) t) }
+        ensures none { IfNone result ((m r : ℕ) (l : Label) → slot_in self.now m r ≡ Slot.Open l → ⊥) }
     {
         let mut best: Option<Task> = None;
         for member in 0..self.boards.len() {
@@ -77,8 +81,10 @@ impl<J: Job> Frontier<J> {
     /// Takes the open room of least label, of these the first member's, of these the lowest; it is
     /// held from then on. None where no room is open.
     pub fn take(&mut self) -> Option<Task>
-        ensures some { IfSome result (λ t. IsFirst self.old t × (self.new ≡ with_slot self.old t.member t.room (Slot.Held t.label))) }
-        ensures none { IfNone result ((self.new ≡ self.old) × ((m r : ℕ) (l : Label) → slot_of self.old m r ≡ Slot.Open l → ⊥)) }
+        ensures some { IfSome result (λ t. IsFirst (slot_in self.old) t
+            × IsChanged (slot_in self.old) (slot_in self.new) t.member t.room (Slot.Held t.label)) }
+        ensures none { IfNone result ((self.new ≡ self.old)
+            × ((m r : ℕ) (l : Label) → slot_in self.old m r ≡ Slot.Open l → ⊥)) }
         ensures member { IfSome result (λ t. t.member < length J.travellers) }
     {
         let task = self.first()?;
@@ -91,10 +97,26 @@ impl<J: Job> Frontier<J> {
     /// the room where it leads, which takes it if it has none or a greater one and is open then,
     /// and the task's room is finished. Otherwise nothing changes.
     pub fn put(&mut self, task: &Task, steps: &[Step]) -> Put
-        requires steps { (t : Knowledge) → slice_get J.travellers task.now.member ≡ Some t → steps.now ≡ roads_of J.world t.player task.now.room }
-        ensures settles { Settles self.old self.new task.now steps.now result }
-        ensures done { result ≡ Put.Done → IsDone self.old self.new task.now steps.now }
-        ensures less { IsLeft self.old task.now → potential self.new < potential self.old }
+        requires steps { (t : Knowledge) → slice_get J.travellers task.now.member ≡ Some t
+            → steps.now ≡ roads_of J.world t.player task.now.room }
+        ensures done { result ≡ Put.Done → IsDone (slot_in self.old) (slot_in self.new) task.now steps.now }
+        ensures stale { result ≡ Put.Stale
+            → (labels_of (slot_in self.old task.now.member) task.now.room ≢ Some task.now.label)
+            × (self.new ≡ self.old) }
+    {
+        self.settle(task, steps)
+    }
+
+    // The same; and less is left to do where the room was open or held.
+    fn settle(&mut self, task: &Task, steps: &[Step]) -> Put
+        requires steps { (t : Knowledge) → slice_get J.travellers task.now.member ≡ Some t
+            → steps.now ≡ roads_of J.world t.player task.now.room }
+        ensures done { result ≡ Put.Done → IsDone (slot_in self.old) (slot_in self.new) task.now steps.now }
+        ensures stale { result ≡ Put.Stale
+            → (labels_of (slot_in self.old task.now.member) task.now.room ≢ Some task.now.label)
+            × (self.new ≡ self.old) }
+        ensures less { IsLeft (slot_in self.old) task.now
+            → potential (boards_in self.new) < potential (boards_in self.old) }
     {
         if task.member < self.boards.len()
             && self.boards[task.member].settle(task.room, task.label, steps)
@@ -107,8 +129,10 @@ impl<J: Job> Frontier<J> {
 
     /// Opens the task's room again, if it is held with the task's label. Otherwise nothing changes.
     pub fn back(&mut self, task: &Task)
-        ensures held { slot_of self.old task.now.member task.now.room ≡ Slot.Held task.now.label → self.new ≡ with_slot self.old task.now.member task.now.room (Slot.Open task.now.label) }
-        ensures other { slot_of self.old task.now.member task.now.room ≢ Slot.Held task.now.label → self.new ≡ self.old }
+        ensures held { slot_in self.old task.now.member task.now.room ≡ Slot.Held task.now.label
+            → IsChanged (slot_in self.old) (slot_in self.new) task.now.member task.now.room (Slot.Open task.now.label) }
+        ensures other { slot_in self.old task.now.member task.now.room ≢ Slot.Held task.now.label
+            → self.new ≡ self.old }
     {
         if task.member < self.boards.len() {
             let _ = self.boards[task.member].release(task.room, task.label);
@@ -117,7 +141,7 @@ impl<J: Job> Frontier<J> {
 
     /// The facts of the type, for contracts alone: whatever was taken and put, they hold.
     pub fn facts(&self)
-        ensures { IsFrontier J.world J.travellers self.now }
+        ensures { IsFrontier J.world J.travellers (slot_in self.now) }
     {
         let _boards = &self.boards;
     }
@@ -125,9 +149,9 @@ impl<J: Job> Frontier<J> {
     /// How many rooms are open and how many are held. Where none is either, the labels are the
     /// least.
     pub fn rest(&self) -> Rest
-        ensures opened { result.opened ≡ sum_by (count_by is_open) self.now }
-        ensures held { result.held ≡ sum_by (count_by is_held) self.now }
-        ensures least { result.opened ≡ 0 → result.held ≡ 0 → AreLeast J.world J.travellers (labels_of self.now) }
+        ensures opened { result.opened ≡ how_many is_open self.now }
+        ensures held { result.held ≡ how_many is_held self.now }
+        ensures least { result.opened ≡ 0 → result.held ≡ 0 → AreLeast J.world J.travellers (labels_in self.now) }
     {
         let mut opened = 0;
         let mut held = 0;
@@ -140,9 +164,9 @@ impl<J: Job> Frontier<J> {
 
     // A held room, if there is one.
     fn first_held(&self) -> Option<Task>
-        ensures some { IfSome result (λ t. slot_of self.now t.member t.room ≡ Slot.Held t.label) }
-        ensures member { IfSome result (λ t. t.member < length self.now) }
-        ensures none { IfNone result ((m r : ℕ) (l : Label) → slot_of self.now m r ≡ Slot.Held l → ⊥) }
+        ensures some { IfSome result (λ t. slot_in self.now t.member t.room ≡ Slot.Held t.label) }
+        ensures member { IfSome result (λ t. t.member < length (boards_in self.now)) }
+        ensures none { IfNone result ((m r : ℕ) (l : Label) → slot_in self.now m r ≡ Slot.Held l → ⊥) }
     {
         for member in 0..self.boards.len() {
             if let Some((label, room)) = self.boards[member].first_held() {
@@ -159,9 +183,9 @@ impl<J: Job> Frontier<J> {
     // An open room, or else a held one, once nobody is at work. Where there is none the labels are
     // the least.
     fn left(&self) -> Option<Task>
-        ensures some { IfSome result (λ t. IsLeft self.now t) }
+        ensures some { IfSome result (λ t. IsLeft (slot_in self.now) t) }
         ensures member { IfSome result (λ t. t.member < length J.travellers) }
-        ensures none { IfNone result (AreLeast J.world J.travellers (labels_of self.now)) }
+        ensures none { IfNone result (AreLeast J.world J.travellers (labels_in self.now)) }
     {
         let _boards = &self.boards;
         match self.first() {
@@ -174,19 +198,19 @@ impl<J: Job> Frontier<J> {
     pub fn finish(&mut self, travellers: &[Traveller])
         requires travellers { travellers.now ≡ J.travellers }
         requires these { All (IsTraveller J.world) J.travellers }
-        ensures { AreLeast J.world J.travellers (labels_of self.new) }
+        ensures { AreLeast J.world J.travellers (labels_in self.new) }
     {
         while let Some(task) = self.left() {
             let steps = travellers[task.member].steps_from(task.room);
-            let _ = self.put(&task, steps);
+            let _ = self.settle(&task, steps);
         }
     }
 
     /// The labels as they are.
     pub fn into_labels(self) -> Labels
-        ensures labels { result ≡ labels_of self }
-        ensures members { length result ≡ length J.travellers }
-        ensures bounded { AreBounded result }
+        ensures labels { (m room : ℕ) → label_in result m room ≡ labels_in self m room }
+        ensures members { (m room : ℕ) → length J.travellers ≤ m → label_in result m room ≡ None }
+        ensures bounded { AreBounded (label_in result) }
     {
         let Frontier { boards, of: _ } = self;
         Labels::of(boards)

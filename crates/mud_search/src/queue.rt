@@ -1,9 +1,10 @@
 //! The open rooms in order of their labels. A change takes no memory.
 
-ghost use Rattle.std.specs.Prelude.{◌≡◌, ℕ, ◌+◌, ◌-◌, ◌*◌, ◌/◌, ◌^◌, ◌<◌, ◌≤◌, IfOk, IfSome, IfNone, Option, length, slice_set, slice_index_or, replicate};
+ghost use Rattle.std.specs.Prelude.{◌≡◌, ℕ, ◌+◌, ◌-◌, ◌*◌, ◌/◌, ◌^◌, ◌<◌, ◌≤◌, IfOk, IfSome, IfNone, Option, length};
+ghost use Rattle.std.specs.Prelude.{slice_set, slice_index_or, replicate};
 ghost use Rattle.std.specs.Bool.{OnTrue, OnFalse};
 ghost use Rattle.mud_roads.specs.declared.label.Label.{Label};
-ghost use Rattle.mud_search.specs.Slots.{IsBefore};
+ghost use Rattle.mud_search.specs.Boards.{IsBefore};
 
 use mud_roads::Label;
 use std::alloc::{AllocError, Global};
@@ -37,11 +38,11 @@ pub(crate) struct Queue {
 impl Model for Queue {
     ghost use Rattle.std.specs.Prelude.{List, Option};
     ghost use Rattle.mud_roads.specs.declared.label.Label.{Label};
-    ghost use Rattle.mud_search.specs.Queues.{IsQueue, waiting_labels};
+    ghost use Rattle.mud_search.specs.Queues.{IsQueue, heap_labels};
 
     ghost Value = { List (Option Label) };
 
-    ghost view = { λ q. waiting_labels q.heap.entries.items q.heap.places.items q.heap.waiting };
+    ghost view = { λ q. heap_labels q.heap };
 
     ghost invariant = { λ q. IsQueue q.heap.entries.items q.heap.places.items q.heap.waiting };
 }
@@ -72,7 +73,8 @@ impl Queue {
     // The room of least label, of these the lowest.
     pub(crate) fn first(&self) -> Option<Entry>
         ensures some { IfSome result (λ e. slice_index_or self.now e.room None ≡ Some e.label) }
-        ensures least { IfSome result (λ e. (room : ℕ) (l : Label) → slice_index_or self.now room None ≡ Some l → IsBefore e.label e.room l room) }
+        ensures least { IfSome result (λ e. (room : ℕ) (l : Label) → slice_index_or self.now room None ≡ Some l
+            → IsBefore e.label e.room l room) }
         ensures none { IfNone result ((room : ℕ) (l : Label) → slice_index_or self.now room None ≡ Some l → ⊥) }
     {
         if self.heap.waiting > 0 {
@@ -82,8 +84,19 @@ impl Queue {
         }
     }
 
+    // From now on the room waits with this label, or does not wait.
+    pub(crate) fn set(&mut self, room: u32, label: Option<Label>)
+        requires { room < length self.old }
+        ensures { self.new ≡ slice_set self.old room label }
+    {
+        match label {
+            Some(label) => self.add(room, label),
+            None => self.remove(room),
+        }
+    }
+
     // From now on the room waits with this label.
-    pub(crate) fn add(&mut self, room: u32, label: Label)
+    fn add(&mut self, room: u32, label: Label)
         requires { room < length self.old }
         ensures { self.new ≡ slice_set self.old room (Some label) }
     {
@@ -93,7 +106,7 @@ impl Queue {
     }
 
     // From now on the room does not wait.
-    pub(crate) fn remove(&mut self, room: u32)
+    fn remove(&mut self, room: u32)
         requires { room < length self.old }
         ensures { self.new ≡ slice_set self.old room None }
     {
@@ -105,7 +118,8 @@ impl Queue {
 }
 
 impl Heap {
-    ghost use Rattle.mud_search.specs.Queues.{entry_at, place_at, waiting_labels, IsNoLater, IsMatched, IsQueue, IsOrderedBut, IsOrderedDownTo, IsSwapped};
+    ghost use Rattle.mud_search.specs.Queues.{entry_at, heap_labels, IsNoLater, IsMatched, IsQueue, IsOrderedBut};
+    ghost use Rattle.mud_search.specs.Queues.{IsOrderedDownTo, IsSwapped};
 
     // Brings a room to those that wait, and says where it stands; its label means nothing yet.
     fn admit(&mut self, room: u32) -> usize
@@ -116,7 +130,8 @@ impl Heap {
         ensures within { result < self.new.waiting }
         ensures here { (entry_at self.new.entries.items result).room ≡ room }
         ensures order { IsOrderedBut self.new.entries.items self.new.waiting result }
-        ensures labels { (l : Option Label) → slice_set (waiting_labels self.new.entries.items self.new.places.items self.new.waiting) room l ≡ slice_set (waiting_labels self.old.entries.items self.old.places.items self.old.waiting) room l }
+        ensures labels { (l : Option Label)
+            → slice_set (heap_labels self.new) room l ≡ slice_set (heap_labels self.old) room l }
     {
         let at = self.places[room as usize] as usize;
         let last = self.waiting;
@@ -133,7 +148,8 @@ impl Heap {
         requires queue { IsQueue self.old.entries.items self.old.places.items self.old.waiting }
         requires within { at < self.old.waiting }
         ensures queue { IsQueue self.new.entries.items self.new.places.items self.new.waiting }
-        ensures labels { waiting_labels self.new.entries.items self.new.places.items self.new.waiting ≡ slice_set (waiting_labels self.old.entries.items self.old.places.items self.old.waiting) (entry_at self.old.entries.items at).room None }
+        ensures labels { heap_labels self.new
+            ≡ slice_set (heap_labels self.old) (entry_at self.old.entries.items at).room None }
     {
         let last = self.waiting - 1;
         self.swap(at, last);
@@ -150,7 +166,7 @@ impl Heap {
         requires within { at < self.old.waiting }
         requires order { IsOrderedBut self.old.entries.items self.old.waiting at }
         ensures queue { IsQueue self.new.entries.items self.new.places.items self.new.waiting }
-        ensures labels { waiting_labels self.new.entries.items self.new.places.items self.new.waiting ≡ waiting_labels self.old.entries.items self.old.places.items self.old.waiting }
+        ensures labels { heap_labels self.new ≡ heap_labels self.old }
     {
         let top = self.rise(at);
         self.sink(top);
@@ -166,7 +182,7 @@ impl Heap {
         ensures fits { self.new.waiting ≤ length self.new.entries.items }
         ensures within { result < self.new.waiting }
         ensures order { IsOrderedDownTo self.new.entries.items self.new.waiting result }
-        ensures labels { waiting_labels self.new.entries.items self.new.places.items self.new.waiting ≡ waiting_labels self.old.entries.items self.old.places.items self.old.waiting }
+        ensures labels { heap_labels self.new ≡ heap_labels self.old }
     {
         let mut at = from;
         while at > 0 {
@@ -187,7 +203,7 @@ impl Heap {
         requires within { from < self.old.waiting }
         requires order { IsOrderedDownTo self.old.entries.items self.old.waiting from }
         ensures queue { IsQueue self.new.entries.items self.new.places.items self.new.waiting }
-        ensures labels { waiting_labels self.new.entries.items self.new.places.items self.new.waiting ≡ waiting_labels self.old.entries.items self.old.places.items self.old.waiting }
+        ensures labels { heap_labels self.new ≡ heap_labels self.old }
     {
         let mut at = from;
         while 2 * at + 1 < self.waiting {
@@ -208,7 +224,8 @@ impl Heap {
         ensures within { result < self.now.waiting }
         ensures below { 0 < result }
         ensures under { (result - 1) / 2 ≡ at }
-        ensures first { (i : ℕ) → 0 < i → i < self.now.waiting → (i - 1) / 2 ≡ at → IsNoLater (entry_at self.now.entries.items result) (entry_at self.now.entries.items i) }
+        ensures first { (i : ℕ) → 0 < i → i < self.now.waiting → (i - 1) / 2 ≡ at
+            → IsNoLater (entry_at self.now.entries.items result) (entry_at self.now.entries.items i) }
     {
         let left = 2 * at + 1;
         let right = left + 1;

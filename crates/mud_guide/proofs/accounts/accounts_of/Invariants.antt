@@ -2,8 +2,8 @@ use Rattle.std.proofs.Common.{◌≡◌, ℕ, ◌<◌, length}
 use Rattle.std.specs.Prelude.{All, slice_index_or}
 use Rattle.mud_cert.specs.Certificate.{Account, IsAccount}
 use Rattle.mud_search.specs.Least.{label_in}
-use Rattle.mud_guide.specs.declared.journey.Journey.{Journey}
-use Rattle.mud_guide.specs.Accounts.{IsListed}
+use Rattle.mud_guide.specs.Journeys.{Journey}
+use Rattle.mud_guide.specs.Listings.{IsListed}
 use Rattle.mud_guide.proofs.accounts.accounts_of.Given as goal
 
 abbrev pub invariant-loop-member : goal.invariant-loop-member

@@ -1,16 +1,15 @@
 use Rattle.std.proofs.Common.{List, ◌++◌, ◌∷◌, [], take, get_or, sym, subst}
 use Rattle.std.specs.List.{AllZip}
 use Rattle.std.proofs.lemmas.List.{take_more}
-use Rattle.mud_roads.specs.Open.{Knowledge}
-use Rattle.mud_guide.specs.declared.journey.Journey.{Journey}
-use Rattle.mud_guide.specs.Journeys.{IsJourney}
+use Rattle.mud_roads.specs.Open.{Knowledge, known}
+use Rattle.mud_guide.specs.Journeys.{Journey, IsJourney}
 use Rattle.mud_guide.proofs.Backs.{read-at}
 use Rattle.mud_guide.proofs.Gather.{allzip-push}
 use Rattle.mud_guide.proofs.journey.journeys_to.Goals as goal
 
 pub loop-member-preserved : goal.loop-member-preserved
 loop-member-preserved c =
-    let nobody : Knowledge = record { player = 0; place = 0; opened = []; roads = [] } in
+    let nobody : Knowledge = known 0 0 [] [] in
     let m = c.loop-member.member in
     let ts = c.args.travellers.now in
     let R : Knowledge → Journey → Type 0 = λ t j. IsJourney c.args.world.now c.args.to t.player j in

@@ -1,5 +1,6 @@
-use Rattle.mud_guide.specs.Meetings.{BestSoFar}
+use Rattle.mud_guide.specs.Gatherings.{BestSoFar}
+use Rattle.mud_search.specs.Least.{label_in}
 use Rattle.mud_guide.proofs.meeting.best.Given as goal
 
 abbrev pub invariant-loop-room : goal.invariant-loop-room
-invariant-loop-room l = BestSoFar l.labels l.members l.room l.best
+invariant-loop-room l = BestSoFar (label_in l.labels) l.members l.room l.best

@@ -1,7 +1,7 @@
 use Rattle.std.proofs.Common.{Option, None, Some, ap, sym, ◌∙◌}
 use Rattle.std.specs.Prelude.{IfNone}
 use Rattle.mud_search.specs.declared.task.Task.{Task}
-use Rattle.mud_search.specs.Boards.{slot_of}
+use Rattle.mud_search.specs.Rooms.{slot_in}
 use Rattle.mud_search.proofs.Frontiers.{frontier-still}
 use Rattle.mud_search.proofs.frontier.Frontier.left.Goals as goal
 
@@ -14,5 +14,5 @@ returns-in-None-clause-none g c =
     let boards = c.self.inside.boards.items in
     none-then c.first_held.result _ _ (λ unheld.
     rw (← c.self.view_is) (frontier-still g.J.Job.world g.J.Job.travellers boards c.self.invariant
-    (λ m r l e. c.in-None.ensures.none m r l (ap (λ bs. slot_of bs m r) (sym c.self.view_is) ∙ e))
-    (λ m r l e. unheld m r l (ap (λ bs. slot_of bs m r) (sym c.self.view_is) ∙ e)))) c.first_held.ensures.none
+    (λ m r l e. c.in-None.ensures.none m r l (ap (λ f. slot_in f m r) (sym c.self.view_is) ∙ e))
+    (λ m r l e. unheld m r l (ap (λ f. slot_in f m r) (sym c.self.view_is) ∙ e)))) c.first_held.ensures.none

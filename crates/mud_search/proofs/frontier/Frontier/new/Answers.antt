@@ -4,8 +4,9 @@ use Rattle.mud_roads.specs.Open.{IsTraveller}
 use Rattle.std.proofs.lemmas.List.{take_all}
 use Rattle.mud_world.specs.Sound.{IsSound}
 use Rattle.mud_search.specs.declared.slot.Slot.{Slot}
-use Rattle.mud_search.specs.Boards.{IsFrontier, begun_at, begun}
-use Rattle.mud_search.proofs.Frontiers.{frontier-begun}
+use Rattle.mud_search.specs.Tasks.{IsBegun}
+use Rattle.mud_search.specs.Boards.{IsKept, slot_of, begun_at}
+use Rattle.mud_search.proofs.Frontiers.{begun, frontier-begun, begun-is}
 use Rattle.mud_search.proofs.Inside.{member-within}
 use Rattle.mud_search.proofs.frontier.Frontier.new.Goals as goal
 
@@ -16,8 +17,18 @@ invariant_of-result g c =
     let all : take c.loop-traveller.traveller-index c.args.travellers.now ≡ ts = take_all c.loop-traveller.traveller-index c.args.travellers.now (omega arith) ∙ c.requires.travellers in
     let rooms : c.next_number-rooms.result ≡ w.next = c.next_number-rooms.ensures.next ∙ ap (λ x. x.next) c.requires.world in
     let items : c.loop-traveller.boards.items ≡ begun w.next ts = c.loop-traveller.invariant ∙ ap (map (begun_at c.next_number-rooms.result)) all ∙ ap (λ (n : ℕ). map (begun_at n) ts) rooms in
-    let P : List (List Slot) → Type 0 = λ bs. IsFrontier w ts bs in
+    let P : List (List Slot) → Type 0 = λ bs. IsKept w ts bs in
     subst P (sym items) (frontier-begun w ts (subst IsSound c.requires.world c.next_number-rooms.ensures.sound) c.requires.these c.requires.few)
+
+pub returns : goal.returns
+returns g c =
+    let w = g.J.Job.world in
+    let ts = g.J.Job.travellers in
+    let all : take c.loop-traveller.traveller-index c.args.travellers.now ≡ ts = take_all c.loop-traveller.traveller-index c.args.travellers.now (omega arith) ∙ c.requires.travellers in
+    let rooms : c.next_number-rooms.result ≡ w.next = c.next_number-rooms.ensures.next ∙ ap (λ x. x.next) c.requires.world in
+    let items : c.loop-traveller.boards.items ≡ begun w.next ts = c.loop-traveller.invariant ∙ ap (map (begun_at c.next_number-rooms.result)) all ∙ ap (λ (n : ℕ). map (begun_at n) ts) rooms in
+    let P : List (List Slot) → Type 0 = λ bs. IsBegun ts (slot_of bs) in
+    subst P (sym items) (begun-is w ts (subst IsSound c.requires.world c.next_number-rooms.ensures.sound) c.requires.these)
 
 pub start-requires : goal.start-requires
 start-requires g c =

@@ -3,7 +3,7 @@ use Rattle.std.specs.Prelude.{All}
 use Rattle.std.proofs.lemmas.List.{map-append, take_more}
 use Rattle.std.proofs.lemmas.List.Elements.{All-push}
 use Rattle.mud_roads.specs.Open.{Knowledge, IsTraveller}
-use Rattle.mud_guide.proofs.answer.travellers_of.Goals as goal
+use Rattle.mud_guide.proofs.ask.travellers_of.Goals as goal
 
 pub loop-player-preserved : goal.loop-player-preserved
 loop-player-preserved c =

@@ -3,10 +3,10 @@ use Rattle.std.proofs.lemmas.List.{get_or_read}
 use Rattle.std.specs.Prelude.{All}
 use Rattle.mud_roads.specs.declared.label.Step.{Step}
 use Rattle.mud_search.specs.declared.slot.Slot.{Slot}
-use Rattle.mud_search.specs.Slots.{label_at, settled}
-use Rattle.mud_search.specs.Boards.{IsFrontier, board_of, potential, IsDone}
+use Rattle.mud_search.specs.Boards.{label_at, settled, IsKept, board_of, slot_of, potential}
+use Rattle.mud_search.specs.Tasks.{IsDone}
 use Rattle.mud_search.proofs.Frontiers.{put-bound, put-steps, put-kept, put-lighter, put-done}
-use Rattle.mud_search.proofs.frontier.Frontier.put.Goals as goal
+use Rattle.mud_search.proofs.frontier.Frontier.settle.Goals as goal
 
 pub settle-requires-clause-bound : goal.settle-requires-clause-bound
 settle-requires-clause-bound g c l e =
@@ -32,7 +32,7 @@ invariant_of-self g c =
     let m = c.args.task.now.member in
     let h : m < length boards = omega (arith, c.self.inside.boards.ok.0) in
     let is : c.index_mut.result.now ≡ board_of boards m = get_or_read boards m c.index_mut.result.now h c.index_mut.ensures.value [] in
-    let P : List Slot → Type 0 = λ b. IsFrontier g.J.Job.world g.J.Job.travellers (set boards m b) in
+    let P : List Slot → Type 0 = λ b. IsKept g.J.Job.world g.J.Job.travellers (set boards m b) in
     subst P (sym (c.if-settle.ensures.done.1 ∙ ap (settled c.args.task.now.room c.args.task.now.label c.args.steps.now) is))
     (put-kept g.J.Job.world g.J.Job.travellers boards c.self.invariant m c.args.task.now.room h c.args.steps.now c.requires.steps c.args.task.now.label
     (sym (ap (λ b. label_at b c.args.task.now.room) is) ∙ c.if-settle.ensures.done.0))
@@ -53,7 +53,7 @@ returns-then-settle-clause-done g c e =
     let m = c.args.task.now.member in
     let h : m < length boards = omega (arith, c.self.inside.boards.ok.0) in
     let is : c.index_mut.result.now ≡ board_of boards m = get_or_read boards m c.index_mut.result.now h c.index_mut.ensures.value [] in
-    let P : List Slot → Type 0 = λ b. IsDone boards (set boards m b) c.args.task.now c.args.steps.now in
+    let P : List Slot → Type 0 = λ b. IsDone (slot_of boards) (slot_of (set boards m b)) c.args.task.now c.args.steps.now in
     rw (← c.self.view_is) (subst P (sym (c.if-settle.ensures.done.1 ∙ ap (settled c.args.task.now.room c.args.task.now.label c.args.steps.now) is))
     (put-done g.J.Job.world g.J.Job.travellers boards c.self.invariant m c.args.task.now.room h c.args.steps.now c.requires.steps c.args.task.now.label
     (sym (ap (λ b. label_at b c.args.task.now.room) is) ∙ c.if-settle.ensures.done.0)))

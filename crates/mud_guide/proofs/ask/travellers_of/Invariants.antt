@@ -1,7 +1,7 @@
 use Rattle.std.proofs.Common.{◌≡◌, take, map}
 use Rattle.std.specs.Prelude.{All}
 use Rattle.mud_roads.specs.Open.{IsTraveller}
-use Rattle.mud_guide.proofs.answer.travellers_of.Given as goal
+use Rattle.mud_guide.proofs.ask.travellers_of.Given as goal
 
 abbrev pub invariant-loop-player : goal.invariant-loop-player
 invariant-loop-player l = record {

@@ -3,11 +3,14 @@ use Rattle.std.specs.Prelude.{All, IfSome}
 use Rattle.mud_cert.specs.Certificate.{IsAmount}
 use Rattle.mud_cert.specs.declared.cert.Conclusion.{Conclusion}
 use Rattle.mud_cert.specs.declared.cert.Conclusion.TheVariants.{Route}
-use Rattle.mud_guide.specs.declared.journey.Journey.{Journey}
-use Rattle.mud_guide.specs.Accounts.{IsInside, AreListed}
+use Rattle.std.specs.Option.{option_map}
+use Rattle.mud_guide.specs.Journeys.{Journey}
+use Rattle.mud_guide.specs.Ways.{cost_of}
+use Rattle.mud_guide.specs.Listings.{IsInside, AreListed}
+use Rattle.mud_search.specs.Least.{label_in}
 use Rattle.mud_guide.proofs.Shown.{journey-inside}
 use Rattle.mud_guide.proofs.Replies.{number-is, cost-limits, all-one, route-answer}
-use Rattle.mud_guide.proofs.answer.route_by.Goals as goal
+use Rattle.mud_guide.proofs.ask.route_by.Goals as goal
 
 pub journey_to-requires-clause-least : goal.journey_to-requires-clause-least
 journey_to-requires-clause-least c room = c.requires.least 0 room c.args.traveller.now refl
@@ -29,7 +32,7 @@ certify-requires-clause-conclusion c =
     let P : Option ℕ → Type 0 = λ o. IfSome o IsAmount in (
       c.from_ref.ensures.len,
       number-is w c.next_number-next.ensures.sound c.args.room c.requires.room,
-      subst P (sym c.cost_of.ensures) (cost-limits w c.args.traveller.now c.in_ok-journey.journey c.args.room c.args.labels.now c.requires.traveller c.in_ok-journey.ensures c.requires.least c.requires.bounded),
+      subst P (sym (c.cost_of.ensures ∙ ap (λ (j : Journey). option_map cost_of j.way) c.journey.view_is)) (cost-limits w c.args.traveller.now c.in_ok-journey.journey c.args.room (label_in c.args.labels.now) c.requires.traveller c.in_ok-journey.ensures c.requires.least c.requires.bounded),
     )
 
 pub returns : goal.returns
@@ -38,15 +41,16 @@ returns c =
     let j = c.in_ok-journey.journey in
     let cert = c.in_ok-cert.cert in
     let made = c.in_ok-cert.ensures in
-    let N : ℕ → Type 0 = λ n. AreListed c.args.labels.now n (j ∷ []) cert.members in
-    let J : List Journey → Type 0 = λ xs. AreListed c.args.labels.now c.next_number-next.result xs cert.members in
+    let N : ℕ → Type 0 = λ n. AreListed (label_in c.args.labels.now) n (j ∷ []) cert.members in
+    let J : List Journey → Type 0 = λ xs. AreListed (label_in c.args.labels.now) c.next_number-next.result xs cert.members in
     let says : Option ℕ → Conclusion = λ o. Route c.args.room o in
-    route-answer w c.next_number-next.ensures.sound c.args.version c.args.traveller.now c.args.labels.now c.args.room j cert _
+    route-answer w c.next_number-next.ensures.sound c.args.version c.args.traveller.now (label_in c.args.labels.now) c.args.room j cert _
     c.requires.traveller c.requires.least c.requires.room c.in_ok-journey.ensures
     (record {
       version = made.version;
       form = made.form;
       members = subst N c.next_number-next.ensures.next (subst J c.from_ref.ensures.value made.members);
-      conclusion = made.conclusion ∙ ap says c.cost_of.ensures;
+      conclusion = made.conclusion ∙ ap says (c.cost_of.ensures ∙ ap (λ (x : Journey). option_map cost_of x.way) c.journey.view_is);
+      limits = made.limits;
     })
     refl c.in_ok-text.ensures refl

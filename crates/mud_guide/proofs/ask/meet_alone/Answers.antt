@@ -2,7 +2,7 @@ use Rattle.std.proofs.Common.{◌≢◌, List, subst, sym}
 use Rattle.std.specs.Prelude.{AllPairs}
 use Rattle.mud_roads.specs.Open.{Knowledge}
 use Rattle.mud_guide.proofs.Replies.{apart-from}
-use Rattle.mud_guide.proofs.answer.meet_alone.Goals as goal
+use Rattle.mud_guide.proofs.ask.meet_alone.Goals as goal
 
 pub meet_by-requires-clause-distinct : goal.meet_by-requires-clause-distinct
 meet_by-requires-clause-distinct c =

@@ -2,13 +2,13 @@ use Rattle.std.proofs.Common.{◌≡◌, ℕ, List, Option, length, refl, sym, �
 use Rattle.std.specs.Prelude.{All}
 use Rattle.std.specs.List.{AllZip}
 use Rattle.mud_roads.specs.Open.{Knowledge}
-use Rattle.mud_guide.specs.declared.journey.Journey.{Journey}
-use Rattle.mud_guide.specs.Journeys.{IsJourney}
-use Rattle.mud_guide.specs.Accounts.{IsInside, AreListed}
+use Rattle.mud_guide.specs.Journeys.{Journey, IsJourney}
+use Rattle.mud_guide.specs.Listings.{IsInside, AreListed}
 use Rattle.mud_guide.specs.Texts.{meet_text}
+use Rattle.mud_search.specs.Least.{label_in}
 use Rattle.mud_guide.proofs.Party.{allzip-length, journeys-inside}
 use Rattle.mud_guide.proofs.Replies.{meeting-limits, meet-answer}
-use Rattle.mud_guide.proofs.answer.meet_by.Goals as goal
+use Rattle.mud_guide.proofs.ask.meet_by.Goals as goal
 
 pub certify-requires-clause-inside : goal.certify-requires-clause-inside
 certify-requires-clause-inside c =
@@ -28,7 +28,7 @@ certify-requires-clause-conclusion c =
     let found = c.meeting_place-place.ensures in (
       omega (arith, long, c.requires.two),
       omega (arith, long, c.requires.few),
-      meeting-limits w c.next_number-next.ensures.sound c.args.labels.now c.requires.bounded (length c.args.party.now) (omega (arith, c.requires.two)) c.meeting_place-place.result found.room found.greatest,
+      meeting-limits w c.next_number-next.ensures.sound (label_in c.args.labels.now) c.requires.bounded (length c.args.party.now) (omega (arith, c.requires.two)) c.meeting_place-place.result found.room found.greatest,
     )
 
 pub returns : goal.returns
@@ -39,10 +39,10 @@ returns c =
     let found = c.meeting_place-place.ensures in
     let cert = c.in_ok-cert.cert in
     let made = c.in_ok-cert.ensures in
-    let N : ℕ → Type 0 = λ n. AreListed c.args.labels.now n js cert.members in
-    let J : List Journey → Type 0 = λ xs. AreListed c.args.labels.now c.next_number-next.result xs cert.members in
+    let N : ℕ → Type 0 = λ n. AreListed (label_in c.args.labels.now) n js cert.members in
+    let J : List Journey → Type 0 = λ xs. AreListed (label_in c.args.labels.now) c.next_number-next.result xs cert.members in
     let O : Option ℕ → Type 0 = λ o. AllZip (λ t j. IsJourney w o t.player j) c.args.party.now js in
-    meet-answer w sound c.args.version c.args.party.now c.args.labels.now c.meeting_place-place.result js cert _
+    meet-answer w sound c.args.version c.args.party.now (label_in c.args.labels.now) c.meeting_place-place.result js cert _
     c.requires.travellers c.requires.distinct (omega (arith, c.requires.two)) c.requires.least found.place found.room found.greatest
     (subst O c.room_of.ensures c.in_ok-journeys.ensures)
     (record {
@@ -50,5 +50,6 @@ returns c =
       form = made.form;
       members = subst N c.next_number-next.ensures.next (subst J c.as_slice-2.ensures.value made.members);
       conclusion = made.conclusion;
+      limits = made.limits;
     })
     refl (c.in_ok-text.ensures ∙ ap (meet_text c.meeting_place-place.result) c.as_slice.ensures.value) refl

@@ -1,0 +1,199 @@
+//! What the guide is asked.
+
+ghost use Rattle.std.specs.Prelude.{◌≡◌, ◌≢◌, ◌≤◌, [], ◌∷◌, All, AllPairs, IfOk, IsTrue, length, map};
+ghost use Rattle.std.specs.Option.{option_map};
+ghost use Rattle.mud_world.specs.State.{is_player, is_room};
+ghost use Rattle.mud_roads.specs.Open.{IsTraveller};
+ghost use Rattle.mud_cert.specs.Certificate.{IsCertificate, IsConclusion};
+ghost use Rattle.mud_cert.specs.declared.cert.Form.TheVariants.{Two};
+ghost use Rattle.mud_search.specs.Least.{label_in, AreLeast, AreBounded};
+ghost use Rattle.mud_guide.specs.Ways.{cost_of};
+ghost use Rattle.mud_guide.specs.Listings.{IsInside, AreListed};
+ghost use Rattle.mud_guide.specs.Answers.{IsRouteAnswer, IsMeetAnswer};
+
+use crate::accounts::accounts_of;
+use crate::answer::Answer;
+use crate::journey::{Journey, journey_to, journeys_to};
+use crate::meeting::meeting_place;
+use crate::texts::{meet_text, route_text};
+use crate::way::Way;
+use mud_cert::{Cert, Conclusion, Form, Meeting};
+use mud_roads::Traveller;
+use mud_search::{Labels, labels_alone};
+use mud_world::World;
+use std::alloc::{AllocError, Global};
+use std::slice;
+
+/// The canonical route of a player from his place to a room, or that no walk leads there. The
+/// certificate has the least label of every room that he reaches. `version` says how many changes
+/// the world has, at most 65,536 (this project's profile). Only want of memory is an error.
+pub fn route_alone(
+    alloc: Global,
+    world: &World,
+    version: u32,
+    player: u32,
+    room: u32,
+) -> Result<Answer, AllocError>
+    requires player { IsTrue (is_player world.now player) }
+    requires room { IsTrue (is_room world.now room) }
+    requires version { version ≤ 65536 }
+    ensures { IfOk result (IsRouteAnswer world.now version player room) }
+{
+    let traveller = Traveller::of(alloc, world, player)?;
+    let labels = labels_alone(alloc, world, slice::from_ref(&traveller))?;
+    route_by(alloc, world, version, &traveller, &labels, room)
+}
+
+// The same, from the least labels.
+fn route_by(
+    alloc: Global,
+    world: &World,
+    version: u32,
+    traveller: &Traveller,
+    labels: &Labels,
+    room: u32,
+) -> Result<Answer, AllocError>
+    requires traveller { IsTraveller world.now traveller.now }
+    requires room { IsTrue (is_room world.now room) }
+    requires version { version ≤ 65536 }
+    requires least { AreLeast world.now (traveller.now ∷ []) (label_in labels.now) }
+    requires bounded { AreBounded (label_in labels.now) }
+    ensures { IfOk result (IsRouteAnswer world.now version traveller.now.player room) }
+{
+    let next = world.next_number();
+    let journey = journey_to(alloc, world, traveller, labels, 0, Some(room))?;
+    let text = route_text(alloc, room, &journey)?;
+    let conclusion = Conclusion::Route {
+        to: room,
+        cost: cost_of(&journey.way),
+    };
+    let cert = certify(
+        alloc,
+        version,
+        next,
+        slice::from_ref(&journey),
+        labels,
+        conclusion,
+    )?;
+    Ok(Answer {
+        version,
+        text,
+        cert: Some(cert),
+    })
+}
+
+/// The room where a party meets and the canonical route of each member to it, or that there is no
+/// room where all come. The certificate has the least label of every room for each member.
+/// `version` says how many changes the world has, at most 65,536 (this project's profile). Only
+/// want of memory is an error.
+pub fn meet_alone(
+    alloc: Global,
+    world: &World,
+    version: u32,
+    party: &[u32],
+) -> Result<Answer, AllocError>
+    requires players { All (λ p. IsTrue (is_player world.now p)) party.now }
+    requires distinct { AllPairs (λ p q. p ≢ q) party.now }
+    requires two { 2 ≤ length party.now }
+    requires few { length party.now ≤ 8 }
+    requires version { version ≤ 65536 }
+    ensures { IfOk result (IsMeetAnswer world.now version party.now) }
+{
+    let travellers = travellers_of(alloc, world, party)?;
+    let labels = labels_alone(alloc, world, travellers.as_slice())?;
+    meet_by(alloc, world, version, travellers.as_slice(), &labels)
+}
+
+// The travellers who are these players.
+fn travellers_of(alloc: Global, world: &World, party: &[u32]) -> Result<Vec<Traveller>, AllocError>
+    requires { All (λ p. IsTrue (is_player world.now p)) party.now }
+    ensures travellers { IfOk result (λ ts. All (IsTraveller world.now) ts.items) }
+    ensures players { IfOk result (λ ts. map (λ t. t.player) ts.items ≡ party.now) }
+{
+    let mut travellers = Vec::with_capacity(alloc, party.len())?;
+    for player in party {
+        travellers.push(Traveller::of(alloc, world, *player)?)?;
+    }
+    Ok(travellers)
+}
+
+// Where travellers meet, from their least labels.
+fn meet_by(
+    alloc: Global,
+    world: &World,
+    version: u32,
+    party: &[Traveller],
+    labels: &Labels,
+) -> Result<Answer, AllocError>
+    requires travellers { All (IsTraveller world.now) party.now }
+    requires distinct { AllPairs (λ s t. s.player ≢ t.player) party.now }
+    requires two { 2 ≤ length party.now }
+    requires few { length party.now ≤ 8 }
+    requires version { version ≤ 65536 }
+    requires least { AreLeast world.now party.now (label_in labels.now) }
+    requires bounded { AreBounded (label_in labels.now) }
+    ensures { IfOk result (IsMeetAnswer world.now version (map (λ t. t.player) party.now)) }
+{
+    let next = world.next_number();
+    let place = meeting_place(world, party, labels);
+    let journeys = journeys_to(alloc, world, party, labels, room_of(place))?;
+    let text = meet_text(alloc, place, journeys.as_slice())?;
+    let conclusion = Conclusion::Meet(place);
+    let cert = certify(
+        alloc,
+        version,
+        next,
+        journeys.as_slice(),
+        labels,
+        conclusion,
+    )?;
+    Ok(Answer {
+        version,
+        text,
+        cert: Some(cert),
+    })
+}
+
+// What a way costs, if there is one.
+fn cost_of(way: &Option<Way>) -> Option<u32>
+    ensures { result ≡ option_map cost_of way.now }
+{
+    match way {
+        Some(way) => Some(way.cost()),
+        None => None,
+    }
+}
+
+// The room of a meeting, if there is one.
+fn room_of(place: Option<Meeting>) -> Option<u32>
+    ensures { result ≡ option_map (λ p. p.room) place }
+{
+    match place {
+        Some(place) => Some(place.room),
+        None => None,
+    }
+}
+
+// The certificate of journeys, from the labels of the numbers below `next`.
+fn certify(
+    alloc: Global,
+    version: u32,
+    next: u32,
+    journeys: &[Journey],
+    labels: &Labels,
+    conclusion: Conclusion,
+) -> Result<Cert, AllocError>
+    requires version { version ≤ 65536 }
+    requires few { next ≤ 8192 }
+    requires inside { All (IsInside next) journeys.now }
+    requires bounded { AreBounded (label_in labels.now) }
+    requires conclusion { IsConclusion (length journeys.now) conclusion }
+    ensures version { IfOk result (λ c. c.version ≡ version) }
+    ensures form { IfOk result (λ c. c.form ≡ Two) }
+    ensures members { IfOk result (λ c. AreListed (label_in labels.now) next journeys.now c.members) }
+    ensures conclusion { IfOk result (λ c. c.conclusion ≡ conclusion) }
+    ensures limits { IfOk result IsCertificate }
+{
+    let accounts = accounts_of(alloc, next, journeys, labels)?;
+    Ok(Cert::new(version, Form::Two, accounts, conclusion))
+}

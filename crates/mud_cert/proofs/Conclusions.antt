@@ -12,7 +12,8 @@ use Rattle.mud_cert.specs.declared.cert.Conclusion.{Conclusion}
 use Rattle.mud_cert.specs.declared.cert.Conclusion.TheVariants.{Route, Meet}
 use Rattle.mud_cert.specs.Lookup.{label_in, label_at}
 use Rattle.mud_cert.specs.Ways.{arrival_of}
-use Rattle.mud_cert.specs.Agreement.{is_there_within, is_there_at, with_label, gathered_from, gathered, is_no_worse, first_labels, stays, misses, concludes}
+use Rattle.mud_cert.specs.Agreement.{with_label, gathered_from, gathered}
+use Rattle.mud_cert.specs.Tests.{is_there_within, is_there_at, is_no_worse, first_labels, stays, misses, concludes}
 use Rattle.mud_cert.specs.Valid.{Concludes}
 
 there-at : (room cost : ℕ) (o : Option (ℕ × ℕ)) → is_there_at room cost o ≡ true → o ≡ Some (room, cost)

@@ -13,9 +13,9 @@ use Rattle.mud_roads.specs.Walks.{Walk, AtMost, after}
 use Rattle.mud_cert.specs.declared.cert.Form.{Form}
 use Rattle.mud_cert.specs.Certificate.{Account}
 use Rattle.mud_cert.specs.declared.doubt.Doubt.{Doubt}
-use Rattle.mud_cert.specs.Lookup.{is_at_most, label_at, is_label}
-use Rattle.mud_cert.specs.Ways.{hop_of, leaves, step_of, broken, locked, end_of, steps_of}
-use Rattle.mud_cert.specs.Doubts.{◌or◌, unless, numbers, is_kept, label_behind, breaks}
+use Rattle.mud_cert.specs.Lookup.{label_at}
+use Rattle.mud_cert.specs.Ways.{hop_of, step_of, end_of, steps_of}
+use Rattle.mud_cert.specs.Tests.{is_at_most, is_label, leaves, broken, locked, ◌or◌, unless, numbers, is_kept, label_behind, breaks}
 use Rattle.mud_cert.proofs.Finds.{find-none, find-none-from}
 use Rattle.mud_cert.proofs.Ways.{IsWay, road-at, road-of, road-to, open-source}
 
@@ -114,12 +114,11 @@ and-then : (a b : Bool) → a ≡ true → (a && b) ≡ false → b ≡ false
 and-then true b e f = f
 and-then false b e f = absurd (false≢true e)
 
--- the labels are valid exactly where no exit breaks them
-pub steps-from : (w : State) → IsSound w → (form : Form) (m : Account) → find (breaks w form m) (numbers w) ≡ None
-    → (room : ℕ) (l : Label) (s : Step) → label_at m room ≡ Some l → Contains (roads_of w m.player room) s → Reaches (label_at m) s.to (after (hop_of form) l s)
-steps-from w sound form m none room l s e c =
+-- an exit that breaks nothing leads to a label that is at most the one a step on
+pub kept-by : (w : State) → IsSound w → (form : Form) (m : Account) (room : ℕ) (l : Label) (s : Step)
+    → label_at m room ≡ Some l → Contains (roads_of w m.player room) s → breaks w form m s.exit ≡ false → Reaches (label_at m) s.to (after (hop_of form) l s)
+kept-by w sound form m room l s e c fails =
     let r : IsWay w m.player room s = road-at w sound m.player room s c in
-    let fails : breaks w form m s.exit ≡ false = find-none (breaks w form m) (numbers w) s.exit none r.numbered in
     let hop : ℕ = hop_of form in
     let test : Bool = is_kept hop (label_behind w m s.exit) (label_at m (step_of w s.exit).to) (step_of w s.exit) in
     let kept : test ≡ true = not-false test (and-then (passable w m.player s.exit) (not test) r.opened fails) in
@@ -128,6 +127,12 @@ steps-from w sound form m none room l s e c =
     ∙ ap (λ o. is_kept hop (option_and_then (label_at m) o) (label_at m s.to) s) r.source
     ∙ ap (λ o. is_kept hop o (label_at m s.to) s) e) ∙ kept in
     kept-some hop l (label_at m s.to) s whole
+
+-- the labels are valid exactly where no exit breaks them
+pub steps-from : (w : State) → IsSound w → (form : Form) (m : Account) → find (breaks w form m) (numbers w) ≡ None
+    → (room : ℕ) (l : Label) (s : Step) → label_at m room ≡ Some l → Contains (roads_of w m.player room) s → Reaches (label_at m) s.to (after (hop_of form) l s)
+steps-from w sound form m none room l s e c =
+    kept-by w sound form m room l s e c (find-none (breaks w form m) (numbers w) s.exit none (road-at w sound m.player room s c).numbered)
 
 pub steps-to : (w : State) → IsSound w → (form : Form) (m : Account) → AreValid (hop_of form) (roads_of w m.player) m.from (label_at m) → find (breaks w form m) (numbers w) ≡ None
 steps-to w sound form m v = find-none-from (breaks w form m) (numbers w) (λ x c. go x (passable w m.player x) refl)

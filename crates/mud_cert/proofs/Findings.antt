@@ -1,19 +1,27 @@
 -- Of two texts one thing at most is found.
-use Rattle.std.proofs.Common.{◌≡◌, ℕ, ◌+◌, ◌<◌, ◌≤◌, List, length, Option, Some, None, inl, inr, refl, sym, ◌∙◌, ap, subst, arith, rules}
+use Rattle.std.proofs.Common.{◌≡◌, ℕ, ◌<◌, ◌≤◌, List, [], ◌∷◌, length, take, Option, Some, None, inl, inr, refl, sym, ◌∙◌, ap, subst, arith}
+use Rattle.mud_world.specs.State.{State}
+use Rattle.mud_world.specs.Sound.{IsSound}
+use Rattle.mud_world.specs.Legal.{refusal}
+use Rattle.mud_world.specs.History.{stepped, world_from}
+use Rattle.mud_world.specs.Opening.{opening_state}
+use Rattle.mud_world.specs.declared.change.Change.{Change}
+use Rattle.mud_world.specs.declared.refusal.Refusal.{Refusal}
+use Rattle.mud_world.proofs.Begun.{opening-sound}
+use Rattle.mud_world.proofs.Sounding.{soundness_law}
 use Rattle.mud_chron.specs.declared.fault.ChronFault.{ChronFault}
 use Rattle.mud_chron.specs.declared.fault.ChronFault.TheVariants.{BadChange}
 use Rattle.mud_chron.specs.Entry.{Accepted as Entry}
-use Rattle.mud_chron.specs.Faults.{HasFault}
 use Rattle.mud_chron.specs.Laws.{SpellsOne, HasOneFault, FaultsAreNoTexts}
-use Rattle.mud_chron.specs.Replay.{changes_of, AreLegal, IsFirstIllegal}
-use Rattle.mud_cert.specs.declared.doubt.Doubt.{Doubt}
-use Rattle.mud_cert.specs.declared.finding.Finding.{Finding}
+use Rattle.mud_chron.specs.Replay.{changes_of, IsFirstIllegal}
 use Rattle.mud_cert.specs.declared.finding.Finding.TheVariants.{Accepted, NoVersion, Doubted, BadHistory, BadProof}
 use Rattle.mud_cert.specs.Certificate.{Certificate}
-use Rattle.mud_cert.specs.Doubts.{first_doubt}
+use Rattle.mud_cert.specs.Doubts.{IsFirstDoubt}
+use Rattle.mud_cert.specs.Valid.{IsValid}
+use Rattle.mud_cert.proofs.First.{one-first, doubted-invalid}
 use Rattle.mud_cert.specs.Faults.{IsBadLine}
 use Rattle.mud_cert.specs.TextLaws.{OneCertificate, OneBadLine, NoBadLine}
-use Rattle.mud_cert.specs.Finding.{without_returns, world_at, IsHistory, HasBadChange, IsUnfit, AreTexts, HasBadProof, LacksVersion, IsDoubted, IsAccepted, IsFinding}
+use Rattle.mud_cert.specs.Finding.{without_returns, world_at, IsHistory, IsUnfit, AreTexts, HasBadProof}
 use Rattle.mud_cert.specs.FindingLaws.{FindsOne}
 use Rattle.mud_cert.proofs.Legality.{none-illegal, first-once}
 
@@ -68,17 +76,24 @@ not-above entries others c d version same is above reached =
     let one : c.version ≡ d.version = ap (λ (x : Certificate). x.version) same.cert_same in
     absurd (omega (arith, long, one, is, above, reached))
 
--- what is doubted of the same certificate in the same world is the same
-one-doubt : (entries others : List Entry) (c d : Certificate) → AreSame entries others c d
-    → first_doubt (world_at entries c.version) c ≡ first_doubt (world_at others d.version) d
-one-doubt entries others c d same =
-    ap (λ es. first_doubt (world_at es c.version) c) same.entries_same ∙ ap (λ (x : Certificate). first_doubt (world_at others x.version) x) same.cert_same
+-- the world of a certificate is sound
+step-sound : (w : State) (e : Change) (o : Option Refusal) → refusal w e ≡ o → IsSound w → IsSound (stepped w e)
+step-sound w e None is sound = rw is (soundness_law w e sound is)
+step-sound w e (Some f) is sound = rw is sound
 
-some-one : (d e : Doubt) → Some d ≡ Some e → d ≡ e
-some-one d e same = cc
+from-sound : (w : State) (es : List Change) → IsSound w → IsSound (world_from w es)
+from-sound w [] sound = sound
+from-sound w (e ∷ es) sound = from-sound (stepped w e) es (step-sound w e (refusal w e) refl sound)
 
-not-some : (d : Doubt) → Some d ≡ None → ⊥
-not-some d same = absurd (cc)
+at-sound : (entries : List Entry) (version : ℕ) → IsSound (world_at entries version)
+at-sound entries version = from-sound opening_state (changes_of (take version entries)) opening-sound
+
+-- what is first of the same certificate in the same world
+moved : (entries others : List Entry) (c d : Certificate) (P : State → Certificate → Type 0) → AreSame entries others c d
+    → P (world_at others d.version) d → P (world_at entries c.version) c
+moved entries others c d P same p =
+    subst (λ (es : List Entry). P (world_at es c.version) c) (sym same.entries_same)
+    (subst (λ (x : Certificate). P (world_at others x.version) x) (sym same.cert_same) p)
 
 pub finds-one : TextLaws → FindsOne
 finds-one laws history proof (BadHistory f) (BadHistory g) a b = ap BadHistory (one-unfit laws (without_returns history) f g a b)
@@ -109,10 +124,12 @@ finds-one laws history proof (Doubted d) (NoVersion v) a b =
     absurd (not-above b.entries a.entries b.cert a.cert v same b.version_is b.above a.reached)
 finds-one laws history proof (Doubted d) (Doubted e) a b =
     let same = one-texts laws history proof a.entries b.entries a.cert b.cert a.texts b.texts in
-    ap Doubted (some-one d e (sym a.doubt_is ∙ one-doubt a.entries b.entries a.cert b.cert same ∙ b.doubt_is))
+    let first : IsFirstDoubt (world_at a.entries a.cert.version) a.cert e = moved a.entries b.entries a.cert b.cert (λ w c. IsFirstDoubt w c e) same b.first in
+    ap Doubted (one-first (world_at a.entries a.cert.version) (at-sound a.entries a.cert.version) a.cert a.texts.certificate d e a.first first)
 finds-one laws history proof (Doubted d) Accepted a b =
     let same = one-texts laws history proof a.entries b.entries a.cert b.cert a.texts b.texts in
-    absurd (not-some d (sym a.doubt_is ∙ one-doubt a.entries b.entries a.cert b.cert same ∙ b.no_doubt))
+    let valid = moved a.entries b.entries a.cert b.cert IsValid same b.valid in
+    absurd (doubted-invalid (world_at a.entries a.cert.version) (at-sound a.entries a.cert.version) a.cert a.texts.certificate d a.first valid)
 finds-one laws history proof Accepted (BadHistory f) a b = absurd (not-unfit laws (without_returns history) f a.entries b a.texts.history_is)
 finds-one laws history proof Accepted (BadProof n) a b = absurd (not-bad laws history proof n a.entries a.cert b a.texts)
 finds-one laws history proof Accepted (NoVersion v) a b =
@@ -120,5 +137,6 @@ finds-one laws history proof Accepted (NoVersion v) a b =
     absurd (not-above b.entries a.entries b.cert a.cert v same b.version_is b.above a.reached)
 finds-one laws history proof Accepted (Doubted d) a b =
     let same = one-texts laws history proof b.entries a.entries b.cert a.cert b.texts a.texts in
-    absurd (not-some d (sym b.doubt_is ∙ one-doubt b.entries a.entries b.cert a.cert same ∙ a.no_doubt))
+    let valid = moved b.entries a.entries b.cert a.cert IsValid same a.valid in
+    absurd (doubted-invalid (world_at b.entries b.cert.version) (at-sound b.entries b.cert.version) b.cert b.texts.certificate d b.first valid)
 finds-one laws history proof Accepted Accepted a b = refl

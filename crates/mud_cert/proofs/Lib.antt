@@ -14,4 +14,8 @@ pub mod Machine
 pub mod Splitting
 pub mod Progress
 pub mod Legality
+mod Walking
+mod Doubting
+mod First
 mod Findings
+mod Returns

@@ -13,14 +13,15 @@ use Rattle.mud_roads.specs.declared.label.Step.{Step}
 use Rattle.mud_world.specs.State.{State, is_player, is_room, place_of, is_number}
 use Rattle.mud_world.specs.Sound.{IsSound}
 use Rattle.mud_roads.specs.Labels.{start_label}
-use Rattle.mud_cert.specs.Lookup.{label_at, is_label}
-use Rattle.mud_cert.specs.Ways.{hop_of, broken, locked, end_of, steps_of}
+use Rattle.mud_cert.specs.Lookup.{label_at}
+use Rattle.mud_cert.specs.Ways.{hop_of, end_of, steps_of}
 use Rattle.mud_roads.specs.Walks.{total}
 use Rattle.mud_cert.specs.declared.cert.Form.{Form}
 use Rattle.mud_cert.specs.Certificate.{Account}
 use Rattle.mud_cert.specs.declared.doubt.Doubt.{Doubt}
 use Rattle.mud_cert.specs.declared.doubt.Doubt.TheVariants as doubts
-use Rattle.mud_cert.specs.Doubts.{◌or◌, unless, numbers, is_new, stands, is_started, breaks, walk_doubt, given_doubt, member_doubt, members_doubt}
+use Rattle.mud_cert.specs.Tests.{is_label, broken, locked, ◌or◌, unless, numbers, is_new, stands, is_started, breaks, walk_doubt, given_doubt, member_doubt, members_doubt}
+use Rattle.mud_cert.specs.Doubts.{IsNew, IsStarted}
 use Rattle.mud_cert.specs.Valid.{IsLabelledWalk, IsMember}
 use Rattle.mud_cert.proofs.Ways.{step-exit}
 use Rattle.mud_cert.proofs.Doubtless.{or-none, or-both, unless-none, unless-from, option-none, walk-from, IsTaken, walk-to, label-is, is-label, steps-from, steps-to}
@@ -29,11 +30,11 @@ use Rattle.mud_cert.proofs.Doubtless.{or-none, or-both, unless-none, unless-from
 abbrev pub Apart : Account → Account → Type 0
 Apart a b = a.player ≢ b.player
 
-placed : (o : Option ℕ) (from : ℕ) → is_number from o ≡ true → o ≡ Some from
+pub placed : (o : Option ℕ) (from : ℕ) → is_number from o ≡ true → o ≡ Some from
 placed None from e = absurd (false≢true e)
 placed (Some q) from e = ap Some (sym (eqb-true from q e))
 
-named : (w : State) (ss : List ℕ) → map (λ (s : Step). s.exit) (steps_of w ss) ≡ ss
+pub named : (w : State) (ss : List ℕ) → map (λ (s : Step). s.exit) (steps_of w ss) ≡ ss
 named w [] = refl
 named w (x ∷ xs) = ap (λ n. n ∷ map (λ (s : Step). s.exit) (steps_of w xs)) (step-exit w x) ∙ ap (λ ns. x ∷ ns) (named w xs)
 
@@ -68,6 +69,36 @@ given-to w sound form m (Some walk) i =
     (or-both (option_map (λ n. doubts.WalkBroken m.player n) (broken w m.from 1 xs)) (option_map (λ n. doubts.WalkLocked m.player n) (locked w m.player 1 xs) or unless (labelled (steps_of w xs)) (doubts.WalkCost m.player)) b
     (or-both (option_map (λ n. doubts.WalkLocked m.player n) (locked w m.player 1 xs)) (unless (labelled (steps_of w xs)) (doubts.WalkCost m.player)) l
     (unless-from (labelled (steps_of w xs)) (doubts.WalkCost m.player) last)))
+
+none-passes : (p : Account → Bool) (ms : List Account) → list_any p ms ≡ false → (k : ℕ) (d : Account) → k < length ms → p (get_or ms k d) ≡ false
+none-passes p [] e k d lt = absurd (omega arith)
+none-passes p (m ∷ ms) e zero d lt = (or_parts (p m) (list_any p ms) e).0
+none-passes p (m ∷ ms) e (suc k) d lt = none-passes p ms (or_parts (p m) (list_any p ms) e).1 k d (omega arith)
+
+-- the test of a newcomer, both ways
+pub new-from : (w : State) (earlier : List Account) (m : Account) → is_new w earlier m ≡ true → IsNew w earlier m
+new-from w earlier m e =
+    let test : Account → Bool = λ (x : Account). eqb x.player m.player in
+    let p = and_parts (is_player w m.player) (not (list_any test earlier)) e in
+    let apart : list_any test earlier ≡ false = not-true (list_any test earlier) p.1 in
+    record { player = p.0; other = λ k d lt. eqb-false (get_or earlier k d).player m.player (none-passes test earlier apart k d lt) }
+
+pub new-to : (w : State) (earlier : List Account) (m : Account) → IsNew w earlier m → is_new w earlier m ≡ true
+new-to w earlier m n =
+    let test : Account → Bool = λ (x : Account). eqb x.player m.player in
+    let apart : list_any test earlier ≡ false = list_any_none test earlier (λ k d lt. ne_eqb (get_or earlier k d).player m.player (n.other k d lt)) in
+    and_from (is_player w m.player) (not (list_any test earlier)) n.player (not_from_false (list_any test earlier) apart)
+
+-- the test of a start, both ways
+pub started-from : (w : State) (m : Account) → is_started w m ≡ true → IsStarted w m
+started-from w m e =
+    let p = and_parts (is_label (label_at m m.from) start_label) (list_all (λ (e : ℕ × Label). is_room w e.0) m.labels) e in
+    record { start = label-is (label_at m m.from) start_label p.0; rooms = AllPass-from_list_all (λ (e : ℕ × Label). is_room w e.0) m.labels p.1 }
+
+pub started-to : (w : State) (m : Account) → IsStarted w m → is_started w m ≡ true
+started-to w m s =
+    and_from (is_label (label_at m m.from) start_label) (list_all (λ (e : ℕ × Label). is_room w e.0) m.labels)
+    (is-label (label_at m m.from) start_label s.start) (list_all-from_AllPass (λ (e : ℕ × Label). is_room w e.0) m.labels s.rooms)
 
 -- the parts of a member's doubts
 record NoDoubts (w : State) (form : Form) (earlier : List Account) (m : Account) : Type 0 where
@@ -108,29 +139,23 @@ parts-to w form earlier m n =
 
 member-from : (w : State) → IsSound w → (form : Form) (earlier : List Account) (m : Account) → NoDoubts w form earlier m → IsMember w form m
 member-from w sound form earlier m n =
-    let starts = and_parts (is_label (label_at m m.from) start_label) (list_all (λ (e : ℕ × Label). is_room w e.0) m.labels) n.started in
+    let s : IsStarted w m = started-from w m n.started in
     record {
-      player = (and_parts (is_player w m.player) (not (list_any (λ (x : Account). eqb x.player m.player) earlier)) n.new).0;
+      player = (new-from w earlier m n.new).player;
       place = placed (place_of w m.player) m.from n.placed;
-      rooms = AllPass-from_list_all (λ (e : ℕ × Label). is_room w e.0) m.labels starts.1;
-      labels = record { start = label-is (label_at m m.from) start_label starts.0; steps = steps-from w sound form m n.arcs };
+      rooms = s.rooms;
+      labels = record { start = s.start; steps = steps-from w sound form m n.arcs };
       walk = given-from w sound form m m.walk n.given;
     }
 
-member-to : (w : State) → IsSound w → (form : Form) (earlier : List Account) (m : Account) → list_any (λ (e : Account). eqb e.player m.player) earlier ≡ false → IsMember w form m → NoDoubts w form earlier m
+member-to : (w : State) → IsSound w → (form : Form) (earlier : List Account) (m : Account) → All (λ e. e.player ≢ m.player) earlier → IsMember w form m → NoDoubts w form earlier m
 member-to w sound form earlier m apart i = record {
-  new = and_from (is_player w m.player) (not (list_any (λ (e : Account). eqb e.player m.player) earlier)) i.player (not_from_false (list_any (λ (e : Account). eqb e.player m.player) earlier) apart);
+  new = new-to w earlier m (record { player = i.player; other = apart });
   placed = ap (is_number m.from) i.place ∙ eq-eqb m.from m.from refl;
-  started = and_from (is_label (label_at m m.from) start_label) (list_all (λ (e : ℕ × Label). is_room w e.0) m.labels)
-      (is-label (label_at m m.from) start_label i.labels.start) (list_all-from_AllPass (λ (e : ℕ × Label). is_room w e.0) m.labels i.rooms);
+  started = started-to w m (record { start = i.labels.start; rooms = i.rooms });
   arcs = steps-to w sound form m i.labels;
   given = given-to w sound form m m.walk i.walk;
 }
-
-none-passes : (p : Account → Bool) (ms : List Account) → list_any p ms ≡ false → (k : ℕ) (d : Account) → k < length ms → p (get_or ms k d) ≡ false
-none-passes p [] e k d lt = absurd (omega arith)
-none-passes p (m ∷ ms) e zero d lt = (or_parts (p m) (list_any p ms) e).0
-none-passes p (m ∷ ms) e (suc k) d lt = none-passes p ms (or_parts (p m) (list_any p ms) e).1 k d (omega arith)
 
 pub members-from : (w : State) → IsSound w → (form : Form) (earlier ms : List Account) → AllPairs Apart earlier → members_doubt w form earlier ms ≡ None
     → AllPairs Apart (earlier ++ ms) × All (IsMember w form) ms
@@ -140,10 +165,7 @@ members-from w sound form earlier [] pairs e =
 members-from w sound form earlier (m ∷ ms) pairs e =
     let two = or-none (member_doubt w form earlier m) (members_doubt w form (earlier ++ m ∷ []) ms) e in
     let n : NoDoubts w form earlier m = parts-from w form earlier m two.0 in
-    let news = and_parts (is_player w m.player) (not (list_any (λ (x : Account). eqb x.player m.player) earlier)) n.new in
-    let apart : list_any (λ (x : Account). eqb x.player m.player) earlier ≡ false = not-true (list_any (λ (x : Account). eqb x.player m.player) earlier) news.1 in
-    let more : AllPairs Apart (earlier ++ m ∷ []) = all_pairs_push Apart earlier m pairs
-    (λ k d lt. eqb-false (get_or earlier k d).player m.player (none-passes (λ (x : Account). eqb x.player m.player) earlier apart k d lt)) in
+    let more : AllPairs Apart (earlier ++ m ∷ []) = all_pairs_push Apart earlier m pairs (new-from w earlier m n.new).other in
     let rest = members-from w sound form (earlier ++ m ∷ []) ms more two.1 in
     let P : List Account → Type 0 = λ xs. AllPairs Apart xs in
     (subst P (append_assoc earlier (m ∷ []) ms) rest.0, All-cons (IsMember w form) m ms (member-from w sound form earlier m n) rest.1)
@@ -152,11 +174,8 @@ pub members-to : (w : State) → IsSound w → (form : Form) (earlier ms : List 
 members-to w sound form earlier [] pairs all = refl
 members-to w sound form earlier (m ∷ ms) pairs all =
     let P : List Account → Type 0 = λ xs. AllPairs Apart xs in
-    let test : Account → Bool = λ (x : Account). eqb x.player m.player in
-    let apart : list_any test earlier ≡ false = list_any_none test earlier
-    (λ k d lt. ne_eqb (get_or earlier k d).player m.player (two k d lt)) in
     or-both (member_doubt w form earlier m) (members_doubt w form (earlier ++ m ∷ []) ms)
-    (parts-to w form earlier m (member-to w sound form earlier m apart (All-head (IsMember w form) m ms all)))
+    (parts-to w form earlier m (member-to w sound form earlier m two (All-head (IsMember w form) m ms all)))
     (members-to w sound form (earlier ++ m ∷ []) ms (subst P (sym (append_assoc earlier (m ∷ []) ms)) pairs) (All-tail (IsMember w form) m ms all))
   where
     two : (k : ℕ) (d : Account) → k < length earlier → Apart (get_or earlier k d) m

@@ -19,37 +19,32 @@ use Rattle.mud_cert.specs.declared.cert.Conclusion.TheVariants.{Route, Meet}
 use Rattle.mud_cert.specs.Lookup.{label_at}
 use Rattle.mud_cert.specs.Ways.{hop_of, end_of, steps_of, arrival, arrival_of}
 use Rattle.mud_cert.specs.Agreement.{with_label, gathered_from}
-use Rattle.mud_cert.specs.Valid.{IsLabelledWalk, IsMember, Concludes, goer_of, IsBest}
+use Rattle.mud_cert.specs.Valid.{IsLabelledWalk, IsMember, Concludes, goer_of, StatesLeast, IsBest}
 use Rattle.mud_cert.specs.Laws.{ValidIsOptimal}
 use Rattle.mud_cert.proofs.Doubtless.{IsTaken, walk-to}
 
--- a walk that arrives at a cost is a least one, and its label is the room's
-record Arrives (w : State) (form : Form) (m : Account) (to cost : ℕ) : Type 0 where
-  label : Label
-  there : label_at m to ≡ Some label
-  least : IsLeast (hop_of form) (roads_of w m.player) m.from to label
-  costs : label.cost ≡ cost
-
-arrives : (w : State) → IsSound w → (form : Form) (m : Account) → AreValid (hop_of form) (roads_of w m.player) m.from (label_at m)
-    → (to cost : ℕ) (o : Option (List ℕ)) → IfSome o (IsLabelledWalk w form m) → arrival w m.from o ≡ Some (to, cost) → Arrives w form m to cost
-arrives w sound form m v to cost None i e = absurd (cc)
-arrives w sound form m v to cost (Some walk) i e =
+-- a walk that is given and arrives at a cost is a least one, and its label is the room's
+states : (w : State) → IsSound w → (form : Form) (m : Account) → AreValid (hop_of form) (roads_of w m.player) m.from (label_at m)
+    → (to cost : ℕ) (o : Option (List ℕ)) → m.walk ≡ o → IfSome o (IsLabelledWalk w form m) → arrival w m.from o ≡ Some (to, cost) → StatesLeast w (hop_of form) to cost m
+states w sound form m v to cost None given i e = absurd (cc)
+states w sound form m v to cost (Some walk) given i e =
     let t : IsTaken w m.player m.from i.to 1 1 i.steps = walk-to w sound m.player m.from i.to 1 1 i.steps i.walk in
     let same : steps_of w walk ≡ i.steps = ap (steps_of w) (sym i.exits_are) ∙ t.same in
     let whole : Some (end_of m.from (steps_of w walk), (total 0 (steps_of w walk)).cost) ≡ Some (to, cost) = e in
     let pair : (end_of m.from (steps_of w walk), (total 0 (steps_of w walk)).cost) ≡ (to, cost) = cc in
     let ends : i.to ≡ to = sym t.ends ∙ ap (end_of m.from) (sym same) ∙ ap (λ (a : ℕ × ℕ). a.0) pair in
-    let costs : (total (hop_of form) i.steps).cost ≡ cost = ap (λ (ss : List Step). (total 0 ss).cost) (sym same) ∙ ap (λ (a : ℕ × ℕ). a.1) pair in
-    let P : ℕ → Type 0 = λ r. Arrives w form m r cost in
+    let P : ℕ → Type 0 = λ r. StatesLeast w (hop_of form) r cost m in
     subst P ends (record {
-      label = total (hop_of form) i.steps;
-      there = i.label;
+      steps = i.steps;
+      stated = given ∙ ap Some (sym i.exits_are);
+      walk = i.walk;
+      costs = ap (λ (ss : List Step). (total 0 ss).cost) (sym same) ∙ ap (λ (a : ℕ × ℕ). a.1) pair;
+      label = i.label;
       least = (valid_is_least (hop_of form) (roads_of w m.player) m.from (label_at m) v).0 i.to i.steps i.walk i.label;
-      costs = costs;
     })
 
-arrives-of : (w : State) → IsSound w → (form : Form) (m : Account) → IsMember w form m → (to cost : ℕ) → arrival_of w m ≡ Some (to, cost) → Arrives w form m to cost
-arrives-of w sound form m i to cost e = arrives w sound form m i.labels to cost m.walk i.walk e
+states-least : (w : State) → IsSound w → (form : Form) (m : Account) → IsMember w form m → (to cost : ℕ) → arrival_of w m ≡ Some (to, cost) → StatesLeast w (hop_of form) to cost m
+states-least w sound form m i to cost e = states w sound form m i.labels to cost m.walk refl i.walk e
 
 -- a least label is the room's label where it is labelled, and a room with a walk is labelled
 record Labelled (m : Account) (to : ℕ) (least : Label) : Type 0 where
@@ -86,41 +81,50 @@ any-goer w P ms (k, m, lt, e, p) = (k, goer_of w m, omega (arith, length-map ms 
 all-goers : (w : State) (P : Goer → Type 0) (ms : List Account) → All (λ m. P (goer_of w m)) ms → All P (map (goer_of w) ms)
 all-goers w P ms all = All-map P (goer_of w) ms all
 
-pub optimal : (w : State) → IsSound w → (form : Form) (ms : List Account) (k : Conclusion) → All (IsMember w form) ms → Concludes w ms k → IsBest w (hop_of form) ms k
-optimal w sound form ms (Route to (Some cost)) all v = λ i d lt.
-    let a : Arrives w form (get_or ms i d) to cost = arrives-of w sound form (get_or ms i d) (all i d lt) to cost (v.1 i d lt) in
-    (a.label, a.least, a.costs)
-optimal w sound form ms (Route to None) all v = λ i d lt.
+best : (w : State) → IsSound w → (form : Form) (ms : List Account) (k : Conclusion) → All (IsMember w form) ms → Concludes w ms k → IsBest w (hop_of form) ms k
+best w sound form ms (Route to (Some cost)) all v = λ i d lt. states-least w sound form (get_or ms i d) (all i d lt) to cost (v.1 i d lt)
+best w sound form ms (Route to None) all v = λ i d lt.
     let m : Account = get_or ms i d in
     (valid_is_least (hop_of form) (roads_of w m.player) m.from (label_at m) (all i d lt).labels).1 to (v.1 i d lt).1
-optimal w sound form ms (Meet (Some meeting)) all v =
+best w sound form ms (Meet (Some meeting)) all v =
+    let hop : ℕ = hop_of form in
     let room : ℕ = meeting.room in
     let cost : ℕ = meeting.cost in
-    let P : Goer → Type 0 = λ (p : Goer). (l : Label) × IsLeast (hop_of form) p.0 p.1 room l × (l.cost ≤ cost) in
-    let Q : Goer → Type 0 = λ (p : Goer). (l : Label) × IsLeast (hop_of form) p.0 p.1 room l × (l.cost ≡ cost) in
-    record {
-      gathers = record {
-        all = all-goers w P ms (λ i d lt.
-            let c : (c : ℕ) × (arrival_of w (get_or ms i d) ≡ Some (room, c)) × (c ≤ cost) = v.1 i d lt in
-            let a : Arrives w form (get_or ms i d) room c.0 = arrives-of w sound form (get_or ms i d) (all i d lt) room c.0 c.1 in
-            (a.label, a.least, omega (arith, a.costs, c.2)));
-        one = any-goer w Q ms (
-            let o : Any (λ m. arrival_of w m ≡ Some (room, cost)) ms = v.2 in
-            let R : Account → Type 0 = λ m. IsMember w form m in
-            let a : Arrives w form o.1 room cost = arrives-of w sound form o.1 (subst R o.3 (all o.0 o.1 o.2)) room cost o.4 in
-            (o.0, o.1, o.2, o.3, (a.label, a.least, a.costs)));
-      };
-      best = λ r c g.
-          let s : Within 0 r c ms = within w form ms 0 r c (omega arith) all g.all in
-          elim (v.3 r s.found s.is) [ inl lt ↦ inl (omega (arith, lt, s.least)) | inr p ↦ after-equal cost s.found c room r p.0 p.1 s.least ];
-    }
+    let P : Goer → Type 0 = λ (p : Goer). (l : Label) × IsLeast hop p.0 p.1 room l × (l.cost ≤ cost) in
+    let Q : Goer → Type 0 = λ (p : Goer). (l : Label) × IsLeast hop p.0 p.1 room l × (l.cost ≡ cost) in
+    let stated : All (λ m. (c : ℕ) × (c ≤ cost) × StatesLeast w hop room c m) ms = λ i d lt.
+    let c : (c : ℕ) × (arrival_of w (get_or ms i d) ≡ Some (room, c)) × (c ≤ cost) = v.1 i d lt in
+    (c.0, c.2, states-least w sound form (get_or ms i d) (all i d lt) room c.0 c.1) in (
+      record {
+        gathers = record {
+          all = all-goers w P ms (λ i d lt.
+              let s = stated i d lt in
+              (total hop s.2.steps, s.2.least, omega (arith, s.2.costs, s.1)));
+          one = any-goer w Q ms (
+              let o : Any (λ m. arrival_of w m ≡ Some (room, cost)) ms = v.2 in
+              let R : Account → Type 0 = λ m. IsMember w form m in
+              let s : StatesLeast w hop room cost o.1 = states-least w sound form o.1 (subst R o.3 (all o.0 o.1 o.2)) room cost o.4 in
+              (o.0, o.1, o.2, o.3, (total hop s.steps, s.least, s.costs)));
+        };
+        best = λ r c g.
+            let s : Within 0 r c ms = within w form ms 0 r c (omega arith) all g.all in
+            elim (v.3 r s.found s.is) [ inl lt ↦ inl (omega (arith, lt, s.least)) | inr p ↦ after-equal cost s.found c room r p.0 p.1 s.least ];
+      },
+      stated,
+    )
   where
     after-equal : (cost found c room r : ℕ) → cost ≡ found → room ≤ r → found ≤ c → (cost < c) ⊎ ((cost ≡ c) × (room ≤ r))
     after-equal cost found c room r e le h = elim (cases_lt cost c) [ inl lt ↦ inl lt | inr ge ↦ inr (omega arith, le) ]
-optimal w sound form ms (Meet None) all v = λ r c g.
+best w sound form ms (Meet None) all v = λ r c g.
     let s : Within 0 r c ms = within w form ms 0 r c (omega arith) all g.all in
     let bad : Some s.found ≡ None = sym s.is ∙ v.1 r in
     cc
 
 pub valid_is_optimal : ValidIsOptimal
-valid_is_optimal w sound c is v = optimal w sound c.form c.members c.conclusion v.members v.conclusion
+valid_is_optimal w sound c is v = record {
+  best = best w sound c.form c.members c.conclusion v.members v.conclusion;
+  labels = λ i d lt.
+      let m : Account = get_or c.members i d in
+      let l = v.members i d lt in
+      λ to ss walk. walk_from_start (hop_of c.form) (roads_of w m.player) m.from (label_at m) l.labels ss to walk;
+}

@@ -1,9 +1,9 @@
 -- A text has one split into lines, and the lines of a certificate are lines.
-use Rattle.std.proofs.Common.{◌≡◌, ◌≢◌, ℕ, ◌+◌, ◌%◌, ◌^◌, ◌<◌, ◌≤◌, Bool, true, false, cond, eqb, List, [], ◌∷◌, ◌++◌, length, Option, None, Some, refl, sym, ap, ◌∙◌, append_assoc, arith, inl, inr, ◌⊎◌, All}
+use Rattle.std.proofs.Common.{◌≡◌, ◌≢◌, ℕ, ◌+◌, ◌%◌, ◌^◌, ◌<◌, ◌≤◌, true, leb, List, [], ◌∷◌, ◌++◌, length, get_or, Option, None, Some, refl, sym, ap, ◌∙◌, append_assoc, arith, inl, inr, ◌⊎◌, All}
 use Rattle.std.specs.Prelude.{codes, IfSome}
 use Rattle.std.specs.Fmt.{decimal}
-use Rattle.std.specs.List.{flat_map}
-use Rattle.std.proofs.lemmas.Bool.{cases_Bool, cases_lt, cond-true, cond-false, eqb-false}
+use Rattle.std.specs.List.{flat_map, list_all}
+use Rattle.std.proofs.lemmas.Bool.{cases_lt, and_parts, leb-true}
 use Rattle.std.proofs.lemmas.Fmt.{decimal_by_steps}
 use Rattle.std.proofs.lemmas.List.{append-nil}
 use Rattle.std.proofs.lemmas.List.Elements.{All-nil, All-cons, All-head, All-tail, All-append}
@@ -13,8 +13,9 @@ use Rattle.mud_cert.specs.declared.cert.Form.TheVariants.{One, Two}
 use Rattle.mud_cert.specs.declared.cert.Conclusion.{Conclusion}
 use Rattle.mud_cert.specs.declared.cert.Conclusion.TheVariants.{Route, Meet}
 use Rattle.mud_cert.specs.Certificate.{Account, Certificate, IsNumber, IsAmount, IsEntry, IsAccount, IsConclusion, IsCertificate}
-use Rattle.mud_cert.specs.Text.{ended, text_of, head_line, version_line, member_line, entry_text, labels_line, exit_text, walk_line, member_lines, conclusion_line, cert_lines}
+use Rattle.mud_cert.specs.Text.{ended, text_of, head_line, version_line, member_line, entry_text, labels_line, exit_text, walk_line, member_lines, conclusion_line, cert_lines, cert_text}
 use Rattle.mud_cert.specs.Faults.{IsLine}
+use Rattle.mud_cert.specs.TextLaws.{HasNoReturn}
 
 abbrev Apart : ℕ → Type 0
 Apart b = b ≢ 10
@@ -85,104 +86,124 @@ split-whole front lines rest lf ll e = go (cases_lt (length lines) (length front
 
 -- ---- the lines of a certificate
 
-abbrev no_feed : List ℕ → Bool
-no_feed [] = true
-no_feed (b ∷ bs) = cond (eqb b 10) false (no_feed bs)
+abbrev Plain : ℕ → Type 0
+Plain b = 32 ≤ b
 
-line-from : (bytes : List ℕ) → no_feed bytes ≡ true → IsLine bytes
-line-from [] e = All-nil Apart
-line-from (b ∷ bs) e = go (cases_Bool (eqb b 10)) (line-from bs)
-  where
-    go : (eqb b 10 ≡ true) ⊎ (eqb b 10 ≡ false) → (no_feed bs ≡ true → IsLine bs) → IsLine (b ∷ bs)
-    go (inl t) more =
-        let bad : false ≡ true = sym (cond-true (eqb b 10) false (no_feed bs) t) ∙ e in
-        absurd (cc)
-    go (inr f) more = All-cons Apart b bs (λ h. eqb-false b 10 f h) (more (sym (cond-false (eqb b 10) false (no_feed bs) f) ∙ e))
+-- no control byte is among them
+abbrev pub ArePlain : List ℕ → Type 0
+ArePlain bytes = All Plain bytes
 
-then : (a b : List ℕ) → IsLine a → IsLine b → IsLine (a ++ b)
-then a b la lb = All-append Apart a b la lb
+plain-from : (bytes : List ℕ) → list_all (leb 32) bytes ≡ true → ArePlain bytes
+plain-from [] e = All-nil Plain
+plain-from (b ∷ bs) e =
+    let p = and_parts (leb 32 b) (list_all (leb 32) bs) e in
+    All-cons Plain b bs (leb-true 32 b p.0) (plain-from bs p.1)
 
-digit-line : (b : ℕ) → 48 ≤ b → IsLine (b ∷ [])
-digit-line b low = All-cons Apart b [] (λ h. omega arith) (All-nil Apart)
+then : (a b : List ℕ) → ArePlain a → ArePlain b → ArePlain (a ++ b)
+then a b la lb = All-append Plain a b la lb
 
-decimal-line : (n : ℕ) → n < 2 ^ 64 → IsLine (decimal n)
-decimal-line n fits = decimal_by_steps (λ m ds. IsLine ds)
-    (λ m small. digit-line (48 + m) (omega arith))
-    (λ m ds big is. then ds ((48 + m % 10) ∷ []) is (digit-line (48 + m % 10) (omega arith)))
+digit-plain : (b : ℕ) → 48 ≤ b → ArePlain (b ∷ [])
+digit-plain b low = All-cons Plain b [] (omega arith) (All-nil Plain)
+
+decimal-plain : (n : ℕ) → n < 2 ^ 64 → ArePlain (decimal n)
+decimal-plain n fits = decimal_by_steps (λ m ds. ArePlain ds)
+    (λ m small. digit-plain (48 + m) (omega arith))
+    (λ m ds big is. then ds ((48 + m % 10) ∷ []) is (digit-plain (48 + m % 10) (omega arith)))
     n fits
 
-number-line : (n : ℕ) → IsNumber n → IsLine (decimal n)
-number-line n low = decimal-line n (omega arith)
+number-plain : (n : ℕ) → IsNumber n → ArePlain (decimal n)
+number-plain n low = decimal-plain n (omega arith)
 
-amount-line : (n : ℕ) → IsAmount n → IsLine (decimal n)
-amount-line n few = decimal-line n (omega arith)
+amount-plain : (n : ℕ) → IsAmount n → ArePlain (decimal n)
+amount-plain n few = decimal-plain n (omega arith)
 
 -- pieces one behind the other
-pieces-line : {A : Type 0} (text : A → List ℕ) (Fits : A → Type 0) (is : (x : A) → Fits x → IsLine (text x)) (xs : List A) → All Fits xs → IsLine (flat_map text xs)
-pieces-line text Fits is [] fits = All-nil Apart
-pieces-line text Fits is (x ∷ xs) fits = then (text x) (flat_map text xs) (is x (All-head Fits x xs fits)) (pieces-line text Fits is xs (All-tail Fits x xs fits))
+pieces-plain : {A : Type 0} (text : A → List ℕ) (Fits : A → Type 0) (is : (x : A) → Fits x → ArePlain (text x)) (xs : List A) → All Fits xs → ArePlain (flat_map text xs)
+pieces-plain text Fits is [] fits = All-nil Plain
+pieces-plain text Fits is (x ∷ xs) fits = then (text x) (flat_map text xs) (is x (All-head Fits x xs fits)) (pieces-plain text Fits is xs (All-tail Fits x xs fits))
 
-head-is : (form : Form) → IsLine (head_line form)
-head-is One = line-from (codes "mud proof 1") refl
-head-is Two = line-from (codes "mud proof 2") refl
+head-is : (form : Form) → ArePlain (head_line form)
+head-is One = plain-from (codes "mud proof 1") refl
+head-is Two = plain-from (codes "mud proof 2") refl
 
-entry-is : (form : Form) (e : ℕ × Label) → IsEntry e → IsLine (entry_text form e)
+entry-is : (form : Form) (e : ℕ × Label) → IsEntry e → ArePlain (entry_text form e)
 entry-is One e is =
     then (codes " #" ++ decimal e.0 ++ codes ":") (decimal e.1.cost)
-    (then (codes " #" ++ decimal e.0) (codes ":") (then (codes " #") (decimal e.0) (line-from (codes " #") refl) (number-line e.0 is.0)) (line-from (codes ":") refl))
-    (amount-line e.1.cost is.1)
+    (then (codes " #" ++ decimal e.0) (codes ":") (then (codes " #") (decimal e.0) (plain-from (codes " #") refl) (number-plain e.0 is.0)) (plain-from (codes ":") refl))
+    (amount-plain e.1.cost is.1)
 entry-is Two e is =
     then (codes " #" ++ decimal e.0 ++ codes ":" ++ decimal e.1.cost ++ codes "/") (decimal e.1.exits)
     (then (codes " #" ++ decimal e.0 ++ codes ":" ++ decimal e.1.cost) (codes "/")
     (then (codes " #" ++ decimal e.0 ++ codes ":") (decimal e.1.cost)
-    (then (codes " #" ++ decimal e.0) (codes ":") (then (codes " #") (decimal e.0) (line-from (codes " #") refl) (number-line e.0 is.0)) (line-from (codes ":") refl))
-    (amount-line e.1.cost is.1))
-    (line-from (codes "/") refl))
-    (amount-line e.1.exits is.2)
+    (then (codes " #" ++ decimal e.0) (codes ":") (then (codes " #") (decimal e.0) (plain-from (codes " #") refl) (number-plain e.0 is.0)) (plain-from (codes ":") refl))
+    (amount-plain e.1.cost is.1))
+    (plain-from (codes "/") refl))
+    (amount-plain e.1.exits is.2)
 
-exit-is : (x : ℕ) → IsNumber x → IsLine (exit_text x)
-exit-is x low = then (codes " #") (decimal x) (line-from (codes " #") refl) (number-line x low)
+exit-is : (x : ℕ) → IsNumber x → ArePlain (exit_text x)
+exit-is x low = then (codes " #") (decimal x) (plain-from (codes " #") refl) (number-plain x low)
 
-walk-is : (w : Option (List ℕ)) → IfSome w (All IsNumber) → IsLine (walk_line w)
-walk-is None fits = line-from (codes "walk none") refl
-walk-is (Some []) fits = line-from (codes "walk nothing") refl
-walk-is (Some (x ∷ xs)) fits = then (codes "walk") (flat_map exit_text (x ∷ xs)) (line-from (codes "walk") refl) (pieces-line exit_text IsNumber exit-is (x ∷ xs) fits)
+walk-is : (w : Option (List ℕ)) → IfSome w (All IsNumber) → ArePlain (walk_line w)
+walk-is None fits = plain-from (codes "walk none") refl
+walk-is (Some []) fits = plain-from (codes "walk nothing") refl
+walk-is (Some (x ∷ xs)) fits = then (codes "walk") (flat_map exit_text (x ∷ xs)) (plain-from (codes "walk") refl) (pieces-plain exit_text IsNumber exit-is (x ∷ xs) fits)
 
-member-is : (player from : ℕ) → IsNumber player → IsNumber from → IsLine (member_line player from)
+member-is : (player from : ℕ) → IsNumber player → IsNumber from → ArePlain (member_line player from)
 member-is player from p f =
     then (codes "member #" ++ decimal player ++ codes " from #") (decimal from)
-    (then (codes "member #" ++ decimal player) (codes " from #") (then (codes "member #") (decimal player) (line-from (codes "member #") refl) (number-line player p)) (line-from (codes " from #") refl))
-    (number-line from f)
+    (then (codes "member #" ++ decimal player) (codes " from #") (then (codes "member #") (decimal player) (plain-from (codes "member #") refl) (number-plain player p)) (plain-from (codes " from #") refl))
+    (number-plain from f)
 
-members-are : (form : Form) (ms : List Account) → All IsAccount ms → All IsLine (flat_map (member_lines form) ms)
-members-are form [] is = All-nil IsLine
+members-are : (form : Form) (ms : List Account) → All IsAccount ms → All ArePlain (flat_map (member_lines form) ms)
+members-are form [] is = All-nil ArePlain
 members-are form (a ∷ ms) is =
     let i = All-head IsAccount a ms is in
     let more : List (List ℕ) = flat_map (member_lines form) ms in
-    All-cons IsLine (member_line a.player a.from) (labels_line form a.labels ∷ walk_line a.walk ∷ more) (member-is a.player a.from i.player i.from)
-    (All-cons IsLine (labels_line form a.labels) (walk_line a.walk ∷ more)
-    (then (codes "labels") (flat_map (entry_text form) a.labels) (line-from (codes "labels") refl) (pieces-line (entry_text form) IsEntry (entry-is form) a.labels i.entries))
-    (All-cons IsLine (walk_line a.walk) more (walk-is a.walk i.exits) (members-are form ms (All-tail IsAccount a ms is))))
+    All-cons ArePlain (member_line a.player a.from) (labels_line form a.labels ∷ walk_line a.walk ∷ more) (member-is a.player a.from i.player i.from)
+    (All-cons ArePlain (labels_line form a.labels) (walk_line a.walk ∷ more)
+    (then (codes "labels") (flat_map (entry_text form) a.labels) (plain-from (codes "labels") refl) (pieces-plain (entry_text form) IsEntry (entry-is form) a.labels i.entries))
+    (All-cons ArePlain (walk_line a.walk) more (walk-is a.walk i.exits) (members-are form ms (All-tail IsAccount a ms is))))
 
-conclusion-is : (count : ℕ) (c : Conclusion) → IsConclusion count c → IsLine (conclusion_line c)
-conclusion-is count (Route to None) i = then (codes "route #" ++ decimal to) (codes " no way") (then (codes "route #") (decimal to) (line-from (codes "route #") refl) (number-line to i.1)) (line-from (codes " no way") refl)
+conclusion-is : (count : ℕ) (c : Conclusion) → IsConclusion count c → ArePlain (conclusion_line c)
+conclusion-is count (Route to None) i = then (codes "route #" ++ decimal to) (codes " no way") (then (codes "route #") (decimal to) (plain-from (codes "route #") refl) (number-plain to i.1)) (plain-from (codes " no way") refl)
 conclusion-is count (Route to (Some cost)) i =
     then (codes "route #" ++ decimal to ++ codes " cost ") (decimal cost)
-    (then (codes "route #" ++ decimal to) (codes " cost ") (then (codes "route #") (decimal to) (line-from (codes "route #") refl) (number-line to i.1)) (line-from (codes " cost ") refl))
-    (amount-line cost i.2)
-conclusion-is count (Meet None) i = line-from (codes "meet none") refl
+    (then (codes "route #" ++ decimal to) (codes " cost ") (then (codes "route #") (decimal to) (plain-from (codes "route #") refl) (number-plain to i.1)) (plain-from (codes " cost ") refl))
+    (amount-plain cost i.2)
+conclusion-is count (Meet None) i = plain-from (codes "meet none") refl
 conclusion-is count (Meet (Some m)) i =
     then (codes "meet #" ++ decimal m.room ++ codes " cost ") (decimal m.cost)
-    (then (codes "meet #" ++ decimal m.room) (codes " cost ") (then (codes "meet #") (decimal m.room) (line-from (codes "meet #") refl) (number-line m.room i.2.0)) (line-from (codes " cost ") refl))
-    (amount-line m.cost i.2.1)
+    (then (codes "meet #" ++ decimal m.room) (codes " cost ") (then (codes "meet #") (decimal m.room) (plain-from (codes "meet #") refl) (number-plain m.room i.2.0)) (plain-from (codes " cost ") refl))
+    (amount-plain m.cost i.2.1)
 
-pub cert-lines : (c : Certificate) → IsCertificate c → All IsLine (cert_lines c)
+pub plain-lines : (c : Certificate) → IsCertificate c → All ArePlain (cert_lines c)
 unfolding cert_lines
-cert-lines c is =
+plain-lines c is =
     let last : List (List ℕ) = conclusion_line c.conclusion ∷ codes "end" ∷ [] in
     let members : List (List ℕ) = flat_map (member_lines c.form) c.members in
-    All-cons IsLine (head_line c.form) (version_line c.version ∷ (members ++ last)) (head-is c.form)
-    (All-cons IsLine (version_line c.version) (members ++ last) (then (codes "version ") (decimal c.version) (line-from (codes "version ") refl) (amount-line c.version is.version))
-    (All-append IsLine members last (members-are c.form c.members is.members)
-    (All-cons IsLine (conclusion_line c.conclusion) (codes "end" ∷ []) (conclusion-is (length c.members) c.conclusion is.conclusion)
-    (All-cons IsLine (codes "end") [] (line-from (codes "end") refl) (All-nil IsLine)))))
+    All-cons ArePlain (head_line c.form) (version_line c.version ∷ (members ++ last)) (head-is c.form)
+    (All-cons ArePlain (version_line c.version) (members ++ last) (then (codes "version ") (decimal c.version) (plain-from (codes "version ") refl) (amount-plain c.version is.version))
+    (All-append ArePlain members last (members-are c.form c.members is.members)
+    (All-cons ArePlain (conclusion_line c.conclusion) (codes "end" ∷ []) (conclusion-is (length c.members) c.conclusion is.conclusion)
+    (All-cons ArePlain (codes "end") [] (plain-from (codes "end") refl) (All-nil ArePlain)))))
+
+-- what is plain has no LF
+line-of : (line : List ℕ) → ArePlain line → IsLine line
+line-of line plain = λ i d lt. λ (same : get_or line i d ≡ 10). omega (arith, plain i d lt, same)
+
+pub cert-lines : (c : Certificate) → IsCertificate c → All IsLine (cert_lines c)
+cert-lines c is = λ i d lt. line-of (get_or (cert_lines c) i d) (plain-lines c is i d lt)
+
+-- plain lines with their LFs have no CR
+no-returns : (lines : List (List ℕ)) → All ArePlain lines → All (λ b. b ≢ 13) (text_of lines)
+no-returns [] plain = All-nil (λ b. b ≢ 13)
+no-returns (l ∷ ls) plain =
+    let P : ℕ → Type 0 = λ b. b ≢ 13 in
+    let one : ArePlain l = All-head ArePlain l ls plain in
+    All-append P (ended l) (text_of ls)
+    (All-append P l (10 ∷ []) (λ i d lt. λ (same : get_or l i d ≡ 13). omega (arith, one i d lt, same)) (All-cons P 10 [] (λ (same : 10 ≡ 13). omega (arith, same)) (All-nil P)))
+    (no-returns ls (All-tail ArePlain l ls plain))
+
+pub has-no-return : HasNoReturn
+unfolding cert_text
+has-no-return c is = no-returns (cert_lines c) (plain-lines c is)

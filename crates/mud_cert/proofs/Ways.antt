@@ -12,8 +12,8 @@ use Rattle.mud_roads.specs.declared.label.Step.{Step}
 use Rattle.mud_roads.specs.Open.{passable, step_by, roads_of}
 use Rattle.mud_roads.specs.Laws.{IsRoad}
 use Rattle.mud_roads.proofs.Roads as roads
-use Rattle.mud_cert.specs.Ways.{leaves, step_of}
-use Rattle.mud_cert.specs.Doubts.{numbers}
+use Rattle.mud_cert.specs.Ways.{step_of}
+use Rattle.mud_cert.specs.Tests.{leaves, numbers}
 use Rattle.mud_cert.proofs.Finds.{below-contained}
 
 -- the exit whose step it is

@@ -1,5 +1,5 @@
 -- A certificate as contracts see it, and the limits that every certificate keeps.
-use Rattle.std.specs.Prelude.{◌≡◌, ℕ, ◌<◌, ◌≤◌, List, length, Option, Some, None, IfSome, All, AllPairs}
+use Rattle.std.specs.Prelude.{◌≡◌, ℕ, ◌<◌, ◌≤◌, List, length, Option, IfSome, All, AllPairs}
 use Rattle.mud_roads.specs.declared.label.Label.{Label}
 use Rattle.mud_cert.specs.declared.cert.Form.{Form}
 use Rattle.mud_cert.specs.declared.cert.Form.TheVariants.{One, Two}

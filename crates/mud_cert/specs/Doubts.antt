@@ -1,89 +1,120 @@
--- The doubts of a certificate, in their order.
-use Rattle.std.specs.Prelude.{ℕ, nat_eq, not, Bool, true, false, ◌&&◌, List, [], ◌∷◌, ◌++◌, find, Option, None, Some, option_map, option_and_then}
-use Rattle.std.specs.List.{list_any, list_all, range_with_len}
+-- The doubts of a certificate: when each holds, and which of them is the first.
+use Rattle.std.specs.Prelude.{◌≡◌, ◌≢◌, ℕ, ◌+◌, ◌<◌, ◌≤◌, ◌⊎◌, false, List, [], ◌∷◌, ◌++◌, length, map}
+use Rattle.std.specs.Prelude.{All, Contains, Some, IsTrue, IsSomeAnd}
 use Rattle.mud_roads.specs.declared.label.Label.{Label}
 use Rattle.mud_roads.specs.declared.label.Step.{Step}
-use Rattle.mud_roads.specs.Walks.{total, after}
-use Rattle.mud_roads.specs.Labels.{start_label}
-use Rattle.mud_roads.specs.Open.{passable}
-use Rattle.mud_world.specs.State.{State, is_player, is_room, place_of, source_of, is_number}
+use Rattle.mud_roads.specs.Walks.{Walk, total, after}
+use Rattle.mud_roads.specs.Labels.{start_label, Reaches}
+use Rattle.mud_roads.specs.Open.{passable, roads_of}
+use Rattle.mud_world.specs.declared.record.Passage.{Passage}
+use Rattle.mud_world.specs.State.{State, is_player, is_room, place_of, passage_of, source_of}
 use Rattle.mud_cert.specs.declared.cert.Form.{Form}
 use Rattle.mud_cert.specs.declared.doubt.Doubt.{Doubt}
 use Rattle.mud_cert.specs.declared.doubt.Doubt.TheVariants as doubts
 use Rattle.mud_cert.specs.Certificate.{Account, Certificate}
-use Rattle.mud_cert.specs.Lookup.{label_at, is_at_most, is_label}
-use Rattle.mud_cert.specs.Ways.{hop_of, step_of, steps_of, end_of, broken, locked}
-use Rattle.mud_cert.specs.Agreement.{concludes}
-
--- the first of two doubts, of which each may not hold
-infixr 5 ◌or◌
-abbrev pub ◌or◌ : Option Doubt → Option Doubt → Option Doubt
-(Some d) or o = Some d
-None or o = o
-
--- the doubt, unless the test passes
-abbrev pub unless : Bool → Doubt → Option Doubt
-unless true d = None
-unless false d = Some d
-
--- all numbers that were given to objects, rising
-abbrev pub numbers : State → List ℕ
-numbers w = range_with_len 0 w.next
+use Rattle.mud_cert.specs.Lookup.{label_at}
+use Rattle.mud_cert.specs.Ways.{hop_of}
+use Rattle.mud_cert.specs.Valid.{Concludes}
 
 -- he is a player of the world, and no earlier member
-abbrev pub is_new : State → List Account → Account → Bool
-is_new w earlier m = is_player w m.player && not (list_any (λ e. nat_eq e.player m.player) earlier)
-
--- he stands where it is claimed
-abbrev pub stands : State → Account → Bool
-stands w m = is_number m.from (place_of w m.player)
+pub record IsNew (w : State) (earlier : List Account) (m : Account) : Type 0 where
+  pub player : IsTrue (is_player w m.player)
+  pub other : All (λ e. e.player ≢ m.player) earlier
 
 -- his start is labelled 0, and each labelled number is a room
-abbrev pub is_started : State → Account → Bool
-is_started w m = is_label (label_at m m.from) start_label && list_all (λ (e : ℕ × Label). is_room w e.0) m.labels
+pub record IsStarted (w : State) (m : Account) : Type 0 where
+  pub start : label_at m m.from ≡ Some start_label
+  pub rooms : All (λ (e : ℕ × Label). IsTrue (is_room w e.0)) m.labels
 
--- from a labelled room the step leads to a label that is at most the one a step on
-abbrev pub is_kept : ℕ → Option Label → Option Label → Step → Bool
-is_kept hop None there s = true
-is_kept hop (Some l) None s = false
-is_kept hop (Some l) (Some k) s = is_at_most k (after hop l s)
+-- exit x is open to him, and leads from a labelled room to one that has no label or one that is too great
+pub record Breaks (w : State) (form : Form) (m : Account) (x : ℕ) : Type 0 where
+  pub room : ℕ
+  pub label : Label
+  pub step : Step
+  pub labelled : label_at m room ≡ Some label
+  pub opened : Contains (roads_of w m.player room) step
+  pub exit : step.exit ≡ x
+  pub beyond : Reaches (label_at m) step.to (after (hop_of form) label step) → ⊥
 
--- the label of the room that exit x leaves
-abbrev pub label_behind : State → Account → ℕ → Option Label
-label_behind w m x = option_and_then (label_at m) (source_of w x)
+-- the exits lead from one room to another, each out of the room where the last one led, whoever may pass
+abbrev pub Leads : State → ℕ → List ℕ → ℕ → Type 0
+Leads w from [] to = from ≡ to
+Leads w from (x ∷ xs) to = (a : Passage) × (passage_of w x ≡ Some a) × (a.source ≡ from) × Leads w a.destination xs to
 
--- exit x is open to the member, and leads from a labelled room to one that has no label or one that is too great
-abbrev pub breaks : State → Form → Account → ℕ → Bool
-breaks w form m x =
-    passable w m.player x && not (is_kept (hop_of form) (label_behind w m x) (label_at m (step_of w x).to) (step_of w x))
+-- the exits before this place lead to a room that the exit there doesn't leave; places count from 1
+pub record IsBroken (w : State) (from : ℕ) (walk : List ℕ) (place : ℕ) : Type 0 where
+  pub before : List ℕ
+  pub exit : ℕ
+  pub behind : List ℕ
+  pub parts : walk ≡ before ++ exit ∷ behind
+  pub number : place ≡ length before + 1
+  pub room : ℕ
+  pub leads : Leads w from before room
+  pub elsewhere : source_of w exit ≢ Some room
 
--- the first doubt of a walk
-abbrev pub walk_doubt : State → Form → Account → List ℕ → Option Doubt
-walk_doubt w form m walk =
-    let ss = steps_of w walk in
-    option_map (λ i. doubts.WalkBroken m.player i) (broken w m.from 1 walk)
-    or option_map (λ i. doubts.WalkLocked m.player i) (locked w m.player 1 walk)
-    or unless (is_label (label_at m (end_of m.from ss)) (total (hop_of form) ss)) (doubts.WalkCost m.player)
+-- the exits before this place are open to p, and the exit there isn't
+pub record IsLocked (w : State) (p : ℕ) (walk : List ℕ) (place : ℕ) : Type 0 where
+  pub before : List ℕ
+  pub exit : ℕ
+  pub behind : List ℕ
+  pub parts : walk ≡ before ++ exit ∷ behind
+  pub number : place ≡ length before + 1
+  pub passes : All (λ x. IsTrue (passable w p x)) before
+  pub locked : passable w p exit ≡ false
 
--- the same of a walk that may not be given
-abbrev pub given_doubt : State → Form → Account → Option (List ℕ) → Option Doubt
-given_doubt w form m None = None
-given_doubt w form m (Some walk) = walk_doubt w form m walk
+-- the walk is one of his, and has not the label of the room where it ends
+pub record IsMislabelled (w : State) (form : Form) (m : Account) (walk : List ℕ) : Type 0 where
+  pub steps : List Step
+  pub to : ℕ
+  pub exits_are : map (λ (s : Step). s.exit) steps ≡ walk
+  pub leads : Walk (roads_of w m.player) m.from steps to
+  pub other : label_at m to ≢ Some (total (hop_of form) steps)
 
--- the first doubt of a member who comes after these
-abbrev pub member_doubt : State → Form → List Account → Account → Option Doubt
-member_doubt w form earlier m =
-    unless (is_new w earlier m) (doubts.NoSuchPlayer m.player)
-    or unless (stands w m) (doubts.WrongStart m.player)
-    or unless (is_started w m) (doubts.StartLabel m.player)
-    or option_map (λ x. doubts.Arc m.player x) (find (breaks w form m) (numbers w))
-    or given_doubt w form m m.walk
+-- the doubt holds of the member, who comes after these
+abbrev pub Holds : State → Form → List Account → Account → Doubt → Type 0
+Holds w form earlier m (doubts.NoSuchPlayer p) = (p ≡ m.player) × (IsNew w earlier m → ⊥)
+Holds w form earlier m (doubts.WrongStart p) = (p ≡ m.player) × (place_of w m.player ≢ Some m.from)
+Holds w form earlier m (doubts.StartLabel p) = (p ≡ m.player) × (IsStarted w m → ⊥)
+Holds w form earlier m (doubts.Arc p x) = (p ≡ m.player) × Breaks w form m x × ((y : ℕ) → Breaks w form m y → x ≤ y)
+Holds w form earlier m (doubts.WalkBroken p i) = (p ≡ m.player) × IsSomeAnd m.walk (λ walk. IsBroken w m.from walk i)
+Holds w form earlier m (doubts.WalkLocked p i) = (p ≡ m.player) × IsSomeAnd m.walk (λ walk. IsLocked w m.player walk i)
+Holds w form earlier m (doubts.WalkCost p) = (p ≡ m.player) × IsSomeAnd m.walk (IsMislabelled w form m)
+Holds w form earlier m doubts.Conclusion = ⊥
+Holds w form earlier m doubts.OutOfMemory = ⊥
 
--- the first doubt of members who come after these
-abbrev pub members_doubt : State → Form → List Account → List Account → Option Doubt
-members_doubt w form earlier [] = None
-members_doubt w form earlier (m ∷ ms) = member_doubt w form earlier m or members_doubt w form (earlier ++ m ∷ []) ms
+-- the order of doubts
+abbrev pub rank : Doubt → ℕ
+rank doubts.OutOfMemory = 0
+rank (doubts.NoSuchPlayer p) = 1
+rank (doubts.WrongStart p) = 2
+rank (doubts.StartLabel p) = 3
+rank (doubts.Arc p x) = 4
+rank (doubts.WalkBroken p i) = 5
+rank (doubts.WalkLocked p i) = 6
+rank (doubts.WalkCost p) = 7
+rank doubts.Conclusion = 8
 
--- the first doubt of a certificate
-abbrev pub first_doubt : State → Certificate → Option Doubt
-first_doubt w c = members_doubt w c.form [] c.members or unless (concludes w c.members c.conclusion) doubts.Conclusion
+-- the doubt holds of the member at this place, counted from 0
+pub record HoldsOf (w : State) (c : Certificate) (at : ℕ) (d : Doubt) : Type 0 where
+  pub earlier : List Account
+  pub member : Account
+  pub later : List Account
+  pub parts : c.members ≡ earlier ++ member ∷ later
+  pub place : at ≡ length earlier
+  pub holds : Holds w c.form earlier member d
+
+-- the conclusion doesn't agree with the members; its place is behind theirs
+pub record Disagrees (w : State) (c : Certificate) (at : ℕ) (d : Doubt) : Type 0 where
+  pub is : d ≡ doubts.Conclusion
+  pub place : at ≡ length c.members
+  pub other : Concludes w c.members c.conclusion → ⊥
+
+-- the doubt holds at this place
+abbrev pub HoldsAt : State → Certificate → ℕ → Doubt → Type 0
+HoldsAt w c at d = HoldsOf w c at d ⊎ Disagrees w c at d
+
+-- the doubt holds, and any that holds is of a later place, or of this one and no earlier in the order
+pub record IsFirstDoubt (w : State) (c : Certificate) (d : Doubt) : Type 0 where
+  pub at : ℕ
+  pub holds : HoldsAt w c at d
+  pub first : (k : ℕ) (e : Doubt) → HoldsAt w c k e → (at < k) ⊎ ((at ≡ k) × (rank d ≤ rank e))

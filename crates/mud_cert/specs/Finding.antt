@@ -1,5 +1,6 @@
 -- What is found of two texts: a history's and a proof's.
-use Rattle.std.specs.Prelude.{◌≡◌, ℕ, ◌<◌, ◌≤◌, ◌⊎◌, ◌==◌, Bool, false, ◌&&◌, if◌then◌else◌, List, [], ◌∷◌, length, take, None, Some}
+use Rattle.std.specs.Prelude.{◌≡◌, ℕ, ◌<◌, ◌≤◌, ◌⊎◌, ◌==◌, Bool, false, ◌&&◌, if◌then◌else◌}
+use Rattle.std.specs.Prelude.{List, [], ◌∷◌, length, take}
 use Rattle.mud_world.specs.State.{State}
 use Rattle.mud_world.specs.History.{world_of}
 use Rattle.mud_chron.specs.declared.fault.ChronFault.{ChronFault}
@@ -14,8 +15,8 @@ use Rattle.mud_cert.specs.declared.finding.Finding.TheVariants.{Accepted, NoVers
 use Rattle.mud_cert.specs.Certificate.{Certificate, IsCertificate}
 use Rattle.mud_cert.specs.Text.{cert_text}
 use Rattle.mud_cert.specs.Faults.{IsBadLine}
-use Rattle.mud_cert.specs.Doubts.{first_doubt}
-use Rattle.mud_cert.specs.Valid.{Optimal}
+use Rattle.mud_cert.specs.Doubts.{IsFirstDoubt}
+use Rattle.mud_cert.specs.Valid.{IsValid, Optimal}
 
 -- the bytes begin with LF
 abbrev pub starts_with_lf : List ℕ → Bool
@@ -25,7 +26,8 @@ starts_with_lf (b ∷ bytes) = b == 10
 -- the bytes without each CR that stands directly before LF
 abbrev pub without_returns : List ℕ → List ℕ
 without_returns [] = []
-without_returns (b ∷ bytes) = if b == 13 && starts_with_lf bytes then without_returns bytes else b ∷ without_returns bytes
+without_returns (b ∷ bytes) =
+    if b == 13 && starts_with_lf bytes then without_returns bytes else b ∷ without_returns bytes
 
 -- the text spells these entries, each legal where it stands
 pub record IsHistory (text : List ℕ) (entries : List Entry) : Type 0 where
@@ -72,15 +74,16 @@ pub record IsDoubted (history proof : List ℕ) (doubt : Doubt) : Type 0 where
   pub cert : Certificate
   pub texts : AreTexts history proof entries cert
   pub reached : cert.version ≤ length entries
-  pub doubt_is : first_doubt (world_at entries cert.version) cert ≡ Some doubt
+  pub first : IsFirstDoubt (world_at entries cert.version) cert doubt
 
--- the certificate has no doubt in the world of which it speaks
+-- the certificate is valid in the world of which it speaks, and what it concludes is the least there
 pub record IsAccepted (history proof : List ℕ) : Type 0 where
   pub entries : List Entry
   pub cert : Certificate
   pub texts : AreTexts history proof entries cert
   pub reached : cert.version ≤ length entries
-  pub no_doubt : first_doubt (world_at entries cert.version) cert ≡ None
+  pub valid : IsValid (world_at entries cert.version) cert
+  pub least : Optimal (world_at entries cert.version) cert
 
 -- what is found of two texts: the history is read and replayed to its end, then the proof is read, then
 -- its version is looked at, and at last the certificate is tried
@@ -90,12 +93,3 @@ IsFinding history proof (BadProof n) = HasBadProof history proof n
 IsFinding history proof (NoVersion version) = LacksVersion history proof version
 IsFinding history proof (Doubted doubt) = IsDoubted history proof doubt
 IsFinding history proof Accepted = IsAccepted history proof
-
--- what the certificate concludes is the least in the world after the first entries of that history, as
--- many as it says
-pub record ShowsLeast (history proof : List ℕ) : Type 0 where
-  pub entries : List Entry
-  pub cert : Certificate
-  pub texts : AreTexts history proof entries cert
-  pub reached : cert.version ≤ length entries
-  pub least : Optimal (world_at entries cert.version) cert

@@ -1,8 +1,14 @@
 -- What findings keep.
-use Rattle.std.specs.Prelude.{◌≡◌, ℕ, List}
+use Rattle.std.specs.Prelude.{◌≡◌, ◌≢◌, ℕ, List, All}
 use Rattle.mud_cert.specs.declared.finding.Finding.{Finding}
-use Rattle.mud_cert.specs.Finding.{IsFinding}
+use Rattle.mud_cert.specs.Finding.{without_returns, IsFinding}
 
 -- of two texts one thing at most is found
 abbrev pub FindsOne : Type 0
-FindsOne = (history proof : List ℕ) (finding other : Finding) → IsFinding history proof finding → IsFinding history proof other → finding ≡ other
+FindsOne =
+    (history proof : List ℕ) (finding other : Finding) → IsFinding history proof finding → IsFinding history proof other
+    → finding ≡ other
+
+-- bytes without a CR stay as they are
+abbrev pub DropsNothing : Type 0
+DropsNothing = (bytes : List ℕ) → All (λ b. b ≢ 13) bytes → without_returns bytes ≡ bytes

@@ -1,14 +1,28 @@
 -- Laws of the definitions: what they say together.
-use Rattle.std.specs.Prelude.{◌≡◌, ◌↔◌, None}
+use Rattle.std.specs.Prelude.{◌≡◌, ◌⊎◌, ◌↔◌, ℕ}
 use Rattle.mud_world.specs.State.{State}
 use Rattle.mud_world.specs.Sound.{IsSound}
+use Rattle.mud_cert.specs.declared.doubt.Doubt.{Doubt}
 use Rattle.mud_cert.specs.Certificate.{Certificate, IsCertificate}
-use Rattle.mud_cert.specs.Doubts.{first_doubt}
+use Rattle.mud_cert.specs.Doubts.{HoldsAt, IsFirstDoubt}
 use Rattle.mud_cert.specs.Valid.{IsValid, Optimal}
 
 -- a certificate is valid exactly where no doubt of it holds
 abbrev pub NoDoubtIsValid : Type 0
-NoDoubtIsValid = (w : State) → IsSound w → (c : Certificate) → IsCertificate c → (first_doubt w c ≡ None) ↔ IsValid w c
+NoDoubtIsValid =
+    (w : State) → IsSound w → (c : Certificate) → IsCertificate c
+    → ((at : ℕ) (d : Doubt) → HoldsAt w c at d → ⊥) ↔ IsValid w c
+
+-- a certificate is valid or has a first doubt
+abbrev pub ValidOrDoubted : Type 0
+ValidOrDoubted =
+    (w : State) → IsSound w → (c : Certificate) → IsCertificate c → IsValid w c ⊎ ((d : Doubt) × IsFirstDoubt w c d)
+
+-- a certificate has one first doubt at most
+abbrev pub OneFirstDoubt : Type 0
+OneFirstDoubt =
+    (w : State) → IsSound w → (c : Certificate) → IsCertificate c
+    → (d e : Doubt) → IsFirstDoubt w c d → IsFirstDoubt w c e → d ≡ e
 
 -- what a valid certificate concludes is optimal
 abbrev pub ValidIsOptimal : Type 0

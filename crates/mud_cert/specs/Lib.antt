@@ -2,8 +2,9 @@ pub mod Certificate
 pub mod Lookup
 pub mod Ways
 pub mod Agreement
-pub mod Doubts
 pub mod Valid
+pub mod Doubts
+pub mod Tests
 pub mod Laws
 pub mod Text
 pub mod Faults

@@ -1,5 +1,6 @@
--- What each reader of a line gives.
-use Rattle.std.specs.Prelude.{ℕ, zero, suc, ◌+◌, ◌-◌, ◌*◌, ◌==◌, nat_lt, nat_le, Bool, true, ◌&&◌, if◌then◌else◌, List, [], ◌∷◌, length, Option, None, Some, codes}
+-- What each reader of a line gives. Cited by private clauses alone: what a text is, Text says.
+use Rattle.std.specs.Prelude.{ℕ, zero, suc, ◌+◌, ◌-◌, ◌*◌, ◌==◌, nat_lt, nat_le, Bool, true, ◌&&◌, if◌then◌else◌}
+use Rattle.std.specs.Prelude.{List, [], ◌∷◌, length, Option, None, Some, codes}
 use Rattle.std.specs.Str.{bytes_eq}
 use Rattle.mud_roads.specs.declared.label.Label.{Label}
 use Rattle.mud_cert.specs.declared.cert.Form.{Form}
@@ -65,7 +66,9 @@ pieces_at piece_at (suc count) (b ∷ bs) = do
 
 -- the form, of the first line
 unfoldable pub head_at : List ℕ → Option Form
-head_at line = if bytes_eq line (codes "mud proof 1") then Some One else if bytes_eq line (codes "mud proof 2") then Some Two else None
+head_at line =
+    if bytes_eq line (codes "mud proof 1") then Some One
+    else if bytes_eq line (codes "mud proof 2") then Some Two else None
 
 -- the version, of the second line
 unfoldable pub version_at : List ℕ → Option ℕ
@@ -145,7 +148,9 @@ cost_at bytes = do
 
 -- the cost of a route to a room, or that there is none
 unfoldable pub way_at : ℕ → List ℕ → Option Conclusion
-way_at to bytes = if bytes_eq bytes (codes " no way") then Some (Route to None) else cost_at bytes >>= λ cost. Some (Route to (Some cost))
+way_at to bytes =
+    if bytes_eq bytes (codes " no way") then Some (Route to None)
+    else cost_at bytes >>= λ cost. Some (Route to (Some cost))
 
 -- where a route leads, and at which cost
 unfoldable pub route_at : List ℕ → Option Conclusion

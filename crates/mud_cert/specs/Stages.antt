@@ -1,5 +1,6 @@
--- What the lines so far say, and what one line more says.
-use Rattle.std.specs.Prelude.{ℕ, ◌<◌, ◌==◌, nat_lt, nat_le, Bool, ◌&&◌, if◌then◌else◌, List, [], ◌∷◌, ◌++◌, length, Option, None, Some, codes}
+-- What the lines so far say, and what one line more says. Cited by private clauses alone.
+use Rattle.std.specs.Prelude.{ℕ, ◌<◌, ◌==◌, nat_lt, nat_le, Bool, ◌&&◌, if◌then◌else◌}
+use Rattle.std.specs.Prelude.{List, [], ◌∷◌, ◌++◌, length, Option, None, Some, codes}
 use Rattle.std.specs.Str.{bytes_eq}
 use Rattle.mud_cert.specs.declared.cert.Conclusion.{Conclusion}
 use Rattle.mud_cert.specs.declared.cert.Conclusion.TheVariants.{Route, Meet}
@@ -20,7 +21,8 @@ lines_of Nothing = []
 lines_of (Headed form) = head_line form ∷ []
 lines_of (Open p) = opening_lines p.form p.version p.members
 lines_of (Placed p player from) = opening_lines p.form p.version p.members ++ member_line player from ∷ []
-lines_of (Labelled p m) = opening_lines p.form p.version p.members ++ member_line m.player m.from ∷ labels_line p.form m.labels ∷ []
+lines_of (Labelled p m) =
+    opening_lines p.form p.version p.members ++ member_line m.player m.from ∷ labels_line p.form m.labels ∷ []
 lines_of (Concluded c) = opening_lines c.form c.version c.members ++ conclusion_line c.conclusion ∷ []
 lines_of (Whole c) = cert_lines c
 
@@ -52,10 +54,14 @@ join p (Some m) line = if nat_lt (length p.members) 8 then Some (Placed p m.0 m.
 -- what one line more says; nothing where no certificate goes on so
 unfoldable pub next : Stage → List ℕ → Option Stage
 next Nothing line = head_at line >>= λ form. Some (Headed form)
-next (Headed form) line = version_at line >>= λ version. Some (Open (record { form = form; version = version; members = [] }))
+next (Headed form) line =
+    version_at line >>= λ version. Some (Open (record { form = form; version = version; members = [] }))
 next (Open p) line = join p (member_at line) line
-next (Placed p player from) line = labels_at p.form line >>= λ labels. Some (Labelled p (record { player = player; from = from; labels = labels; walk = None }))
-next (Labelled p m) line = walk_at line >>= λ walk. Some (Open (record p { members = p.members ++ record m { walk = walk } ∷ [] }))
+next (Placed p player from) line =
+    labels_at p.form line >>= λ labels.
+    Some (Labelled p (record { player = player; from = from; labels = labels; walk = None }))
+next (Labelled p m) line =
+    walk_at line >>= λ walk. Some (Open (record p { members = p.members ++ record m { walk = walk } ∷ [] }))
 next (Concluded c) line = if bytes_eq line (codes "end") then Some (Whole c) else None
 next (Whole c) line = None
 

@@ -1,5 +1,5 @@
 -- What the texts of certificates and their bad lines keep.
-use Rattle.std.specs.Prelude.{◌≡◌, ℕ, List, [], ◌∷◌, ◌++◌}
+use Rattle.std.specs.Prelude.{◌≡◌, ◌≢◌, ℕ, List, [], ◌∷◌, ◌++◌, All}
 use Rattle.mud_cert.specs.Certificate.{Certificate, IsCertificate}
 use Rattle.mud_cert.specs.Text.{cert_text}
 use Rattle.mud_cert.specs.Faults.{IsBadLine}
@@ -19,3 +19,7 @@ NoBadLine = (c : Certificate) (n : ℕ) → IsCertificate c → IsBadLine (cert_
 -- the text of a certificate ends with LF
 abbrev pub EndsWithLf : Type 0
 EndsWithLf = (c : Certificate) → (front : List ℕ) × (cert_text c ≡ front ++ 10 ∷ [])
+
+-- the text of a certificate has no CR
+abbrev pub HasNoReturn : Type 0
+HasNoReturn = (c : Certificate) → IsCertificate c → All (λ b. b ≢ 13) (cert_text c)

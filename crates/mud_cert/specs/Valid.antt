@@ -3,7 +3,7 @@ use Rattle.std.specs.Prelude.{◌≡◌, ◌≢◌, ℕ, ◌<◌, ◌≤◌, ◌
 use Rattle.mud_roads.specs.declared.label.Label.{Label}
 use Rattle.mud_roads.specs.declared.label.Step.{Step}
 use Rattle.mud_roads.specs.Walks.{Walk, total, IsLeast, NoWalk, Goer, IsMeeting, NoMeeting}
-use Rattle.mud_roads.specs.Labels.{AreValid}
+use Rattle.mud_roads.specs.Labels.{Reaches, AreValid}
 use Rattle.mud_roads.specs.Open.{roads_of}
 use Rattle.mud_world.specs.State.{State, is_player, is_room, place_of}
 use Rattle.mud_cert.specs.declared.cert.Form.{Form}
@@ -51,13 +51,32 @@ pub record IsValid (w : State) (c : Certificate) : Type 0 where
 abbrev pub goer_of : State → Account → Goer
 goer_of w m = (roads_of w m.player, m.from)
 
--- the conclusion says what is least: the cost to the room, that no walk leads there, where the party meets, or that it can't
+-- the walk that is stated leads the member to the room and costs this; the room has the walk's label, and no walk there has
+-- a lesser one
+pub record StatesLeast (w : State) (hop to cost : ℕ) (m : Account) : Type 0 where
+  pub steps : List Step
+  pub stated : m.walk ≡ Some (map (λ (s : Step). s.exit) steps)
+  pub walk : Walk (roads_of w m.player) m.from steps to
+  pub costs : (total hop steps).cost ≡ cost
+  pub label : label_at m to ≡ Some (total hop steps)
+  pub least : IsLeast hop (roads_of w m.player) m.from to (total hop steps)
+
+-- the conclusion says what is least, and so are the walks that are stated: to the room, or none leads there; to where the
+-- party meets, or it can't
 abbrev pub IsBest : State → ℕ → List Account → Conclusion → Type 0
-IsBest w hop ms (Route to (Some cost)) = All (λ m. (l : Label) × IsLeast hop (roads_of w m.player) m.from to l × (l.cost ≡ cost)) ms
+IsBest w hop ms (Route to (Some cost)) = All (StatesLeast w hop to cost) ms
 IsBest w hop ms (Route to None) = All (λ m. NoWalk (roads_of w m.player) m.from to) ms
-IsBest w hop ms (Meet (Some a)) = IsMeeting hop (map (goer_of w) ms) a.room a.cost
+IsBest w hop ms (Meet (Some a)) =
+    IsMeeting hop (map (goer_of w) ms) a.room a.cost
+    × All (λ m. (c : ℕ) × (c ≤ a.cost) × StatesLeast w hop a.room c m) ms
 IsBest w hop ms (Meet None) = NoMeeting hop (map (goer_of w) ms)
 
--- the certificate's conclusion says what is least
-abbrev pub Optimal : State → Certificate → Type 0
-Optimal w c = IsBest w (hop_of c.form) c.members c.conclusion
+-- where a walk of the member leads there is a label, and it is at most the walk's
+abbrev pub BoundsWalks : State → ℕ → Account → Type 0
+BoundsWalks w hop m =
+    (to : ℕ) (ss : List Step) → Walk (roads_of w m.player) m.from ss to → Reaches (label_at m) to (total hop ss)
+
+-- the certificate's conclusion and its walks are the least, and no label is above the least one
+pub record Optimal (w : State) (c : Certificate) : Type 0 where
+  pub best : IsBest w (hop_of c.form) c.members c.conclusion
+  pub labels : All (BoundsWalks w (hop_of c.form)) c.members

@@ -50,9 +50,19 @@ impl Model for Member {
 
     ghost Value = { Account };
 
-    ghost view = { λ m. record { player = m.player; from = m.from; labels = m.labels.items; walk = option_map (λ w. w.items) m.walk } };
+    ghost view = { λ m. record {
+      player = m.player;
+      from = m.from;
+      labels = m.labels.items;
+      walk = option_map (λ w. w.items) m.walk;
+    } };
 
-    ghost invariant = { λ m. IsAccount (record { player = m.player; from = m.from; labels = m.labels.items; walk = option_map (λ w. w.items) m.walk }) };
+    ghost invariant = { λ m. IsAccount (record {
+      player = m.player;
+      from = m.from;
+      labels = m.labels.items;
+      walk = option_map (λ w. w.items) m.walk;
+    }) };
 }
 
 /// A certificate of a route or a meeting in the world after `version` changes of a history (this
@@ -71,17 +81,37 @@ impl Model for Cert {
 
     ghost Value = { Certificate };
 
-    ghost view = { λ c. record { version = c.version; form = c.form; members = c.members.items; conclusion = c.conclusion } };
+    ghost view = { λ c. record {
+      version = c.version;
+      form = c.form;
+      members = c.members.items;
+      conclusion = c.conclusion;
+    } };
 
-    ghost invariant = { λ c. IsCertificate (record { version = c.version; form = c.form; members = c.members.items; conclusion = c.conclusion }) };
+    ghost invariant = { λ c. IsCertificate (record {
+      version = c.version;
+      form = c.form;
+      members = c.members.items;
+      conclusion = c.conclusion;
+    }) };
 }
 
 impl Member {
     /// The part of one member: the player, his place, the labels of rooms by rising number, and
     /// his walk, exit by exit.
     pub fn new(player: u32, from: u32, labels: Vec<(u32, Label)>, walk: Option<Vec<u32>>) -> Member
-        requires { IsAccount (record { player = player; from = from; labels = labels.items; walk = option_map (λ w. w.items) walk }) }
-        ensures { result ≡ record { player = player; from = from; labels = labels.items; walk = option_map (λ w. w.items) walk } }
+        requires { IsAccount (record {
+          player = player;
+          from = from;
+          labels = labels.items;
+          walk = option_map (λ w. w.items) walk;
+        }) }
+        ensures { result ≡ record {
+          player = player;
+          from = from;
+          labels = labels.items;
+          walk = option_map (λ w. w.items) walk;
+        } }
     {
         Member {
             player,
@@ -126,7 +156,12 @@ impl Member {
 impl Cert {
     /// A certificate of the world after so many changes.
     pub fn new(version: u32, form: Form, members: Vec<Member>, conclusion: Conclusion) -> Cert
-        requires { IsCertificate (record { version = version; form = form; members = members.items; conclusion = conclusion }) }
+        requires { IsCertificate (record {
+          version = version;
+          form = form;
+          members = members.items;
+          conclusion = conclusion;
+        }) }
         ensures { result ≡ record { version = version; form = form; members = members.items; conclusion = conclusion } }
     {
         Cert {

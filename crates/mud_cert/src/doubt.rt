@@ -6,7 +6,7 @@ use thiserror::Error;
 /// Why a certificate is not accepted (this project's profile). The doubts of a member are tried in
 /// this order, member after member, and `Conclusion` last; the first that holds is given. Numbers
 /// of players and exits are those of the objects.
-#[derive(Clone, Copy, Debug, PartialEq, Eq, Error)]
+#[derive(Clone, Copy, Debug, Error)]
 pub enum Doubt {
     /// Memory ran out; nothing is said of the certificate.
     #[error("out of memory")]

@@ -2,23 +2,23 @@
 
 ghost use Rattle.std.specs.Prelude.{◌≡◌, ◌≢◌, nat_eq, find, [], None, Some, option_map, IfOk, IfErr, IsOk};
 ghost use Rattle.std.specs.List.{list_any, list_all};
-ghost use Rattle.mud_roads.specs.Open.{IsTraveller};
 ghost use Rattle.mud_roads.specs.Walks.{total};
-ghost use Rattle.mud_world.specs.State.{is_room};
+ghost use Rattle.mud_world.specs.State.{IsHolding, is_room};
 ghost use Rattle.mud_world.specs.Sound.{IsSound};
 ghost use Rattle.mud_cert.specs.Certificate.{IsCertificate};
 ghost use Rattle.mud_cert.specs.declared.doubt.Doubt.TheVariants.{OutOfMemory, Arc};
-ghost use Rattle.mud_cert.specs.Lookup.{is_label};
-ghost use Rattle.mud_cert.specs.Doubts.{◌or◌, numbers, is_new, stands, is_started, breaks, walk_doubt, given_doubt, member_doubt, members_doubt, first_doubt};
+ghost use Rattle.mud_cert.specs.Tests.{is_label, ◌or◌, numbers, is_new, stands, is_started, breaks};
+ghost use Rattle.mud_cert.specs.Tests.{walk_doubt, given_doubt, member_doubt, members_doubt, first_doubt};
 ghost use Rattle.mud_cert.specs.Valid.{IsValid, Optimal};
+ghost use Rattle.mud_cert.specs.Doubts.{IsFirstDoubt};
 
 use crate::agree::concludes;
 use crate::look::{is_after, label_at};
-use crate::steps::{broken, hop_of, locked, step_of, walked};
+use crate::steps::{broken, hop_of, locked, passes, step_of, walked};
 use crate::{Cert, Doubt, Form, Member};
-use mud_roads::{Label, Traveller};
-use mud_world::World;
-use std::alloc::{AllocError, Global};
+use mud_roads::Label;
+use mud_world::{Holding, World};
+use std::alloc::AllocError;
 
 // Whether an earlier member is this player.
 fn is_among(earlier: &[Member], player: u32) -> bool
@@ -58,14 +58,13 @@ fn is_started(world: &World, member: &Member) -> bool
     }
 }
 
-// Whether the exit is open to the traveller, leaves a labelled room, and leads to one that has no
+// Whether the exit is open to the member, leaves a labelled room, and leads to one that has no
 // label or one that is too great.
-fn breaks(world: &World, form: Form, traveller: &Traveller, member: &Member, exit: u32) -> bool
-    requires traveller { IsTraveller world.now traveller.now }
-    requires his { traveller.now.player ≡ member.now.player }
+fn breaks(world: &World, form: Form, holding: &Holding, member: &Member, exit: u32) -> bool
+    requires { IsHolding world.now member.now.player holding.now }
     ensures { result ≡ breaks world.now form member.now exit }
 {
-    if !traveller.passes(world, exit) {
+    if !passes(world, holding, exit) {
         return false;
     }
     let Some(passage) = world.passage(exit) else {
@@ -83,13 +82,12 @@ fn breaks(world: &World, form: Form, traveller: &Traveller, member: &Member, exi
 
 // The lowest exit that breaks the labels. Each number of the world is tried, so no label is
 // looked at but those of the ends of exits.
-fn first_breach(world: &World, form: Form, traveller: &Traveller, member: &Member) -> Option<u32>
-    requires traveller { IsTraveller world.now traveller.now }
-    requires his { traveller.now.player ≡ member.now.player }
+fn first_breach(world: &World, form: Form, holding: &Holding, member: &Member) -> Option<u32>
+    requires { IsHolding world.now member.now.player holding.now }
     ensures { result ≡ find (breaks world.now form member.now) (numbers world.now) }
 {
     for number in 0..world.next_number() {
-        if breaks(world, form, traveller, member, number) {
+        if breaks(world, form, holding, member, number) {
             return Some(number);
         }
     }
@@ -110,19 +108,18 @@ fn is_labelled(label: Option<Label>, cost: u128, exits: usize) -> bool
 fn walk_doubt(
     world: &World,
     form: Form,
-    traveller: &Traveller,
+    holding: &Holding,
     member: &Member,
     walk: &[u32],
 ) -> Option<Doubt>
-    requires traveller { IsTraveller world.now traveller.now }
-    requires his { traveller.now.player ≡ member.now.player }
+    requires { IsHolding world.now member.now.player holding.now }
     ensures { result ≡ walk_doubt world.now form member.now walk.now }
 {
     let player = member.player();
     if let Some(at) = broken(world, member.from(), walk) {
         return Some(Doubt::WalkBroken { player, at });
     }
-    if let Some(at) = locked(world, traveller, walk) {
+    if let Some(at) = locked(world, holding, walk) {
         return Some(Doubt::WalkLocked { player, at });
     }
     let journey = walked(world, form, member.from(), walk);
@@ -134,20 +131,31 @@ fn walk_doubt(
 }
 
 // The first doubt of the member's walk, if one is given.
-fn given_doubt(world: &World, form: Form, traveller: &Traveller, member: &Member) -> Option<Doubt>
-    requires traveller { IsTraveller world.now traveller.now }
-    requires his { traveller.now.player ≡ member.now.player }
+fn given_doubt(world: &World, form: Form, holding: &Holding, member: &Member) -> Option<Doubt>
+    requires { IsHolding world.now member.now.player holding.now }
     ensures { result ≡ given_doubt world.now form member.now member.now.walk }
 {
     match member.walk() {
-        Some(walk) => walk_doubt(world, form, traveller, member, walk),
+        Some(walk) => walk_doubt(world, form, holding, member, walk),
         None => None,
     }
 }
 
-// The first doubt of a member who comes after these. Memory is wanted for what is open to him.
+// The first doubt of the member's labels and walk.
+fn labels_doubt(world: &World, form: Form, holding: &Holding, member: &Member) -> Option<Doubt>
+    requires { IsHolding world.now member.now.player holding.now }
+    ensures { result ≡ option_map (λ x. Arc member.now.player x) (find (breaks world.now form member.now) (numbers world.now))
+        or given_doubt world.now form member.now member.now.walk }
+{
+    let player = member.player();
+    if let Some(exit) = first_breach(world, form, holding, member) {
+        return Some(Doubt::Arc { player, exit });
+    }
+    given_doubt(world, form, holding, member)
+}
+
+// The first doubt of a member who comes after these. Memory is wanted for what he carries.
 fn member_doubt(
-    alloc: Global,
     world: &World,
     form: Form,
     earlier: &[Member],
@@ -165,24 +173,16 @@ fn member_doubt(
     if !is_started(world, member) {
         return Ok(Some(Doubt::StartLabel(player)));
     }
-    let traveller = Traveller::of(alloc, world, player)?;
-    if let Some(exit) = first_breach(world, form, &traveller, member) {
-        return Ok(Some(Doubt::Arc { player, exit }));
-    }
-    Ok(given_doubt(world, form, &traveller, member))
+    let holding = world.carried(player)?;
+    Ok(labels_doubt(world, form, &holding, member))
 }
 
 // The first doubt of the members.
-fn members_doubt(
-    alloc: Global,
-    world: &World,
-    form: Form,
-    members: &[Member],
-) -> Result<Option<Doubt>, AllocError>
+fn members_doubt(world: &World, form: Form, members: &[Member]) -> Result<Option<Doubt>, AllocError>
     ensures { IfOk result (λ doubt. doubt ≡ members_doubt world.now form [] members.now) }
 {
     for (i, member) in members.iter().enumerate() {
-        if let Some(doubt) = member_doubt(alloc, world, form, &members[..i], member)? {
+        if let Some(doubt) = member_doubt(world, form, &members[..i], member)? {
             return Ok(Some(doubt));
         }
     }
@@ -190,10 +190,10 @@ fn members_doubt(
 }
 
 // The first doubt of the certificate.
-fn first_doubt(alloc: Global, world: &World, cert: &Cert) -> Result<Option<Doubt>, AllocError>
+fn first_doubt(world: &World, cert: &Cert) -> Result<Option<Doubt>, AllocError>
     ensures { IfOk result (λ doubt. doubt ≡ first_doubt world.now cert.now) }
 {
-    if let Some(doubt) = members_doubt(alloc, world, cert.form(), cert.members())? {
+    if let Some(doubt) = members_doubt(world, cert.form(), cert.members())? {
         return Ok(Some(doubt));
     }
     if concludes(world, cert.members(), cert.conclusion()) {
@@ -214,18 +214,19 @@ fn are_kept(world: &World, cert: &Cert)
 
 /// Tests the certificate in this world: member by member, then the conclusion. The first doubt is
 /// the answer ([`Doubt`] tells their order). A certificate without a doubt is valid, and what it
-/// concludes is the least: no walk costs less, none leads where it says that none does, and no
+/// concludes is the least: its walks are walks of its members to the room, no walk costs less or,
+/// where exits count, as much with fewer of them; none leads where it says that none does, and no
 /// room suits the party better. Nothing is believed of who made it. At `OutOfMemory` nothing is
-/// said. The time is that of a look-up for each exit of the world and of the walks, and for each
-/// label, member by member.
-pub fn check(alloc: Global, world: &World, cert: &Cert) -> Result<(), Doubt>
-    ensures accepts { IsOk result → first_doubt world.now cert.now ≡ None }
-    ensures refuses { IfErr result (λ doubt. doubt ≢ OutOfMemory → first_doubt world.now cert.now ≡ Some doubt) }
+/// said; memory is wanted for what each member carries, and for nothing else. The time is that of
+/// a look-up for each exit of the world and of the walks, with the keys that are asked, and for
+/// each label, member by member.
+pub fn check(world: &World, cert: &Cert) -> Result<(), Doubt>
     ensures valid { IsOk result → IsValid world.now cert.now }
+    ensures refuses { IfErr result (λ doubt. doubt ≢ OutOfMemory → IsFirstDoubt world.now cert.now doubt) }
     ensures optimal { IsOk result → Optimal world.now cert.now }
 {
     are_kept(world, cert);
-    match first_doubt(alloc, world, cert)? {
+    match first_doubt(world, cert)? {
         None => Ok(()),
         Some(doubt) => Err(doubt),
     }

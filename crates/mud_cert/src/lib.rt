@@ -11,7 +11,7 @@
 //! the guide. docs/CERTIFICATES.md tells the rules in plain words.
 //!
 //! ```text
-//! match check(alloc, &world, &cert) {
+//! match check(&world, &cert) {
 //!     Ok(()) => {} // what it concludes is the least
 //!     Err(doubt) => {} // the first doubt, or want of memory
 //! }

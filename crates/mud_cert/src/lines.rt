@@ -2,7 +2,9 @@
 
 ghost use Rattle.std.specs.Prelude.{◌≡◌, ◌++◌, ◌∷◌, IfOk, drop, length, option_map};
 ghost use Rattle.std.specs.Str.{bytes_eq};
-ghost use Rattle.mud_cert.specs.Reading.{after, whole, entry_at, exit_at, exits_at, exits_of, pieces_at, is_above, rises, head_at, version_at, member_at, labels_at, walk_at, cost_at, way_at, route_at, meeting_at, conclusion_at};
+ghost use Rattle.mud_cert.specs.Reading.{after, whole, entry_at, exit_at, exits_at, exits_of, pieces_at};
+ghost use Rattle.mud_cert.specs.Reading.{is_above, rises, head_at, version_at, member_at, labels_at, walk_at};
+ghost use Rattle.mud_cert.specs.Reading.{cost_at, way_at, route_at, meeting_at, conclusion_at};
 
 use crate::cert::{Conclusion, Form, Meeting};
 use crate::numbers::{number_at, object_at};

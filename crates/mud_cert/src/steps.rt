@@ -1,17 +1,19 @@
 //! Walks that are given as numbers of exits.
 
-ghost use Rattle.std.specs.Prelude.{◌≡◌};
-ghost use Rattle.mud_roads.specs.Open.{IsTraveller};
+ghost use Rattle.std.specs.Prelude.{◌≡◌, ℕ};
+ghost use Rattle.mud_roads.specs.Open.{passable};
 ghost use Rattle.mud_roads.specs.Walks.{total};
-ghost use Rattle.mud_cert.specs.Ways.{hop_of, leaves, step_of, steps_of, end_of, broken, locked, arrival_of};
+ghost use Rattle.mud_world.specs.State.{IsHolding};
+ghost use Rattle.mud_cert.specs.Ways.{hop_of, step_of, steps_of, end_of, arrival_of};
+ghost use Rattle.mud_cert.specs.Tests.{leaves, broken, locked};
 
 use crate::{Form, Member};
-use mud_roads::{Step, Traveller};
-use mud_world::World;
+use mud_roads::Step;
+use mud_world::{Holding, World};
 
 /// Where a walk ends, what it costs and how many exits count. The sums are wider than the numbers
 /// of a label, so that no walk that fits memory makes them wrap.
-#[derive(Clone, Copy, Debug, PartialEq, Eq, Drop)]
+#[derive(Clone, Copy, Drop)]
 pub(crate) struct Journey {
     pub(crate) end: u32,
     pub(crate) cost: u128,
@@ -70,13 +72,25 @@ pub(crate) fn broken(world: &World, from: u32, walk: &[u32]) -> Option<usize>
     None
 }
 
-// The place, counted from 1, of the first exit that isn't open to the traveller.
-pub(crate) fn locked(world: &World, traveller: &Traveller, walk: &[u32]) -> Option<usize>
-    requires { IsTraveller world.now traveller.now }
-    ensures { result ≡ locked world.now traveller.now.player 1 walk.now }
+// Whether the number is an exit's that is open to the one whose holding it is: the exit and the
+// room that it leads to are unlocked for him.
+pub(crate) fn passes(world: &World, holding: &Holding, exit: u32) -> bool
+    ensures { (p : ℕ) → IsHolding world.now p holding.now → result ≡ passable world.now p exit }
+{
+    match world.passage(exit) {
+        Some(passage) => {
+            world.unlocked(holding, exit) && world.unlocked(holding, passage.destination)
+        }
+        None => false,
+    }
+}
+
+// The place, counted from 1, of the first exit that isn't open to the one whose holding it is.
+pub(crate) fn locked(world: &World, holding: &Holding, walk: &[u32]) -> Option<usize>
+    ensures { (p : ℕ) → IsHolding world.now p holding.now → result ≡ locked world.now p 1 walk.now }
 {
     for (i, exit) in walk.iter().enumerate() {
-        if !traveller.passes(world, *exit) {
+        if !passes(world, holding, *exit) {
             return Some(i + 1);
         }
     }

@@ -1,7 +1,7 @@
 //! What is known of the texts of certificates alone: each contract is a law, and its function does
 //! nothing.
 
-ghost use Rattle.mud_cert.specs.TextLaws.{OneCertificate, OneBadLine, NoBadLine, EndsWithLf};
+ghost use Rattle.mud_cert.specs.TextLaws.{OneCertificate, OneBadLine, NoBadLine, EndsWithLf, HasNoReturn};
 
 /// A text is that of one certificate alone.
 pub fn one_certificate()
@@ -21,4 +21,9 @@ pub fn no_bad_line()
 /// The text of a certificate ends with LF, and so it is not empty.
 pub fn ends_with_lf()
     ensures { EndsWithLf }
+{}
+
+/// The text of a certificate has no CR.
+pub fn no_return()
+    ensures { HasNoReturn }
 {}

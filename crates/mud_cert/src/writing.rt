@@ -2,7 +2,9 @@
 
 ghost use Rattle.std.specs.Prelude.{◌≡◌, ◌++◌, ◌∷◌, [], codes, decimal, OnOk, OnErr, option_map, string_bytes};
 ghost use Rattle.std.specs.List.{flat_map};
-ghost use Rattle.mud_cert.specs.Text.{ended, text_of, head_line, version_line, entry_text, labels_line, exit_text, walk_line, member_line, member_lines, conclusion_line, opening_lines, cert_lines, cert_text};
+ghost use Rattle.mud_cert.specs.Text.{ended, text_of, head_line, version_line, entry_text, labels_line};
+ghost use Rattle.mud_cert.specs.Text.{exit_text, walk_line, member_line, member_lines, conclusion_line};
+ghost use Rattle.mud_cert.specs.Text.{opening_lines, cert_lines, cert_text};
 
 use crate::cert::{Cert, Conclusion, Form, Member};
 use mud_roads::Label;
@@ -41,7 +43,8 @@ fn push_exits(out: &mut String, exits: &[u32]) -> Result<(), AllocError>
 
 /// Appends the line of a walk.
 fn push_walk(out: &mut String, walk: &Option<Vec<u32>>) -> Result<(), AllocError>
-    ensures { OnOk result (string_bytes out.new ≡ string_bytes out.old ++ ended (walk_line (option_map (λ w. w.items) walk.now))) }
+    ensures { OnOk result (string_bytes out.new
+        ≡ string_bytes out.old ++ ended (walk_line (option_map (λ w. w.items) walk.now))) }
 {
     match walk {
         None => out.push_str("walk none\n"),
@@ -70,7 +73,8 @@ fn push_member(out: &mut String, form: Form, member: &Member) -> Result<(), Allo
 
 /// Appends the lines of the members.
 fn push_members(out: &mut String, form: Form, members: &[Member]) -> Result<(), AllocError>
-    ensures { OnOk result (string_bytes out.new ≡ string_bytes out.old ++ text_of (flat_map (member_lines form) members.now)) }
+    ensures { OnOk result (string_bytes out.new
+        ≡ string_bytes out.old ++ text_of (flat_map (member_lines form) members.now)) }
 {
     for member in members {
         push_member(out, form, member)?;

@@ -1,13 +1,12 @@
 -- How standard input is split, line by line.
-use Rattle.std.proofs.Common.{◌≡◌, ℕ, ◌+◌, ◌-◌, Bool, true, false, List, [], ◌∷◌, ◌++◌, length, take, All, refl, sym, ◌∙◌, ap, subst, arith, inl, inr, append_assoc}
+use Rattle.std.proofs.Common.{◌≡◌, ℕ, ◌-◌, true, false, List, [], ◌∷◌, ◌++◌, length, take, All, refl, sym, ◌∙◌, ap, arith, inl, inr, append_assoc}
 use Rattle.std.proofs.Math.Seq.{take-append_seam}
 use Rattle.std.proofs.lemmas.List.{append-nil, length-append}
 use Rattle.std.proofs.lemmas.List.Elements.{All-nil, All-push}
 use Rattle.std.proofs.lemmas.Grind.{flat_map-append}
-use Rattle.std.specs.List.{flat_map}
 use Rattle.mud_cert.specs.Text.{ended, text_of}
 use Rattle.mud_cert.specs.Faults.{IsLine}
-use Rattle.mud_check.specs.Input.{begins_end, IsInner, EndsAtLine, EndsWithBytes, IsSplit}
+use Rattle.mud_check.specs.Input.{begins_end, IsInner, IsSplit}
 
 -- the bytes are lines that begin otherwise, and this rest
 pub record IsPassed (bytes rest : List ℕ) : Type 0 where

@@ -1,21 +1,19 @@
 -- From what is found of a certificate to what is found of two texts.
-use Rattle.std.proofs.Common.{◌≡◌, ◌≢◌, ℕ, zero, suc, ◌≤◌, List, [], ◌∷◌, length, take, map, Option, None, Some, refl, sym, ◌∙◌, ap, subst, arith, inl, inr}
+use Rattle.std.proofs.Common.{◌≡◌, ◌≢◌, ℕ, zero, suc, List, [], ◌∷◌, take, refl, sym, subst, inr}
 use Rattle.mud_world.specs.State.{State}
 use Rattle.mud_world.specs.Opening.{opening_state}
-use Rattle.mud_world.specs.Legal.{refusal, after}
-use Rattle.mud_world.specs.declared.change.Change.{Change}
+use Rattle.mud_world.specs.Legal.{after}
 use Rattle.mud_chron.specs.declared.fault.ChronFault.{ChronFault}
 use Rattle.mud_chron.specs.declared.fault.ChronFault.TheVariants.{OutOfMemory, NotHistory, BadLine, BadChange, TooLong, NoEnd}
 use Rattle.mud_chron.specs.Entry.{Accepted as Entry}
 use Rattle.mud_chron.specs.History.{SpellsHistory}
-use Rattle.mud_chron.specs.Replay.{changes_of, AreLegal, AreLegalFrom, IsFirstIllegal, HasIllegal}
+use Rattle.mud_chron.specs.Replay.{changes_of, AreLegal, AreLegalFrom, HasIllegal}
 use Rattle.mud_cert.specs.declared.finding.Finding.{Finding}
 use Rattle.mud_cert.specs.declared.finding.Finding.TheVariants as findings
 use Rattle.mud_cert.specs.declared.finding.Status.TheVariants.{Accepted}
-use Rattle.mud_cert.specs.Certificate.{Certificate, IsCertificate}
-use Rattle.mud_cert.specs.Text.{cert_text}
+use Rattle.mud_cert.specs.Certificate.{Certificate}
 use Rattle.mud_cert.specs.Verdict.{status_of}
-use Rattle.mud_cert.specs.Finding.{without_returns, IsHistory, IsUnfit, AreTexts, IsFinding, ShowsLeast}
+use Rattle.mud_cert.specs.Finding.{IsUnfit, AreTexts, IsFinding, IsAccepted}
 use Rattle.mud_cert.proofs.Legality.{none-illegal}
 use Rattle.mud_check.specs.Tried.{IsTried}
 
@@ -51,16 +49,15 @@ no-fault entries n NoEnd legal has other = has
 -- what is found of the certificate is found of the texts
 pub found : (history proof : List ℕ) (entries : List Entry) (c : Certificate) (finding : Finding) → AreTexts history proof entries c → IsTried entries c finding → IsFinding history proof finding
 found history proof entries c (findings.NoVersion version) texts tried = record { entries = entries; cert = c; texts = texts; version_is = tried.0; above = tried.1 }
-found history proof entries c (findings.Doubted doubt) texts tried = record { entries = entries; cert = c; texts = texts; reached = tried.0; doubt_is = tried.1 }
-found history proof entries c findings.Accepted texts tried = record { entries = entries; cert = c; texts = texts; reached = tried.reached; no_doubt = tried.no_doubt }
+found history proof entries c (findings.Doubted doubt) texts tried = record { entries = entries; cert = c; texts = texts; reached = tried.0; first = tried.1 }
+found history proof entries c findings.Accepted texts tried = record { entries = entries; cert = c; texts = texts; reached = tried.reached; valid = tried.valid; least = tried.least }
 found history proof entries c (findings.BadHistory fault) texts tried = absurd tried
 found history proof entries c (findings.BadProof n) texts tried = absurd tried
 
--- what is accepted is the least
-pub least : (history proof : List ℕ) (entries : List Entry) (c : Certificate) (finding : Finding) → AreTexts history proof entries c → IsTried entries c finding → finding ≡ findings.Accepted → ShowsLeast history proof
+-- what is accepted is valid and the least
+pub least : (history proof : List ℕ) (entries : List Entry) (c : Certificate) (finding : Finding) → AreTexts history proof entries c → IsTried entries c finding → finding ≡ findings.Accepted → IsAccepted history proof
 least history proof entries c finding texts tried is =
-    let passed = subst (IsTried entries c) is tried in
-    record { entries = entries; cert = c; texts = texts; reached = passed.reached; least = passed.least }
+    subst (IsFinding history proof) is (found history proof entries c finding texts tried)
 
 -- the status tells an accepted certificate
 pub accepted : (finding : Finding) → status_of finding ≡ Accepted → finding ≡ findings.Accepted

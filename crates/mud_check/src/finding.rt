@@ -2,7 +2,7 @@
 
 ghost use Rattle.std.specs.Prelude.{◌≡◌, ◌≢◌, ◌≤◌, length, IfOk, IfErr};
 ghost use Rattle.mud_chron.specs.Replay.{changes_of, AreLegal};
-ghost use Rattle.mud_cert.specs.Finding.{world_at, IsHistory, IsUnfit, IsFinding, ShowsLeast};
+ghost use Rattle.mud_cert.specs.Finding.{world_at, IsHistory, IsUnfit, IsFinding, IsAccepted};
 ghost use Rattle.mud_check.specs.Tried.{IsTried};
 
 use crate::line_ends::without_returns;
@@ -49,7 +49,7 @@ fn tried(alloc: Global, entries: &[Entry], cert: &Cert) -> Result<Finding, Alloc
         return Ok(Finding::NoVersion(version));
     }
     let world = world_at(alloc, entries, version as usize)?;
-    match check(alloc, &world, cert) {
+    match check(&world, cert) {
         Ok(()) => Ok(Finding::Accepted),
         Err(Doubt::OutOfMemory) => Err(AllocError),
         Err(doubt) => Ok(Finding::Doubted(doubt)),
@@ -61,7 +61,7 @@ fn tried(alloc: Global, entries: &[Entry], cert: &Cert) -> Result<Finding, Alloc
 /// the world of its version. Only want of memory is an error.
 pub fn finding_of(alloc: Global, history: &[u8], proof: &[u8]) -> Result<Finding, AllocError>
     ensures finding { IfOk result (IsFinding history.now proof.now) }
-    ensures least { IfOk result (λ finding. finding ≡ Finding.Accepted → ShowsLeast history.now proof.now) }
+    ensures accepted { IfOk result (λ finding. finding ≡ Finding.Accepted → IsAccepted history.now proof.now) }
 {
     let history = without_returns(alloc, history)?;
     let proof = without_returns(alloc, proof)?;

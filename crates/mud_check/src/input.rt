@@ -1,21 +1,9 @@
 //! The two texts of standard input.
 
-ghost use Rattle.std.specs.Prelude.{◌≡◌, ◌++◌, ◌∷◌, codes, MatchOption};
-ghost use Rattle.mud_cert.specs.Faults.{IsLine};
+ghost use Rattle.std.specs.Prelude.{◌≡◌, codes};
 ghost use Rattle.mud_check.specs.Input.{begins_end, IsSplit};
 
-// The first line that is ended by LF, without it, and what stands behind it.
-fn cut_line(bytes: &[u8]) -> Option<(&[u8], &[u8])>
-    ensures { MatchOption result (IsLine bytes.now)
-        (λ p. IsLine p.0.now × (bytes.now ≡ p.0.now ++ 10 ∷ p.1.now)) }
-{
-    for (i, byte) in bytes.iter().enumerate() {
-        if *byte == b'\n' {
-            return Some((&bytes[..i], &bytes[i + 1..]));
-        }
-    }
-    None
-}
+use memchr::memchr;
 
 // Whether the line begins as the last line of a history does.
 fn begins_end(line: &[u8]) -> bool
@@ -31,7 +19,9 @@ pub fn split(bytes: &[u8]) -> (&[u8], &[u8])
     ensures { IsSplit bytes.now result.0.now result.1.now }
 {
     let mut rest = bytes;
-    while let Some((line, behind)) = cut_line(rest) {
+    while let Some(at) = memchr(b'\n', rest) {
+        let (line, ended) = rest.split_at(at);
+        let behind = &ended[1..];
         if begins_end(line) {
             let len = bytes.len() - behind.len();
             return (&bytes[..len], behind);

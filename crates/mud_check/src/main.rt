@@ -6,60 +6,59 @@
 //! lines.
 #![tactic(auto)]
 
-mod command_line;
 mod finding;
 mod input;
+mod judge;
 mod line_ends;
 mod outcome;
-mod sources;
+mod said;
+mod sink;
+mod source;
 
-use crate::command_line::sources_of;
+use crate::judge::{Unread, judge_files, judge_input};
 use crate::outcome::Outcome;
-use crate::sources::{Sources, Unread, judge_files, judge_input, said};
-use clap::error::ErrorKind;
-use std::alloc::Global;
+use crate::said::said;
+use crate::sink::Sink;
+use crate::source::Source;
+use mud_command::{CommandFault, Sources, show, sources_of, words_of};
 use std::io::{self, Write};
 use std::process::ExitCode;
 
 fn main(rt: HostRuntime) -> ExitCode {
-    let alloc = rt.alloc();
-    let words: Vec<String> = match words_of(&rt, alloc) {
-        Ok(words) => words,
-        Err(error) => {
-            if error.kind() == io::ErrorKind::OutOfMemory {
-                return ended(&rt, Err(Unread::OutOfMemory));
-            }
-            let _ = eprintln!(rt; "error: a word of the command line is not UTF-8");
-            return ExitCode::from(2);
-        }
-    };
-    match sources_of(alloc, words.as_slice()) {
-        Ok(Sources::Files { history, proof }) => ended(&rt, judge_files(&rt, history, proof)),
-        Ok(Sources::Input) => {
-            let mut reader = rt.reader();
-            ended(&rt, judge_input(alloc, &mut reader))
-        }
-        Err(error) => {
-            if error.kind() == ErrorKind::OutOfMemory {
-                return ended(&rt, Err(Unread::OutOfMemory));
-            }
-            let _ = eprint!(rt; "{error}");
-            ExitCode::from(2)
-        }
+    match words_of(&rt) {
+        Ok(words) => run(&rt, words.as_slice()),
+        Err(fault) => unasked(&rt, fault),
     }
 }
 
-// The words of the command line.
-fn words_of(rt: &HostRuntime, alloc: Global) -> io::Result<Vec<String>> {
-    let words = std::env::args(rt)?.collect(alloc)?;
-    Ok(words)
+// Does what the words ask for.
+fn run(rt: &HostRuntime, words: &[String]) -> ExitCode {
+    match sources_of(rt.alloc(), words) {
+        Ok(Sources::Files { history, proof }) => ended(rt, judge_files(rt, history, proof)),
+        Ok(Sources::Input) => {
+            let mut source = Source::new(rt.reader());
+            ended(rt, judge_input(rt.alloc(), &mut source))
+        }
+        Err(fault) => unasked(rt, fault),
+    }
+}
+
+// Says why the words ask for nothing, and answers the status.
+fn unasked(rt: &HostRuntime, fault: CommandFault) -> ExitCode {
+    match fault {
+        CommandFault::OutOfMemory => ended(rt, Err(Unread::OutOfMemory)),
+        CommandFault::Told(text) => ExitCode::from(show(rt, text.as_str())),
+    }
 }
 
 // Prints the line, and answers the status.
 fn ended(rt: &HostRuntime, judged: Result<Outcome, Unread<'_>>) -> ExitCode {
     let mut writer = io::writer(rt);
     ExitCode::from(match judged {
-        Ok(outcome) => said(&mut writer, outcome.text.as_str(), outcome.status.code()),
+        Ok(outcome) => {
+            let mut sink = Sink::new(writer);
+            said(&mut sink, outcome.text.as_str(), outcome.status.code())
+        }
         Err(unread) => {
             let _ = writeln!(&mut writer, "{unread}");
             2

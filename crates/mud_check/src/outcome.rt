@@ -2,7 +2,7 @@
 
 ghost use Rattle.std.specs.Prelude.{◌≡◌, ◌++◌, codes, decimal, IfOk, OnOk, string_bytes};
 ghost use Rattle.mud_cert.specs.declared.finding.Status.TheVariants.{Accepted};
-ghost use Rattle.mud_cert.specs.Finding.{ShowsLeast};
+ghost use Rattle.mud_cert.specs.Finding.{IsAccepted};
 ghost use Rattle.mud_cert.specs.Verdict.{object_text, doubt_text, fault_text, finding_text, status_of};
 ghost use Rattle.mud_check.specs.Verdict.{IsVerdict};
 
@@ -98,12 +98,12 @@ fn status_of(finding: &Finding) -> Status
 }
 
 /// The line and the status of a history's text and a proof's (this project's profile;
-/// docs/CHECKER.md). Where the status is `Accepted`, what the certificate concludes is the least in
-/// the world after the first entries of that history, as many as it says. Only want of memory is
-/// an error.
+/// docs/CHECKER.md). Where the status is `Accepted`, the certificate is valid in the world after
+/// the first entries of that history, as many as it says, and its walks and what it concludes are
+/// the least there. Only want of memory is an error.
 pub fn verdict(alloc: Global, history: &[u8], proof: &[u8]) -> Result<Outcome, AllocError>
     ensures finding { IfOk result (IsVerdict history.now proof.now) }
-    ensures least { IfOk result (λ outcome. outcome.status ≡ Accepted → ShowsLeast history.now proof.now) }
+    ensures accepted { IfOk result (λ outcome. outcome.status ≡ Accepted → IsAccepted history.now proof.now) }
 {
     let finding = finding_of(alloc, history, proof)?;
     let mut text = String::new(alloc);

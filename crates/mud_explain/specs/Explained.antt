@@ -1,15 +1,15 @@
 -- What is explained, and how.
-use Rattle.std.specs.Prelude.{◌≡◌, ℕ, List, Option, Some, None, codes}
+use Rattle.std.specs.Prelude.{◌≡◌, ℕ, List, ◌++◌, Option, Some, None, codes}
 use Rattle.std.specs.Io.KnownBytes.{Appends}
 use Rattle.std.specs.Str.{IsUtf8}
 use Rattle.mud_nvt.specs.Units.{units}
 use Rattle.mud_words.specs.Words.{words}
 use Rattle.mud_words.specs.Parse.{parsed}
 use Rattle.mud_key.specs.Names.{IsNamesText, IsNoNamesText}
-use Rattle.mud_explain.specs.declared.subject.Reading.{Reading}
-use Rattle.mud_explain.specs.declared.subject.Reading.TheVariants.{Words, Parse, Names, Key}
-use Rattle.mud_explain.specs.declared.subject.Subject.{Subject}
-use Rattle.mud_explain.specs.declared.subject.Subject.TheVariants.{Units, Lines}
+use Rattle.mud_command.specs.declared.subject.Reading.{Reading}
+use Rattle.mud_command.specs.declared.subject.Reading.TheVariants.{Words, Parse, Names, Key}
+use Rattle.mud_command.specs.declared.subject.Subject.{Subject}
+use Rattle.mud_command.specs.declared.subject.Subject.TheVariants.{Units, Lines}
 use Rattle.mud_explain.specs.Lines.{Answers}
 use Rattle.mud_explain.specs.Listed.{listed}
 use Rattle.mud_explain.specs.Units.{units_text}
@@ -42,3 +42,9 @@ Explains (Lines reading) input out = Answers (Says reading) input out
 abbrev pub Writes : Subject → Option (List ℕ) → Option (List ℕ) → Option (List ℕ) → Type 0
 Writes subject None held now_held = Unit {0}
 Writes subject (Some input) held now_held = (out : List ℕ) × (Explains subject input out × Appends held now_held out)
+
+-- where the reader tells its bytes, a front of what explains them was written
+abbrev pub WritesFront : Subject → Option (List ℕ) → Option (List ℕ) → Option (List ℕ) → Type 0
+WritesFront subject None held now_held = Unit {0}
+WritesFront subject (Some input) held now_held =
+    (front : List ℕ) × (rest : List ℕ) × (Explains subject input (front ++ rest) × Appends held now_held front)

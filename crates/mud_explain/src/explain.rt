@@ -1,13 +1,16 @@
 //! An input, explained.
 
-ghost use Rattle.std.specs.Prelude.{IfOk, OnOk, string_bytes};
-ghost use Rattle.mud_explain.specs.Explained.{Explains, Writes};
+ghost use Rattle.std.specs.Prelude.{◌≡◌, ◌↔◌, ◌⊎◌, Err, true, IfOk, IfSome, OnOk, string_bytes};
+ghost use Rattle.std.specs.Io.KnownBytes.{IsAtEnd, Keeps};
+ghost use Rattle.mud_explain.specs.Explained.{Explains, Writes, WritesFront};
 
 use crate::lines::explained_lines;
-use crate::subject::Subject;
+use crate::sink::Sink;
+use crate::source::Source;
 use crate::units::explained_units;
+use mud_command::Subject;
 use std::alloc::{AllocError, Global};
-use std::io::{self, Read, Write};
+use std::io::{ErrorKind, Read, Write};
 use thiserror::Error;
 
 /// Why an input was not explained.
@@ -24,6 +27,23 @@ pub enum ExplainFault {
     Write,
 }
 
+// All that the source has left.
+fn input_of<R: Read>(alloc: Global, source: &mut Source<R>) -> Result<Vec<u8>, ExplainFault>
+    ensures bytes { IfOk result (λ input. IfSome (R.remaining source.old.inner) (λ bytes. input.items ≡ bytes)) }
+    ensures end { OnOk result (IsAtEnd (R.remaining source.new.inner)) }
+    ensures read { result ≡ Err ExplainFault.Read ↔ source.new.has_failed ≡ true }
+    ensures not_write { ¬ (result ≡ Err ExplainFault.Write) }
+{
+    let mut input = Vec::new(alloc);
+    match source.read_to_end(&mut input) {
+        Ok(_) => Ok(input),
+        Err(error) => Err(match error.kind() {
+            ErrorKind::OutOfMemory => ExplainFault::OutOfMemory,
+            _ => ExplainFault::Read,
+        }),
+    }
+}
+
 // What is written for an input.
 fn explained(alloc: Global, subject: Subject, input: &[u8]) -> Result<String, AllocError>
     ensures { IfOk result (λ out. Explains subject input.now (string_bytes out)) }
@@ -34,30 +54,33 @@ fn explained(alloc: Global, subject: Subject, input: &[u8]) -> Result<String, Al
     }
 }
 
-/// Reads to the reader's end, and writes a line for each thing read. Nothing is written before all is read and
-/// explained; where a write fails, a writer doesn't tell how much it took.
-pub fn explain<R: Read, W: Write>(
+/// Reads to the source's end, and writes a line for each thing read. Nothing is written before all is read and
+/// explained; where a write fails, a front of the lines is written. `Read` is the answer where the source failed,
+/// and nowhere else; `Write` only where the sink failed.
+pub(crate) fn explain<R: Read, W: Write>(
     alloc: Global,
     subject: Subject,
-    reader: &mut R,
-    writer: &mut W,
+    source: &mut Source<R>,
+    sink: &mut Sink<W>,
 ) -> Result<(), ExplainFault>
-    ensures { OnOk result (Writes subject (R.remaining reader.old) (W.contents writer.old) (W.contents writer.new)) }
+    ensures ok { OnOk result
+        (Writes subject (R.remaining source.old.inner) (W.contents sink.old.inner) (W.contents sink.new.inner)) }
+    ensures end { OnOk result (IsAtEnd (R.remaining source.new.inner)) }
+    ensures read { result ≡ Err ExplainFault.Read ↔ source.new.has_failed ≡ true }
+    ensures write { result ≡ Err ExplainFault.Write → sink.new.has_failed ≡ true }
+    ensures front { result ≡ Err ExplainFault.Write →
+        WritesFront subject (R.remaining source.old.inner) (W.contents sink.old.inner) (W.contents sink.new.inner) }
+    ensures nothing { result ≡ Err ExplainFault.Read ⊎ result ≡ Err ExplainFault.OutOfMemory →
+        Keeps (W.contents sink.old.inner) (W.contents sink.new.inner) }
 {
-    let mut input = Vec::new(alloc);
-    if let Err(error) = reader.read_to_end(&mut input) {
-        return Err(if error.kind() == io::ErrorKind::OutOfMemory {
-            ExplainFault::OutOfMemory
-        } else {
-            ExplainFault::Read
-        });
-    }
+    let input = input_of(alloc, source)?;
     let out = match explained(alloc, subject, &input) {
         Ok(out) => out,
         Err(_) => return Err(ExplainFault::OutOfMemory),
     };
-    match writer.write_all(out.as_bytes()) {
-        Ok(()) => Ok(()),
-        Err(_) => Err(ExplainFault::Write),
+    if sink.write_all(out.as_bytes()) {
+        Ok(())
+    } else {
+        Err(ExplainFault::Write)
     }
 }

@@ -1,6 +1,6 @@
 //! What each line of an input is told to be.
 
-ghost use Rattle.std.specs.Prelude.{◌≡◌, ◌++◌, ◌∷◌, IfOk, OnOk, MatchOption, string_bytes};
+ghost use Rattle.std.specs.Prelude.{◌≡◌, ◌++◌, IfOk, OnOk, string_bytes};
 ghost use Rattle.mud_words.specs.Words.{words};
 ghost use Rattle.mud_words.specs.Parse.{parsed};
 ghost use Rattle.mud_words.specs.Line.{line_of};
@@ -8,12 +8,12 @@ ghost use Rattle.mud_explain.specs.Listed.{listed};
 ghost use Rattle.mud_explain.specs.Line.{preposition_text, line_text};
 ghost use Rattle.mud_explain.specs.Key.{SaysKey};
 ghost use Rattle.mud_explain.specs.Explained.{SaysNames, SaysText, Says};
-ghost use Rattle.mud_explain.specs.Lines.{IsLine, Answers, AnswersOne};
+ghost use Rattle.mud_explain.specs.Lines.{Answers, AnswersOne};
 
 use crate::grouped::push_grouped;
 use crate::listed::push_listed;
-use crate::subject::Reading;
 use memchr::memchr;
+use mud_command::Reading;
 use mud_key::{KeyFault, Names, NamesFault};
 use mud_words::{Parsed, Prep};
 use std::alloc::{AllocError, Global};
@@ -146,16 +146,6 @@ fn push_said(
     out.push('\n')
 }
 
-// The first line that LF ends, and what stands behind that LF.
-fn cut_line(bytes: &[u8]) -> Option<(&[u8], &[u8])>
-    ensures { MatchOption result (IsLine bytes.now) (λ p. IsLine p.0.now × (bytes.now ≡ p.0.now ++ 10 ∷ p.1.now)) }
-{
-    match memchr(b'\n', bytes) {
-        Some(at) => Some((&bytes[..at], &bytes[at + 1..])),
-        None => None,
-    }
-}
-
 /// A line for each line of the input: what it is read as (docs/EXPLAIN.md). A line ends at LF, and a last one without
 /// LF counts.
 pub(crate) fn explained_lines(
@@ -167,9 +157,10 @@ pub(crate) fn explained_lines(
 {
     let mut out = String::new(alloc);
     let mut rest = input;
-    while let Some((line, behind)) = cut_line(rest) {
+    while let Some(at) = memchr(b'\n', rest) {
+        let (line, ended) = rest.split_at(at);
         push_said(&mut out, alloc, reading, line)?;
-        rest = behind;
+        rest = &ended[1..];
     }
     if rest.is_empty() {
         return Ok(out);

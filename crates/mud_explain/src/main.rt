@@ -5,60 +5,43 @@
 //! answers.
 #![tactic(auto)]
 
-mod command_line;
 mod explain;
 mod grouped;
 mod lines;
 mod listed;
-mod subject;
+mod sink;
+mod source;
 mod units;
 
-use crate::command_line::subject_of;
 use crate::explain::{ExplainFault, explain};
-use clap::error::ErrorKind;
-use std::alloc::Global;
+use crate::sink::Sink;
+use crate::source::Source;
+use mud_command::{CommandFault, Subject, show, subject_of, words_of};
 use std::io;
 use std::process::ExitCode;
 
 fn main(rt: HostRuntime) -> ExitCode {
-    let alloc = rt.alloc();
-    let words = match words_of(&rt, alloc) {
-        Ok(words) => words,
-        Err(error) => {
-            if error.kind() == io::ErrorKind::OutOfMemory {
-                return ended(&rt, Err(ExplainFault::OutOfMemory));
-            }
-            let _ = eprintln!(rt; "error: a word of the command line is not UTF-8");
-            return ExitCode::from(2);
-        }
+    let subject = match subject_given(&rt) {
+        Ok(subject) => subject,
+        Err(CommandFault::OutOfMemory) => return stopped(&rt, ExplainFault::OutOfMemory),
+        Err(CommandFault::Told(text)) => return ExitCode::from(show(&rt, text.as_str())),
     };
-    match subject_of(alloc, words.as_slice()) {
-        Ok(subject) => {
-            let mut reader = rt.reader();
-            let mut writer = io::writer(&rt);
-            ended(&rt, explain(alloc, subject, &mut reader, &mut writer))
-        }
-        Err(error) => {
-            if error.kind() == ErrorKind::OutOfMemory {
-                return ended(&rt, Err(ExplainFault::OutOfMemory));
-            }
-            let _ = eprint!(rt; "{error}");
-            ExitCode::from(2)
-        }
+    let mut source = Source::new(rt.reader());
+    let mut sink = Sink::new(io::writer(&rt));
+    match explain(rt.alloc(), subject, &mut source, &mut sink) {
+        Ok(()) => ExitCode::SUCCESS,
+        Err(fault) => stopped(&rt, fault),
     }
 }
 
-// The words of the command line.
-fn words_of(rt: &HostRuntime, alloc: Global) -> io::Result<Vec<String>> {
-    let words = std::env::args(rt)?.collect(alloc)?;
-    Ok(words)
+// What the words of the command line ask for.
+fn subject_given(rt: &HostRuntime) -> Result<Subject, CommandFault> {
+    let words = words_of(rt)?;
+    subject_of(rt.alloc(), words.as_slice())
 }
 
-// The status of what came of it; a fault is told on standard error.
-fn ended(rt: &HostRuntime, done: Result<(), ExplainFault>) -> ExitCode {
-    let Err(fault) = done else {
-        return ExitCode::SUCCESS;
-    };
+// Says why the program stopped, where that can be said, and answers its status.
+fn stopped(rt: &HostRuntime, fault: ExplainFault) -> ExitCode {
     let _ = eprintln!(rt; "mud_explain: {fault}");
     ExitCode::from(match fault {
         ExplainFault::OutOfMemory => 4,

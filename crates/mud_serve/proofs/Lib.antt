@@ -1,9 +1,9 @@
 pub mod Fresh
-pub mod TurnLemmas
-pub mod TalkLemmas
-pub mod TurnsOf
+pub mod Playing
+pub mod Feeds
 pub mod ServeLemmas
 pub mod ScriptLemmas
 pub mod Seats
 pub mod Endings
 pub mod Ones
+pub mod Begun

@@ -1,6 +1,6 @@
 -- A desk has one reply to a line, and a script one text.
 use Rattle.std.proofs.Common.{◌≡◌, ℕ, Bool, true, false, List, [], ◌∷◌, ◌++◌, Option, None, Some, map, codes, refl, sym, ◌∙◌, ap, subst}
-use Rattle.std.specs.Prelude.{is_some}
+use Rattle.std.specs.Prelude.{is_some, MatchBool}
 use Rattle.std.specs.Option.{IsSomeAnd}
 use Rattle.std.proofs.lemmas.List.{append_cancel_right}
 use Rattle.mud_words.specs.Words.{is_blank}
@@ -28,9 +28,10 @@ use Rattle.mud_guide.specs.declared.answer.Answer.{Answer}
 use Rattle.mud_guide.specs.Laws.{AreAlike}
 use Rattle.mud_guide.proofs.Single.{route_answer_is_one, meet_answer_is_one}
 use Rattle.mud_serve.specs.Desk.{Desk, world_at, version, numbered, verdict, IsGuided, IsAnswer, Replies}
-use Rattle.mud_serve.specs.Session.{Talk, Turn, IsReplied, AreReplied, sent_at, talk_then, text_of}
-use Rattle.mud_serve.specs.Script.{marked, begins}
-use Rattle.mud_serve.specs.Laws.{ReplyIsOne, ScriptTextIsOne}
+use Rattle.mud_serve.specs.Door.{SoloActs, begins}
+use Rattle.mud_serve.specs.Session.{Reply, Talk, Turn, Rests, IsAnswered, Takes, Plays, is_last, text_of}
+use Rattle.mud_serve.specs.Laws.{ReplyIsOne, ScriptTextIsOne, replied}
+use Rattle.mud_serve.proofs.Playing.{unit_of}
 
 -- ---- a desk's world is sound
 step-sound : (w : State) (e : Change) (o : Option Refusal) → refusal w e ≡ o → IsSound w → IsSound (stepped w e)
@@ -75,47 +76,65 @@ pub reply_is_one : ReplyIsOne
 reply_is_one desk line r s x y = replies-one desk (verdict desk line) r s x y
 
 -- ---- turns
-abbrev turn_of : Given → Option (List ℕ) → Turn
-turn_of u r = record { unit = u; reply = r }
+-- at a desk replies of one kind are one, and leave one desk
+acts-one : (desk : Desk) (line : List ℕ) (r s : Option Reply) (a b : Desk) → is_some r ≡ is_some s → SoloActs desk line r a → SoloActs desk line s b → (r ≡ s) × (a ≡ b)
+acts-one desk line None None a b e x y = (refl, x ∙ sym y)
+acts-one desk line None (Some s) a b e x y = absurd (cc)
+acts-one desk line (Some r) None a b e x y = absurd (cc)
+acts-one desk line (Some r) (Some s) a b e x y =
+    let text : r.text ≡ s.text = reply_is_one desk line r.text s.text x.0 y.0 in (
+      ap (λ (t : List ℕ). let p : Reply = record { text = t; is_last = r.is_last } in Some p) text
+          ∙ ap (λ (l : Bool). let p : Reply = record { text = s.text; is_last = l } in Some p) (x.1 ∙ sym y.1),
+      x.2 ∙ sym y.2,
+    )
 
--- with replies of one kind a turn sends one text and leaves one talk
-abbrev OneTurn : Talk → Given → Option (List ℕ) → Option (List ℕ) → Type 0
-OneTurn talk u r s = (sent_at talk (turn_of u r) ≡ sent_at talk (turn_of u s)) × (talk_then talk (turn_of u r) ≡ talk_then talk (turn_of u s))
+-- with replies of one kind a unit leaves one talk
+abbrev OneTurn : Option Reply → Option Reply → Talk Desk → Talk Desk → Type 0
+OneTurn r s a b = (r ≡ s) × (a ≡ b)
 
-line-one : (talk : Talk) (line x y : List ℕ) (blank ended : Bool) → is_blank line ≡ blank → talk.has_ended ≡ ended
-    → (talk.has_ended ≡ false → IsReplied talk.desk (Text line) (Some x)) → (talk.has_ended ≡ false → IsReplied talk.desk (Text line) (Some y))
-    → OneTurn talk (Text line) (Some x) (Some y)
-line-one talk line x y true ended is at a b = (rw is refl, rw is refl)
-line-one talk line x y false true is at a b = (rw at refl, rw at refl)
-line-one talk line x y false false is at a b =
-    let same : x ≡ y = reply_is_one talk.desk line x y (a at is) (b at is) in
-    (ap (λ (r : List ℕ). sent_at talk (turn_of (Text line) (Some r))) same, ap (λ (r : List ℕ). talk_then talk (turn_of (Text line) (Some r))) same)
+rests-one : (talk : Talk Desk) (r s : Option Reply) (a b : Talk Desk) → Rests talk r a → Rests talk s b → OneTurn r s a b
+rests-one talk r s a b x y = (x.0 ∙ sym y.0, x.1 ∙ sym y.1)
 
-turn-one : (talk : Talk) (u : Given) (r s : Option (List ℕ)) → is_some r ≡ is_some s
-    → (talk.has_ended ≡ false → IsReplied talk.desk u r) → (talk.has_ended ≡ false → IsReplied talk.desk u s) → OneTurn talk u r s
-turn-one talk TooLong r s e a b = (refl, refl)
-turn-one talk Ayt r s e a b = (refl, refl)
-turn-one talk (Asked bytes) r s e a b = (refl, refl)
-turn-one talk (Text line) None None e a b = (refl, refl)
-turn-one talk (Text line) None (Some y) e a b = absurd (cc)
-turn-one talk (Text line) (Some x) None e a b = absurd (cc)
-turn-one talk (Text line) (Some x) (Some y) e a b = line-one talk line x y (is_blank line) talk.has_ended refl refl a b
+answered-one : (talk : Talk Desk) (line : List ℕ) (r s : Option Reply) (a b : Talk Desk) → is_some r ≡ is_some s
+    → IsAnswered SoloActs talk line r a → IsAnswered SoloActs talk line s b → OneTurn r s a b
+answered-one talk line r s a b e x y =
+    let one : (r ≡ s) × (a.desk ≡ b.desk) = acts-one talk.desk line r s a.desk b.desk e x.0 y.0 in (
+      one.0,
+      ap (λ (d : Desk). let t : Talk Desk = record { desk = d; has_ended = a.has_ended } in t) one.1
+          ∙ ap (λ (l : Bool). let t : Talk Desk = record { desk = b.desk; has_ended = l } in t) (x.1 ∙ ap is_last one.0 ∙ sym y.1),
+    )
+
+line-one : (talk : Talk Desk) (line : List ℕ) (blank : Bool) (r s : Option Reply) (a b : Talk Desk) → is_some r ≡ is_some s
+    → MatchBool blank (Rests talk r a) (IsAnswered SoloActs talk line r a) → MatchBool blank (Rests talk s b) (IsAnswered SoloActs talk line s b) → OneTurn r s a b
+line-one talk line true r s a b e x y = rests-one talk r s a b x y
+line-one talk line false r s a b e x y = answered-one talk line r s a b e x y
+
+turn-one : (talk : Talk Desk) (u : Given) (r s : Option Reply) (a b : Talk Desk) → is_some r ≡ is_some s → Takes SoloActs talk u r a → Takes SoloActs talk u s b → OneTurn r s a b
+turn-one talk TooLong r s a b e x y = rests-one talk r s a b x y
+turn-one talk Ayt r s a b e x y = rests-one talk r s a b x y
+turn-one talk (Asked bytes) r s a b e x y = rests-one talk r s a b x y
+turn-one talk (Text line) r s a b e x y = line-one talk line (is_blank line) r s a b e x y
 
 -- ---- texts
-texts-one : (talk : Talk) (us : List Given) (rs ss : List (Option (List ℕ))) → map is_some rs ≡ map is_some ss
-    → AreReplied talk (marked us rs) → AreReplied talk (marked us ss) → text_of talk (marked us rs) ≡ text_of talk (marked us ss)
-texts-one talk [] rs ss e a b = refl
-texts-one talk (u ∷ us) [] [] e a b = refl
-texts-one talk (u ∷ us) [] (s ∷ ss) e a b = absurd (cc)
-texts-one talk (u ∷ us) (r ∷ rs) [] e a b = absurd (cc)
-texts-one talk (u ∷ us) (r ∷ rs) (s ∷ ss) e a b =
-    let head : is_some r ≡ is_some s = cc in
-    let tail : map is_some rs ≡ map is_some ss = cc in
-    let one : OneTurn talk u r s = turn-one talk u r s head a.0 b.0 in
-    let moved : AreReplied (talk_then talk (turn_of u r)) (marked us ss) = subst (λ (t : Talk). AreReplied t (marked us ss)) (sym one.1) b.1 in
-    ap (λ (t : List ℕ). t ++ text_of (talk_then talk (turn_of u r)) (marked us rs)) one.0
-    ∙ ap (λ (t : List ℕ). sent_at talk (turn_of u s) ++ t) (texts-one (talk_then talk (turn_of u r)) us rs ss tail a.1 moved)
-    ∙ ap (λ (t : Talk). sent_at talk (turn_of u s) ++ text_of t (marked us ss)) one.1
+turns-one : (talk : Talk Desk) (us : List Given) (xs ys : List Turn) (left right : List Given) (a b : Talk Desk)
+    → us ≡ map unit_of xs ++ left → us ≡ map unit_of ys ++ right → replied xs ≡ replied ys
+    → Plays SoloActs talk xs a → Plays SoloActs talk ys b → xs ≡ ys
+turns-one talk us [] [] left right a b p q e x y = refl
+turns-one talk us [] (v ∷ ys) left right a b p q e x y = absurd (cc)
+turns-one talk us (u ∷ xs) [] left right a b p q e x y = absurd (cc)
+turns-one talk us (u ∷ xs) (v ∷ ys) left right a b p q e x y =
+    let both : u.unit ∷ (map unit_of xs ++ left) ≡ v.unit ∷ (map unit_of ys ++ right) = sym p ∙ q in
+    let unit : u.unit ≡ v.unit = cc in
+    let units : map unit_of xs ++ left ≡ map unit_of ys ++ right = cc in
+    let head : is_some u.reply ≡ is_some v.reply = cc in
+    let tail : replied xs ≡ replied ys = cc in
+    let one : OneTurn u.reply v.reply x.1 y.1 =
+    turn-one talk u.unit u.reply v.reply x.1 y.1 head x.2 (subst (λ (w : Given). Takes SoloActs talk w v.reply y.1) (sym unit) y.2) in
+    let moved : Plays SoloActs x.1 ys b = subst (λ (t : Talk Desk). Plays SoloActs t ys b) (sym one.1) y.3 in
+    ap (λ (w : Given). let t : Turn = record { unit = w; reply = u.reply } in t ∷ xs) unit
+    ∙ ap (λ (r : Option Reply). let t : Turn = record { unit = v.unit; reply = r } in t ∷ xs) one.0
+    ∙ ap (λ (l : List Turn). v ∷ l) (turns-one x.1 (map unit_of xs ++ left) xs ys left right a b refl units tail x.3 moved)
 
 pub script_text_is_one : ScriptTextIsOne
-script_text_is_one bytes capacity rs ss e a b = texts-one (begins capacity) (units (bytes ++ 10 ∷ [])) rs ss e a b
+script_text_is_one capacity bytes one other p q e =
+    ap text_of (turns-one (begins capacity) (units bytes) p.turns q.turns p.left q.left one other p.units_are q.units_are e p.plays q.plays)

@@ -1,208 +1,191 @@
 -- What a script has written.
-use Rattle.std.proofs.Common.{◌≡◌, ℕ, ◌+◌, ◌<◌, ◌≤◌, Bool, true, false, List, [], ◌∷◌, ◌++◌, length, refl, sym, ap, subst, ◌∙◌, append_assoc, arith, inl, inr}
-use Rattle.std.specs.Prelude.{Option}
+use Rattle.std.proofs.Common.{◌≡◌, ℕ, ◌+◌, ◌<◌, ◌≤◌, Bool, true, false, List, [], ◌∷◌, ◌++◌, length, map, take, refl, sym, ap, subst, ◌∙◌, append-nil, arith, inl, inr, length-append}
+use Rattle.std.specs.Prelude.{Option, if◌then◌else◌, ◌==◌, ◌&&◌, nat_lt}
+use Rattle.std.proofs.lemmas.Bool.Decides.{nat_tests}
 use Rattle.std.specs.Io.KnownBytes.{Appends, Consumes, Keeps, IsAtEnd}
 use Rattle.std.proofs.KnownBytes.{Appends-nil, Appends-trans, Consumes-nil, Consumes-trans, Consumes-kept}
-use Rattle.std.proofs.lemmas.List.{append-nil, map-append, length-append}
-use Rattle.mud_nvt.specs.Units.{units}
+use Rattle.std.proofs.lemmas.Bool.{cases_Bool, true≢false}
+use Rattle.std.proofs.Math.Seq.{take-append-add, take-length}
+use Rattle.mud_nvt.specs.Units.{Given, units}
 use Rattle.mud_nvt.specs.History.{StandsAfter}
-use Rattle.mud_serve.specs.State.{State}
-use Rattle.mud_serve.specs.Desk.{Desk, opening}
-use Rattle.mud_serve.specs.Session.{Talk, Turn, text_of, talk_after, AreReplied}
-use Rattle.mud_serve.specs.Feeding.{Serves, ServesInPart, talk_of, units_in}
-use Rattle.mud_serve.specs.Script.{marked, begins, script_turns, Answers, AnswersInPart, RunsOn}
-use Rattle.mud_serve.proofs.TurnLemmas.{talk_after-append, text_of-append, replied-append}
-use Rattle.mud_serve.proofs.Fresh.{fresh_units}
-use Rattle.mud_serve.proofs.ServeLemmas.{replies_in, marked_again, no_replies, fresh_turns, fresh_turns-units}
+use Rattle.mud_serve.specs.State.{State, talk_of}
+use Rattle.mud_serve.specs.Ends.{Reader, Writer, unread}
+use Rattle.mud_serve.specs.Session.{Acts, Talk, Turn, Plays, Play, text_of}
+use Rattle.mud_serve.specs.Serving.{Serves, ServesInPart}
+use Rattle.mud_serve.specs.Script.{heard, Script, IsWhole, IsFront, IsOpen}
+use Rattle.mud_serve.proofs.Playing.{unit_of, retold, joined, text_of-append}
 
--- after `quit` nothing is sent
-abbrev over_at : Desk → Talk
-over_at desk = record { desk = desk; has_ended = true }
+-- a read saw the end, or did not
+pub ends_here : (at_end : Bool) (n : ℕ) (buffer : List ℕ) → at_end ≡ (n == 0 && nat_lt 0 (length buffer)) → n ≡ 0 → 0 < length buffer → at_end ≡ true
+ends_here at_end n buffer is none some = is ∙ grind (arith, nat_tests)
 
-text_of-over : (desk : Desk) (turns : List Turn) → text_of (over_at desk) turns ≡ []
-text_of-over desk [] = refl
-text_of-over desk (turn ∷ turns) = text_of-over desk turns
-
-talk_after-over : (desk : Desk) (turns : List Turn) → talk_after (over_at desk) turns ≡ over_at desk
-talk_after-over desk [] = refl
-talk_after-over desk (turn ∷ turns) = talk_after-over desk turns
-
-over_is : (t : Talk) → t.has_ended ≡ true → t ≡ over_at t.desk
-over_is t e = ap (λ (b : Bool). let u : Talk = record { desk = t.desk; has_ended = b } in u) e
-
-text_of-ended : (t : Talk) (turns : List Turn) → t.has_ended ≡ true → text_of t turns ≡ []
-text_of-ended t turns e = ap (λ (u : Talk). text_of u turns) (over_is t e) ∙ text_of-over t.desk turns
-
-talk_after-ended : (t : Talk) (turns : List Turn) → t.has_ended ≡ true → (talk_after t turns).has_ended ≡ true
-talk_after-ended t turns e = ap (λ (u : Talk). (talk_after u turns).has_ended) (over_is t e) ∙ ap (λ (u : Talk). u.has_ended) (talk_after-over t.desk turns)
-
--- turns of these bytes, and then of more
-both_units : (bytes more : List ℕ) (xs ys : List Turn) → units_in xs ≡ units bytes → units (bytes ++ more) ≡ units bytes ++ units_in ys
-    → units_in (xs ++ ys) ≡ units (bytes ++ more)
-both_units bytes more xs ys p q = map-append (λ (t : Turn). t.unit) xs ys ∙ ap (λ us. us ++ units_in ys) p ∙ sym q
-
--- a marking of the last line
-abbrev last_turns : List ℕ → List Turn
-last_turns bytes = fresh_turns bytes (10 ∷ [])
-
--- with the last line refused the replies stay right
-with_last : (capacity : ℕ) (bytes : List ℕ) (turns : List Turn) → AreReplied (begins capacity) turns → AreReplied (begins capacity) (turns ++ last_turns bytes)
-with_last capacity bytes turns replied =
-    replied-append (begins capacity) turns (last_turns bytes) replied (no_replies (talk_after (begins capacity) turns) (fresh_units bytes (10 ∷ [])).0)
-
--- the turns of the bytes and an LF are those of the script that is refused where they are
-script_turns_is : (bytes : List ℕ) (turns : List Turn) → units_in turns ≡ units (bytes ++ 10 ∷ []) → script_turns bytes (replies_in turns) ≡ turns
-script_turns_is bytes turns e = ap (λ us. marked us (replies_in turns)) (sym e) ∙ marked_again turns
+pub goes_on_here : (at_end : Bool) (n : ℕ) (buffer : List ℕ) → at_end ≡ (n == 0 && nat_lt 0 (length buffer)) → 0 < n → at_end ≡ false
+goes_on_here at_end n buffer is some = is ∙ grind (arith, nat_tests)
 
 -- where the script stands after some reads
-pub record Reached (capacity : ℕ) (readable still held now : Option (List ℕ)) (state : State) (desk : Desk) (reads : ℕ) : Type 0 where
+pub record Reached {D : Type 0} (acts : Acts D) (start : Talk D) (reader read : Reader) (held now : Option (List ℕ)) (state : State) (desk : D) : Type 0 where
   pub bytes : List ℕ
   pub turns : List Turn
-  pub units : units_in turns ≡ units bytes
-  pub read : Consumes readable still bytes
+  pub units_are : units bytes ≡ map unit_of turns
+  pub plays : Plays acts start turns (talk_of state desk)
   pub stands : StandsAfter state.terminal bytes
-  pub talk : talk_of state desk ≡ talk_after (begins capacity) turns
-  pub written : Appends held now (text_of (begins capacity) turns)
-  pub replied : AreReplied (begins capacity) turns
+  pub goes_on : state.has_ended ≡ false
   pub out : state.out ≡ []
-  pub many : reads ≤ length bytes
+  pub consumed : Consumes reader.left read.left bytes
+  pub no_end : read.at_end ≡ false
+  pub many : read.reads ≤ length bytes
+  pub written : Appends held now (text_of turns)
 
-pub reached_none : (capacity : ℕ) (readable held : Option (List ℕ)) (state : State) (desk : Desk) → StandsAfter state.terminal [] → state.has_ended ≡ false → state.out ≡ [] → desk ≡ opening capacity
-    → Reached capacity readable readable held held state desk 0
-reached_none capacity readable held state desk stands open_still out is = record {
+pub reached_none : {D : Type 0} (acts : Acts D) (reader : Reader) (held : Option (List ℕ)) (state : State) (desk : D) → reader ≡ unread reader.left
+    → StandsAfter state.terminal [] → state.has_ended ≡ false → state.out ≡ [] → Reached acts (talk_of state desk) reader reader held held state desk
+reached_none acts reader held state desk fresh stands goes_on out = record {
   bytes = [];
   turns = [];
-  units = refl;
-  read = Consumes-nil readable;
+  units_are = refl;
+  plays = refl;
   stands = stands;
-  talk = ap (λ (b : Bool). let u : Talk = record { desk = desk; has_ended = b } in u) open_still ∙ ap (λ (d : Desk). let u : Talk = record { desk = d; has_ended = false } in u) is;
-  written = Appends-nil held;
-  replied = tt;
+  goes_on = goes_on;
   out = out;
-  many = omega arith;
+  consumed = Consumes-nil reader.left;
+  no_end = ap (λ (r : Reader). r.at_end) fresh;
+  many = let none : reader.reads ≡ 0 = ap (λ (r : Reader). r.reads) fresh in omega arith;
+  written = Appends-nil held;
 }
 
-pub reached_more : {capacity : ℕ} {readable still next held now then : Option (List ℕ)} {state new : State} {desk new_desk : Desk} {reads : ℕ} {more : List ℕ}
-    → (so_far : Reached capacity readable still held now state desk reads) → Consumes still next more → 0 < length more → Serves so_far.bytes more state new desk new_desk now then
-    → Reached capacity readable next held then new new_desk (reads + 1)
-reached_more {capacity = capacity} {more = more} so_far read some serves = record {
-  bytes = so_far.bytes ++ more;
-  turns = so_far.turns ++ serves.turns;
-  units = both_units so_far.bytes more so_far.turns serves.turns so_far.units serves.units;
-  read = Consumes-trans _ _ _ so_far.bytes more so_far.read read;
-  stands = serves.stands;
-  talk = serves.talk ∙ rw (talk_after-append, ← so_far.talk) refl;
-  written = rw (text_of-append, ← so_far.talk) (Appends-trans _ _ _ _ _ so_far.written serves.written);
-  replied = replied-append (begins capacity) so_far.turns serves.turns so_far.replied (subst (λ (u : Talk). AreReplied u serves.turns) so_far.talk serves.replied);
-  out = serves.out;
-  many = let m = so_far.many in omega (arith, length-append so_far.bytes more);
+-- ---- the script that was played
+heard_bytes : (r : Reader) (bytes : List ℕ) (ended : Bool) → r.at_end ≡ ended → heard r bytes ≡ (if ended then bytes ++ 10 ∷ [] else bytes)
+heard_bytes r bytes ended e = ap (λ (b : Bool). if b then bytes ++ 10 ∷ [] else bytes) e
+
+-- before the end
+abbrev played : {D : Type 0} {acts : Acts D} {start : Talk D} {old new : Reader} {talk : Talk D} (bytes : List ℕ) → Consumes old.left new.left bytes → new.at_end ≡ false
+    → Play acts start (units bytes) talk → Script acts start old new
+played {new = new} {talk = talk} bytes consumed open_still play = record {
+  bytes = bytes;
+  read = consumed;
+  end = λ e. absurd (true≢false (sym e ∙ open_still));
+  talk = talk;
+  play = retold (ap units (heard_bytes new bytes false open_still)) play;
 }
 
--- a front of the text of some of the turns is a front of the text of the script
-in_part : (capacity : ℕ) (readable still held now : Option (List ℕ)) (bytes : List ℕ) (turns : List Turn) (front rest : List ℕ) → units_in turns ≡ units bytes
-    → Consumes readable still bytes → Appends held now front → front ++ rest ≡ text_of (begins capacity) turns → AreReplied (begins capacity) turns
-    → AnswersInPart readable still held now capacity
-in_part capacity readable still held now bytes turns front rest units_are read written whole replied =
-    let last = last_turns bytes in
-    let all = turns ++ last in
-    let all_units : units_in all ≡ units (bytes ++ 10 ∷ []) = both_units bytes (10 ∷ []) turns last units_are (fresh_turns-units bytes (10 ∷ [])) in
+-- at the end
+abbrev played_out : {D : Type 0} {acts : Acts D} {start : Talk D} {old new : Reader} {talk : Talk D} (bytes : List ℕ) → Consumes old.left new.left bytes → new.at_end ≡ true → IsAtEnd new.left
+    → Play acts start (units (bytes ++ 10 ∷ [])) talk → Script acts start old new
+played_out {new = new} {talk = talk} bytes consumed ended end play = record {
+  bytes = bytes;
+  read = consumed;
+  end = λ _. end;
+  talk = talk;
+  play = retold (ap units (heard_bytes new bytes true ended)) play;
+}
+
+-- what was played so far
+abbrev so_far_play : {D : Type 0} {acts : Acts D} {start : Talk D} {reader read : Reader} {held now : Option (List ℕ)} {state : State} {desk : D}
+    → (so_far : Reached acts start reader read held now state desk) → Play acts start (units so_far.bytes) (talk_of state desk)
+so_far_play so_far = record { turns = so_far.turns; left = []; units_are = so_far.units_are ∙ sym (append-nil (map unit_of so_far.turns)); plays = so_far.plays }
+
+-- and for more bytes
+abbrev more_play : {D : Type 0} {acts : Acts D} {start : Talk D} {reader read : Reader} {held now : Option (List ℕ)} {state : State} {desk : D} {fresh : List Given} {talk : Talk D}
+    → (so_far : Reached acts start reader read held now state desk) (more : List ℕ) → units (so_far.bytes ++ more) ≡ units so_far.bytes ++ fresh → Play acts (talk_of state desk) fresh talk
+    → Play acts start (units (so_far.bytes ++ more)) talk
+more_play so_far more is play = retold is (joined so_far.turns so_far.units_are so_far.plays play)
+
+more_written : (held now later : Option (List ℕ)) (xs ys : List Turn) → Appends held now (text_of xs) → Appends now later (text_of ys) → Appends held later (text_of (xs ++ ys))
+more_written held now later xs ys p q = subst (Appends held later) (sym (text_of-append xs ys)) (Appends-trans held now later (text_of xs) (text_of ys) p q)
+
+pub reached_more : {D : Type 0} {acts : Acts D} {start : Talk D} {reader read next : Reader} {held now later : Option (List ℕ)} {state new : State} {desk new_desk : D} {more : List ℕ}
+    → (so_far : Reached acts start reader read held now state desk) → Consumes read.left next.left more → next.at_end ≡ false → next.reads ≡ read.reads + 1 → 0 < length more
+    → new.has_ended ≡ false → Serves acts so_far.bytes more state new desk new_desk now later → Reached acts start reader next held later new new_desk
+reached_more {more = more} so_far consumed no_end reads some goes_on serves =
+    let play = more_play so_far more serves.units serves.play in
     record {
-      bytes = bytes;
-      replies = replies_in all;
-      front = front;
-      rest = rest ++ text_of (talk_after (begins capacity) turns) last;
-      read = read;
-      written = written;
-      whole = sym (append_assoc front rest _) ∙ ap (λ l. l ++ text_of (talk_after (begins capacity) turns) last) whole ∙ sym (text_of-append (begins capacity) turns last)
-          ∙ ap (λ ts. text_of (begins capacity) ts) (sym (script_turns_is bytes all all_units));
-      replied = subst (λ (ts : List Turn). AreReplied (begins capacity) ts) (sym (script_turns_is bytes all all_units)) (with_last capacity bytes turns replied);
-    }
-
--- where no desk could be opened
-pub part_at_start : (capacity : ℕ) (readable held : Option (List ℕ)) → AnswersInPart readable readable held held capacity
-part_at_start capacity readable held = in_part capacity readable readable held held [] [] [] [] refl (Consumes-nil readable) (Appends-nil held) refl tt
-
--- where a read fails, or too many came
-pub part_so_far : {capacity : ℕ} {readable still next held now : Option (List ℕ)} {state : State} {desk : Desk} {reads : ℕ}
-    → Reached capacity readable still held now state desk reads → Keeps still next → AnswersInPart readable next held now capacity
-part_so_far {capacity = capacity} {readable = readable} {next = next} {held = held} {now = now} so_far kept =
-    in_part capacity readable next held now so_far.bytes so_far.turns (text_of (begins capacity) so_far.turns) [] so_far.units
-    (Consumes-kept _ _ _ so_far.bytes so_far.read kept) so_far.written (append-nil _) so_far.replied
-
--- where the session fails, or a write
-pub part_served : {capacity : ℕ} {readable still next held now then : Option (List ℕ)} {state : State} {desk : Desk} {reads : ℕ} {more : List ℕ}
-    → (so_far : Reached capacity readable still held now state desk reads) → Consumes still next more → ServesInPart so_far.bytes more state desk now then → AnswersInPart readable next held then capacity
-part_served {capacity = capacity} {readable = readable} {next = next} {held = held} {then = then} {more = more} so_far read part =
-    in_part capacity readable next held then (so_far.bytes ++ more) (so_far.turns ++ part.turns) (text_of (begins capacity) so_far.turns ++ part.front) part.rest
-    (both_units so_far.bytes more so_far.turns part.turns so_far.units part.units)
-    (Consumes-trans _ _ _ so_far.bytes more so_far.read read)
-    (Appends-trans _ _ _ _ _ so_far.written part.written)
-    (append_assoc (text_of (begins capacity) so_far.turns) part.front part.rest ∙ rw (text_of-append, ← so_far.talk, part.whole) refl)
-    (replied-append (begins capacity) so_far.turns part.turns so_far.replied (subst (λ (u : Talk). AreReplied u part.turns) so_far.talk part.replied))
-
--- the same at the end of the input, in the last line
-pub part_at_end : {capacity : ℕ} {readable still next held now then : Option (List ℕ)} {state : State} {desk : Desk} {reads : ℕ}
-    → (so_far : Reached capacity readable still held now state desk reads) → Consumes still next [] → ServesInPart so_far.bytes (10 ∷ []) state desk now then → AnswersInPart readable next held then capacity
-part_at_end {capacity = capacity} so_far read part =
-    let turns = so_far.turns ++ part.turns in
-    let all_units : units_in turns ≡ units (so_far.bytes ++ 10 ∷ []) = both_units so_far.bytes (10 ∷ []) so_far.turns part.turns so_far.units part.units in
-    record {
-      bytes = so_far.bytes;
-      replies = replies_in turns;
-      front = text_of (begins capacity) so_far.turns ++ part.front;
-      rest = part.rest;
-      read = rw append-nil at (Consumes-trans _ _ _ so_far.bytes [] so_far.read read);
-      written = Appends-trans _ _ _ _ _ so_far.written part.written;
-      whole = append_assoc (text_of (begins capacity) so_far.turns) part.front part.rest ∙ rw (script_turns_is so_far.bytes turns all_units, text_of-append, ← so_far.talk, part.whole) refl;
-      replied = subst (λ (ts : List Turn). AreReplied (begins capacity) ts) (sym (script_turns_is so_far.bytes turns all_units))
-          (replied-append (begins capacity) so_far.turns part.turns so_far.replied (subst (λ (u : Talk). AreReplied u part.turns) so_far.talk part.replied));
-    }
-
--- the end of the input, and the last line
-pub whole_at_end : {capacity : ℕ} {readable still next held now then : Option (List ℕ)} {state new : State} {desk new_desk : Desk} {reads : ℕ}
-    → (so_far : Reached capacity readable still held now state desk reads) → Consumes still next [] → IsAtEnd next → Serves so_far.bytes (10 ∷ []) state new desk new_desk now then
-    → Answers readable next held then capacity
-whole_at_end {capacity = capacity} so_far read end serves =
-    let turns = so_far.turns ++ serves.turns in
-    let all_units : units_in turns ≡ units (so_far.bytes ++ 10 ∷ []) = both_units so_far.bytes (10 ∷ []) so_far.turns serves.turns so_far.units serves.units in
-    record {
-      bytes = so_far.bytes;
-      replies = replies_in turns;
-      read = rw append-nil at (Consumes-trans _ _ _ so_far.bytes [] so_far.read read);
-      written = rw (script_turns_is so_far.bytes turns all_units, text_of-append, ← so_far.talk) (Appends-trans _ _ _ _ _ so_far.written serves.written);
-      replied = subst (λ (ts : List Turn). AreReplied (begins capacity) ts) (sym (script_turns_is so_far.bytes turns all_units))
-          (replied-append (begins capacity) so_far.turns serves.turns so_far.replied (subst (λ (u : Talk). AreReplied u serves.turns) so_far.talk serves.replied));
-      done = inl end;
+      bytes = so_far.bytes ++ more;
+      turns = play.turns;
+      units_are = play.units_are ∙ ap (λ l. map unit_of play.turns ++ l) (serves.all goes_on) ∙ append-nil (map unit_of play.turns);
+      plays = play.plays;
+      stands = serves.stands;
+      goes_on = goes_on;
+      out = serves.out;
+      consumed = Consumes-trans _ _ _ so_far.bytes more so_far.consumed consumed;
+      no_end = no_end;
+      many = let m = so_far.many in omega (arith, length-append so_far.bytes more);
+      written = more_written _ _ _ so_far.turns serves.play.turns so_far.written serves.written;
     }
 
 -- an answered `quit`
-pub whole_at_quit : {capacity : ℕ} {readable still held now : Option (List ℕ)} {state : State} {desk : Desk} {reads : ℕ}
-    → Reached capacity readable still held now state desk reads → state.has_ended ≡ true → Answers readable still held now capacity
-whole_at_quit {capacity = capacity} so_far quit =
-    let last = last_turns so_far.bytes in
-    let turns = so_far.turns ++ last in
-    let all_units : units_in turns ≡ units (so_far.bytes ++ 10 ∷ []) = both_units so_far.bytes (10 ∷ []) so_far.turns last so_far.units (fresh_turns-units so_far.bytes (10 ∷ [])) in
-    let over : (talk_after (begins capacity) so_far.turns).has_ended ≡ true = rw (← so_far.talk) quit in
-    record {
-      bytes = so_far.bytes;
-      replies = replies_in turns;
-      read = so_far.read;
-      written = rw (script_turns_is so_far.bytes turns all_units, text_of-append, text_of-ended (talk_after (begins capacity) so_far.turns) last over, append-nil) so_far.written;
-      replied = subst (λ (ts : List Turn). AreReplied (begins capacity) ts) (sym (script_turns_is so_far.bytes turns all_units)) (with_last capacity so_far.bytes so_far.turns so_far.replied);
-      done = inr (ap (λ ts. (talk_after (begins capacity) ts).has_ended) (script_turns_is so_far.bytes turns all_units) ∙ ap (λ (t : Talk). t.has_ended) (talk_after-append (begins capacity) so_far.turns last)
-          ∙ talk_after-ended (talk_after (begins capacity) so_far.turns) last over);
-    }
+pub whole_at_quit : {D : Type 0} {acts : Acts D} {start : Talk D} {reader read next : Reader} {writer written : Writer} {now : Option (List ℕ)} {state new : State} {desk new_desk : D} {more : List ℕ}
+    → (so_far : Reached acts start reader read writer.holds now state desk) → Consumes read.left next.left more → next.at_end ≡ false → new.has_ended ≡ true
+    → Serves acts so_far.bytes more state new desk new_desk now written.holds → IsWhole acts start reader next writer written
+whole_at_quit {more = more} so_far consumed no_end over serves = record {
+  script = played (so_far.bytes ++ more) (Consumes-trans _ _ _ so_far.bytes more so_far.consumed consumed) no_end (more_play so_far more serves.units serves.play);
+  writes = more_written _ _ _ so_far.turns serves.play.turns so_far.written serves.written;
+  done = inr over;
+}
+
+-- the end of the input, and the last line
+pub whole_at_end : {D : Type 0} {acts : Acts D} {start : Talk D} {reader read next : Reader} {writer written : Writer} {now : Option (List ℕ)} {state new : State} {desk new_desk : D}
+    → (so_far : Reached acts start reader read writer.holds now state desk) → Consumes read.left next.left [] → next.at_end ≡ true → IsAtEnd next.left
+    → Serves acts so_far.bytes (10 ∷ []) state new desk new_desk now written.holds → IsWhole acts start reader next writer written
+whole_at_end {new = new} so_far consumed ended end serves = record {
+  script = played_out so_far.bytes (rw append-nil at (Consumes-trans _ _ _ so_far.bytes [] so_far.consumed consumed)) ended end (more_play so_far (10 ∷ []) serves.units serves.play);
+  writes = more_written _ _ _ so_far.turns serves.play.turns so_far.written serves.written;
+  done = elim (cases_Bool new.has_ended) [
+    | inl e ↦ inr e
+    | inr e ↦ inl (ended, serves.all e)
+  ];
+}
+
+-- ---- fronts
+more_front : (held now later : Option (List ℕ)) (xs ys : List Turn) (n : ℕ) → Appends held now (text_of xs) → Appends now later (take n (text_of ys))
+    → Appends held later (take (length (text_of xs) + n) (text_of (xs ++ ys)))
+more_front held now later xs ys n p q =
+    subst (Appends held later) (sym (ap (take (length (text_of xs) + n)) (text_of-append xs ys) ∙ take-append-add (text_of xs) (text_of ys) n))
+    (Appends-trans held now later (text_of xs) (take n (text_of ys)) p q)
+
+-- where no desk could be opened
+pub front_at_start : {D : Type 0} (acts : Acts D) (start : Talk D) (reader : Reader) (writer : Writer) → reader ≡ unread reader.left → IsFront acts start reader reader writer writer
+front_at_start acts start reader writer fresh = record {
+  script = played [] (Consumes-nil reader.left) (ap (λ (r : Reader). r.at_end) fresh) (record { turns = []; left = units []; units_are = refl; plays = refl });
+  count = 0;
+  writes = Appends-nil writer.holds;
+}
+
+-- where a read fails, or too many came
+pub front_so_far : {D : Type 0} {acts : Acts D} {start : Talk D} {reader read next : Reader} {writer written : Writer} {state : State} {desk : D}
+    → Reached acts start reader read writer.holds written.holds state desk → Keeps read.left next.left → next.at_end ≡ false → IsFront acts start reader next writer written
+front_so_far {writer = writer} {written = written} so_far kept no_end = record {
+  script = played so_far.bytes (Consumes-kept _ _ _ so_far.bytes so_far.consumed kept) no_end (so_far_play so_far);
+  count = length (text_of so_far.turns);
+  writes = subst (Appends writer.holds written.holds) (sym (take-length (text_of so_far.turns))) so_far.written;
+}
+
+-- where the session fails, or a write
+pub front_served : {D : Type 0} {acts : Acts D} {start : Talk D} {reader read next : Reader} {writer written : Writer} {now : Option (List ℕ)} {state : State} {desk : D} {more : List ℕ}
+    → (so_far : Reached acts start reader read writer.holds now state desk) → Consumes read.left next.left more → next.at_end ≡ false
+    → ServesInPart acts so_far.bytes more state desk now written.holds → IsFront acts start reader next writer written
+front_served {more = more} so_far consumed no_end part = record {
+  script = played (so_far.bytes ++ more) (Consumes-trans _ _ _ so_far.bytes more so_far.consumed consumed) no_end (more_play so_far more part.units part.play);
+  count = length (text_of so_far.turns) + part.count;
+  writes = more_front _ _ _ so_far.turns part.play.turns part.count so_far.written part.written;
+}
+
+-- the same at the end of the input, in the last line
+pub front_at_end : {D : Type 0} {acts : Acts D} {start : Talk D} {reader read next : Reader} {writer written : Writer} {now : Option (List ℕ)} {state : State} {desk : D}
+    → (so_far : Reached acts start reader read writer.holds now state desk) → Consumes read.left next.left [] → next.at_end ≡ true → IsAtEnd next.left
+    → ServesInPart acts so_far.bytes (10 ∷ []) state desk now written.holds → IsFront acts start reader next writer written
+front_at_end so_far consumed ended end part = record {
+  script = played_out so_far.bytes (rw append-nil at (Consumes-trans _ _ _ so_far.bytes [] so_far.consumed consumed)) ended end (more_play so_far (10 ∷ []) part.units part.play);
+  count = length (text_of so_far.turns) + part.count;
+  writes = more_front _ _ _ so_far.turns part.play.turns part.count so_far.written part.written;
+}
 
 -- it goes on
-pub runs_on : {capacity : ℕ} {readable still held now : Option (List ℕ)} {state : State} {desk : Desk} {reads : ℕ}
-    → Reached capacity readable still held now state desk reads → state.has_ended ≡ false → RunsOn reads readable still capacity
-runs_on {capacity = capacity} so_far goes = record {
-  bytes = so_far.bytes;
-  replies = replies_in so_far.turns;
-  read = so_far.read;
+pub is_open : {D : Type 0} {acts : Acts D} {start : Talk D} {reader read : Reader} {writer written : Writer} {state : State} {desk : D}
+    → Reached acts start reader read writer.holds written.holds state desk → IsOpen acts start reader read writer written
+is_open so_far = record {
+  script = played so_far.bytes so_far.consumed so_far.no_end (so_far_play so_far);
+  writes = so_far.written;
+  all = refl;
+  goes_on = so_far.goes_on;
+  no_end = so_far.no_end;
   many = so_far.many;
-  replied = subst (λ (ts : List Turn). AreReplied (begins capacity) ts)
-      (sym (ap (λ us. marked us (replies_in so_far.turns)) (sym so_far.units) ∙ marked_again so_far.turns)) so_far.replied;
-  open_still = ap (λ ts. (talk_after (begins capacity) ts).has_ended) (ap (λ us. marked us (replies_in so_far.turns)) (sym so_far.units) ∙ marked_again so_far.turns)
-      ∙ ap (λ (t : Talk). t.has_ended) (sym so_far.talk) ∙ goes;
 }

@@ -1,5 +1,6 @@
 -- A desk that nobody else uses: who is at it, and the changes that were accepted there.
-use Rattle.std.specs.Prelude.{◌≡◌, ℕ, ◌+◌, Bool, true, false, nat_lt, not, if◌then◌else◌, List, [], ◌∷◌, ◌++◌, length, codes, decimal, string_bytes, Some}
+use Rattle.std.specs.Prelude.{◌≡◌, ℕ, ◌+◌, Bool, true, false, nat_lt, not, if◌then◌else◌}
+use Rattle.std.specs.Prelude.{List, [], ◌∷◌, ◌++◌, length, codes, decimal, string_bytes, Some}
 use Rattle.std.specs.Option.{IsSomeAnd}
 use Rattle.mud_words.specs.Parse.{parsed}
 use Rattle.mud_world.specs.declared.change.Change.{Change}
@@ -65,7 +66,8 @@ IsTold desk journey text = (answer : Answer) × IsGuided desk journey answer × 
 -- the text is that of the certificate of the guide's answer; its last line has no end
 abbrev pub IsProof : Desk → Journey → List ℕ → Type 0
 IsProof desk journey text =
-    (answer : Answer) × IsGuided desk journey answer × IsSomeAnd answer.cert (λ c. text ++ codes "\n" ≡ codes "proof\n" ++ cert_text c)
+    (answer : Answer) × IsGuided desk journey answer
+    × IsSomeAnd answer.cert (λ c. text ++ codes "\n" ≡ codes "proof\n" ++ cert_text c)
 
 -- the text is the answer to a question; the last line of a history has no end
 abbrev pub IsAnswer : Desk → Query → List ℕ → Type 0
@@ -77,7 +79,8 @@ IsAnswer desk query.History text = text ++ codes "\n" ≡ codes "history\n" ++ w
 -- what is replied
 abbrev pub Replies : Desk → Verdict → List ℕ → Type 0
 Replies desk (Changes e) reply =
-    reply ≡ (if is_full desk then codes "(history full)" else numbered (version desk + 1) (reply_text (world_at desk) e))
+    reply ≡ (if is_full desk then codes "(history full)"
+    else numbered (version desk + 1) (reply_text (world_at desk) e))
 Replies desk (Become n) reply = reply ≡ numbered (version desk) (welcome_text n)
 Replies desk (Refused f) reply = reply ≡ numbered (version desk) (refusal_text f)
 Replies desk (Ask q) reply = (text : List ℕ) × IsAnswer desk q text × (reply ≡ numbered (version desk) text)

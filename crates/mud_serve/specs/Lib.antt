@@ -1,9 +1,10 @@
 pub mod Desk
 pub mod Holding
+pub mod Session
 pub mod Door
 pub mod State
-pub mod Session
-pub mod Talk
 pub mod Feeding
+pub mod Ends
 pub mod Script
+pub mod Serving
 pub mod Laws

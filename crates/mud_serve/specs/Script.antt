@@ -1,61 +1,43 @@
--- What a script writes.
-use Rattle.std.specs.Prelude.{◌≡◌, ◌≤◌, ℕ, Bool, true, false, ◌⊎◌, List, [], ◌∷◌, ◌++◌, length, Option, None}
+-- What a script reads, plays and writes, at any door.
+use Rattle.std.specs.Prelude.{◌≡◌, ◌≤◌, ℕ, true, false, if◌then◌else◌, ◌⊎◌, List, [], ◌∷◌, ◌++◌, length, take}
 use Rattle.std.specs.Io.KnownBytes.{Appends, Consumes, IsAtEnd}
-use Rattle.mud_nvt.specs.Units.{Given, units}
-use Rattle.mud_serve.specs.Desk.{opening}
-use Rattle.mud_serve.specs.Session.{Talk, Turn, text_of, talk_after, AreReplied}
+use Rattle.mud_nvt.specs.Units.{units}
+use Rattle.mud_serve.specs.Ends.{Reader, Writer}
+use Rattle.mud_serve.specs.Session.{Acts, Talk, Play, text_of}
 
--- each unit with what its line was replied; past the end of the list all are refused
-abbrev pub marked : List Given → List (Option (List ℕ)) → List Turn
-marked [] replies = []
-marked (u ∷ us) [] = record { unit = u; reply = None } ∷ marked us []
-marked (u ∷ us) (r ∷ rs) = record { unit = u; reply = r } ∷ marked us rs
+-- the bytes that were read, and a line feed behind them where the reader's end was seen
+abbrev pub heard : Reader → List ℕ → List ℕ
+heard reader bytes = if reader.at_end then bytes ++ 10 ∷ [] else bytes
 
--- where a script begins
-abbrev pub begins : ℕ → Talk
-begins capacity = record { desk = opening capacity; has_ended = false }
-
--- the units of the bytes and one LF, with what their lines were replied
-abbrev pub script_turns : List ℕ → List (Option (List ℕ)) → List Turn
-script_turns bytes replies = marked (units (bytes ++ 10 ∷ [])) replies
-
--- the lines of the bytes and one LF were replied what a desk of this capacity replies
-abbrev pub AreScriptReplies : List ℕ → ℕ → List (Option (List ℕ)) → Type 0
-AreScriptReplies bytes capacity replies = AreReplied (begins capacity) (script_turns bytes replies)
-
--- the text of these bytes and one LF with these replies; a line without one answers `(out of memory)` and is no step
-abbrev pub script_text : List ℕ → ℕ → List (Option (List ℕ)) → List ℕ
-script_text bytes capacity replies = text_of (begins capacity) (script_turns bytes replies)
-
--- whether a `quit` is answered
-abbrev pub has_quit : List ℕ → ℕ → List (Option (List ℕ)) → Bool
-has_quit bytes capacity replies = (talk_after (begins capacity) (script_turns bytes replies)).has_ended
-
--- some bytes were read, and exactly their text was written; no more would come, or `quit` was answered
-pub record Answers (readable still_readable held now_held : Option (List ℕ)) (capacity : ℕ) : Type 0 where
+-- what a session that stood at the start played of what was read
+pub record Script {D : Type 0} (acts : Acts D) (start : Talk D) (old new : Reader) : Type 0 where
   pub bytes : List ℕ
-  pub replies : List (Option (List ℕ))
-  pub read : Consumes readable still_readable bytes
-  pub written : Appends held now_held (script_text bytes capacity replies)
-  pub replied : AreScriptReplies bytes capacity replies
-  pub done : IsAtEnd still_readable ⊎ (has_quit bytes capacity replies ≡ true)
+  pub read : Consumes old.left new.left bytes
+  pub end : new.at_end ≡ true → IsAtEnd new.left
+  pub talk : Talk D
+  pub play : Play acts start (units (heard new bytes)) talk
 
--- some bytes were read, and what was written is a front of their text
-pub record AnswersInPart (readable still_readable held now_held : Option (List ℕ)) (capacity : ℕ) : Type 0 where
-  pub bytes : List ℕ
-  pub replies : List (Option (List ℕ))
-  pub front : List ℕ
-  pub rest : List ℕ
-  pub read : Consumes readable still_readable bytes
-  pub written : Appends held now_held front
-  pub whole : front ++ rest ≡ script_text bytes capacity replies
-  pub replied : AreScriptReplies bytes capacity replies
+-- all its text was written; the end was seen and each unit had its turn, or `quit` was answered
+pub record IsWhole {D : Type 0} (acts : Acts D) (start : Talk D) (reader read : Reader)
+    (writer written : Writer) : Type 0 where
+  pub script : Script acts start reader read
+  pub writes : Appends writer.holds written.holds (text_of script.play.turns)
+  pub done : ((read.at_end ≡ true) × (script.play.left ≡ [])) ⊎ (script.talk.has_ended ≡ true)
 
--- the bytes that were read, at least as many as reads, hold no `quit` that was answered
-pub record RunsOn (reads : ℕ) (readable still_readable : Option (List ℕ)) (capacity : ℕ) : Type 0 where
-  pub bytes : List ℕ
-  pub replies : List (Option (List ℕ))
-  pub read : Consumes readable still_readable bytes
-  pub many : reads ≤ length bytes
-  pub replied : AreReplied (begins capacity) (marked (units bytes) replies)
-  pub open_still : (talk_after (begins capacity) (marked (units bytes) replies)).has_ended ≡ false
+-- a front of its text was written
+pub record IsFront {D : Type 0} (acts : Acts D) (start : Talk D) (reader read : Reader)
+    (writer written : Writer) : Type 0 where
+  pub script : Script acts start reader read
+  pub count : ℕ
+  pub writes : Appends writer.holds written.holds (take count (text_of script.play.turns))
+
+-- all its text was written and each unit had its turn, none of them an answered `quit`; the end was not seen, and
+-- each read gave a byte
+pub record IsOpen {D : Type 0} (acts : Acts D) (start : Talk D) (reader read : Reader)
+    (writer written : Writer) : Type 0 where
+  pub script : Script acts start reader read
+  pub writes : Appends writer.holds written.holds (text_of script.play.turns)
+  pub all : script.play.left ≡ []
+  pub goes_on : script.talk.has_ended ≡ false
+  pub no_end : read.at_end ≡ false
+  pub many : read.reads ≤ length script.bytes

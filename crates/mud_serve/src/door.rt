@@ -1,8 +1,9 @@
 //! Where the lines of a session are answered.
 
-ghost use Rattle.std.specs.Prelude.{◌≡◌, List, ℕ, Bool, Option, Some, None, IfOk, OnErr, string_bytes};
+ghost use Rattle.std.specs.Prelude.{Some, None, IfOk, OnErr, string_bytes};
 ghost use Rattle.mud_serve.specs.Desk.{Desk};
 ghost use Rattle.mud_serve.specs.Door.{SoloActs};
+ghost use Rattle.mud_serve.specs.Session.{Acts};
 
 use crate::solo::Solo;
 use std::alloc::AllocError;
@@ -19,11 +20,12 @@ pub struct Reply {
 pub trait Door {
     ghost desk: { Self → Desk };
 
-    ghost acts: { Desk → List ℕ → Option (List ℕ × Bool) → Desk → Type 0 };
+    ghost acts: { Acts Desk };
 
     /// Answers a line that is not blank. Where memory is refused it is no step.
     fn answer(&mut self, line: &str) -> Result<Reply, AllocError>
-        ensures ok { IfOk result (λ reply. acts (desk self.old) line.now (Some (string_bytes reply.text, reply.is_last)) (desk self.new)) }
+        ensures ok { IfOk result (λ reply. acts (desk self.old) line.now
+            (Some (record { text = string_bytes reply.text; is_last = reply.is_last })) (desk self.new)) }
         ensures err { OnErr result (acts (desk self.old) line.now None (desk self.new)) };
 }
 

@@ -1,52 +1,37 @@
 //! `mud_serve`: a server of text worlds.
 #![tactic(auto)]
 
+ghost use Rattle.std.specs.Prelude.{◌≤◌, IfOk};
+
 mod answers;
-mod command_line;
 mod door;
 mod laws;
 mod script;
 mod session;
+mod sink;
 mod solo;
 mod source;
 
-use crate::command_line::limits_of;
 use crate::script::{ScriptFault, script};
+use crate::sink::Sink;
 use crate::source::Source;
-use clap::error::ErrorKind;
-use std::alloc::Global;
+use mud_command::{CommandFault, Limits, limits_of, show, words_of};
 use std::io;
 use std::process::ExitCode;
 
 fn main(rt: HostRuntime) -> ExitCode {
-    let alloc = rt.alloc();
-    let words: Vec<String> = match words_of(&rt, alloc) {
-        Ok(words) => words,
-        Err(error) => {
-            if error.kind() == io::ErrorKind::OutOfMemory {
-                return stopped(&rt, ScriptFault::OutOfMemory);
-            }
-            let _ = eprintln!(rt; "error: a word of the command line is not UTF-8");
-            return ExitCode::from(2);
-        }
-    };
-    let limits = match limits_of(alloc, words.as_slice()) {
+    let limits = match limits_given(&rt) {
         Ok(limits) => limits,
-        Err(error) => {
-            if error.kind() == ErrorKind::OutOfMemory {
-                return stopped(&rt, ScriptFault::OutOfMemory);
-            }
-            let _ = eprint!(rt; "{error}");
-            return ExitCode::from(2);
-        }
+        Err(CommandFault::OutOfMemory) => return stopped(&rt, ScriptFault::OutOfMemory),
+        Err(CommandFault::Told(text)) => return ExitCode::from(show(&rt, text.as_str())),
     };
     let mut source = Source::new(rt.reader());
-    let mut writer = io::writer(&rt);
+    let mut sink = Sink::new(io::writer(&rt));
     match script(
         &rt,
-        alloc,
+        rt.alloc(),
         &mut source,
-        &mut writer,
+        &mut sink,
         limits.capacity,
         limits.workers,
     ) {
@@ -55,10 +40,12 @@ fn main(rt: HostRuntime) -> ExitCode {
     }
 }
 
-// The words of the command line.
-fn words_of(rt: &HostRuntime, alloc: Global) -> io::Result<Vec<String>> {
-    let words = std::env::args(rt)?.collect(alloc)?;
-    Ok(words)
+// What the words of the command line ask for.
+fn limits_given(rt: &HostRuntime) -> Result<Limits, CommandFault>
+    ensures { IfOk result (λ limits. limits.capacity ≤ 65536) }
+{
+    let words = words_of(rt)?;
+    limits_of(rt.alloc(), words.as_slice())
 }
 
 // Says why the program stopped, where that can be said, and answers its status.

@@ -1,12 +1,15 @@
 //! A desk of one user, with a world of its own.
 
-ghost use Rattle.std.specs.Prelude.{false, ◌≡◌, ◌+◌, ◌<◌, ◌≤◌, ◌++◌, [], ◌∷◌, Some, None, IfOk, OnOk, OnErr, codes, decimal, length, string_bytes, IsTrue, if◌then◌else◌};
+ghost use Rattle.std.specs.Prelude.{false, ◌≡◌, ◌+◌, ◌<◌, ◌≤◌, Some, None, IfOk, OnOk, OnErr};
+ghost use Rattle.std.specs.Prelude.{codes, string_bytes, IsTrue};
 ghost use Rattle.mud_world.specs.Legal.{refusal};
 ghost use Rattle.mud_world.specs.State.{is_player};
 ghost use Rattle.mud_rules.specs.Outcome.{IsJourney, IsLawful, IsQuestion};
 ghost use Rattle.mud_rules.specs.Replies.{reply_text, refusal_text, welcome_text};
 ghost use Rattle.mud_rules.specs.Answers.{show_text};
-ghost use Rattle.mud_serve.specs.Desk.{opening, world_at, version, is_full, numbered, IsGuided, IsTold, IsProof, IsAnswer, Replies, settled, seated, accepted, is_last, is_quit, IsReply, ends, desk_after};
+ghost use Rattle.mud_serve.specs.Desk.{opening, world_at, version, is_full, numbered, settled, seated, accepted};
+ghost use Rattle.mud_serve.specs.Desk.{IsGuided, IsTold, IsProof, IsAnswer, Replies, IsReply};
+ghost use Rattle.mud_serve.specs.Desk.{is_last, is_quit, ends, desk_after};
 
 use crate::answers::{history_answer, proof_answer};
 use crate::door::Reply;

@@ -3,8 +3,8 @@ use Rattle.mud_explain.specs.Explained.{Says}
 use Rattle.mud_explain.proofs.Answering.{GoesOn}
 use Rattle.mud_explain.proofs.lines.explained_lines.Given as goal
 
-abbrev pub invariant-loop-line : goal.invariant-loop-line
-invariant-loop-line l = GoesOn (Says l.reading) l.input l.rest (string_bytes l.out)
+abbrev pub invariant-loop-at : goal.invariant-loop-at
+invariant-loop-at l = GoesOn (Says l.reading) l.input l.rest (string_bytes l.out)
 
-abbrev pub decreases-loop-line : goal.decreases-loop-line
-decreases-loop-line l = length l.rest
+abbrev pub decreases-loop-at : goal.decreases-loop-at
+decreases-loop-at l = length l.rest

@@ -6,7 +6,7 @@ use Rattle.mud_serve.proofs.script.write_whole.Given as goal
 abbrev pub invariant-loop-at : goal.invariant-loop-at
 invariant-loop-at g l = record {
   within : l.at ≤ length l.text;
-  written : Appends (g.W.Write.contents l.fn.writer) (g.W.Write.contents l.writer) (take l.at l.text);
+  written : Appends l.fn.sink.holds l.sink.holds (take l.at l.text);
 }
 
 abbrev pub decreases-loop-at : goal.decreases-loop-at

@@ -1,0 +1,92 @@
+//! Two texts, judged.
+
+ghost use Rattle.std.specs.Prelude.{◌≡◌, ◌≢◌, false, IfErr, IfOk, IfSome, OnOk};
+ghost use Rattle.std.specs.Io.KnownBytes.{IsAtEnd};
+ghost use Rattle.std.specs.IoError.{error_kind};
+ghost use Rattle.mud_check.specs.Said.{IsJudged, IsInputFault};
+
+use crate::input::split;
+use crate::outcome::{Outcome, verdict};
+use crate::source::Source;
+use std::alloc::{AllocError, Global};
+use std::fs;
+use std::io::{self, ErrorKind, Read};
+use std::rt::Files;
+use thiserror::Error;
+
+/// Why there is no verdict.
+#[derive(Clone, Copy, Debug, Error)]
+pub enum Unread<'a> {
+    /// Memory ran out.
+    #[error("unreadable: out of memory")]
+    OutOfMemory,
+    /// The file of this name can't be read; `-` is standard input.
+    #[error("unreadable: file {0}")]
+    File(&'a str),
+}
+
+// Why the file of this name was not read.
+fn reason_of<'a>(name: &'a str, error: &io::Error) -> Unread<'a>
+    ensures memory { error_kind error.now ≡ ErrorKind.OutOfMemory → result ≡ Unread.OutOfMemory }
+    ensures file { error_kind error.now ≢ ErrorKind.OutOfMemory → result ≡ Unread.File name.entry }
+{
+    match error.kind() {
+        ErrorKind::OutOfMemory => Unread::OutOfMemory,
+        _ => Unread::File(name),
+    }
+}
+
+// The bytes of the file of this name.
+fn file<'a, R: Files + AllocGlobal>(rt: &R, name: &'a str) -> Result<Vec<u8>, Unread<'a>> {
+    match fs::read(rt, name) {
+        Ok(bytes) => Ok(bytes),
+        Err(error) => Err(reason_of(name, &error)),
+    }
+}
+
+/// Reads the two files, the history first, and judges their texts.
+pub fn judge_files<'a, R: Files + AllocGlobal>(
+    rt: &R,
+    history: &'a str,
+    proof: &'a str,
+) -> Result<Outcome, Unread<'a>> {
+    let history = file(rt, history)?;
+    let proof = file(rt, proof)?;
+    match verdict(rt.alloc(), &history, &proof) {
+        Ok(outcome) => Ok(outcome),
+        Err(AllocError) => Err(Unread::OutOfMemory),
+    }
+}
+
+// All that the source has left.
+fn input<R: Read>(alloc: Global, source: &mut Source<R>) -> Result<Vec<u8>, Unread<'static>>
+    ensures bytes { IfOk result (λ input. IfSome (R.remaining source.old.inner) (λ bytes. input.items ≡ bytes)) }
+    ensures end { OnOk result (IsAtEnd (R.remaining source.new.inner)) }
+    ensures read { OnOk result (source.new.has_failed ≡ false) }
+    ensures fault { IfErr result (IsInputFault source.new.has_failed) }
+{
+    let mut bytes = Vec::new(alloc);
+    match source.read_to_end(&mut bytes) {
+        Ok(_) => Ok(bytes),
+        Err(error) => Err(reason_of("-", &error)),
+    }
+}
+
+/// Reads a history's text and a proof's, one behind the other, to the source's end, and judges
+/// them. The file `-` is the answer where the source failed, and nowhere else.
+pub fn judge_input<R: Read>(
+    alloc: Global,
+    source: &mut Source<R>,
+) -> Result<Outcome, Unread<'static>>
+    ensures ok { IfOk result (λ outcome. IfSome (R.remaining source.old.inner) (λ bytes. IsJudged bytes outcome)) }
+    ensures end { OnOk result (IsAtEnd (R.remaining source.new.inner)) }
+    ensures read { OnOk result (source.new.has_failed ≡ false) }
+    ensures fault { IfErr result (IsInputFault source.new.has_failed) }
+{
+    let bytes = input(alloc, source)?;
+    let (history, proof) = split(&bytes);
+    match verdict(alloc, history, proof) {
+        Ok(outcome) => Ok(outcome),
+        Err(AllocError) => Err(Unread::OutOfMemory),
+    }
+}

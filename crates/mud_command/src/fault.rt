@@ -1,0 +1,53 @@
+//! Why a command line asks for nothing.
+
+ghost use Rattle.std.specs.Prelude.{◌≡◌};
+
+use clap::Error;
+use clap::error::ErrorKind;
+use std::alloc::{AllocError, Global};
+use std::fmt::Write;
+use std::io::Eprint;
+use thiserror::Error;
+
+/// Why the words of a command line ask for nothing.
+#[derive(Debug, Drop, Error)]
+pub enum CommandFault {
+    /// Memory ran out.
+    #[error("out of memory")]
+    OutOfMemory,
+    /// What is wrong with the words, in whole lines; help is such a text too.
+    #[error("{0}")]
+    Told(String),
+}
+
+// The text of an error.
+fn text_of(alloc: Global, error: &Error) -> Result<String, AllocError> {
+    let mut text = String::new(alloc);
+    write!(&mut text, "{error}")?;
+    Ok(text)
+}
+
+// The fault of a text that was made, or was not for want of memory.
+pub(crate) fn fault_of(text: Result<String, AllocError>) -> CommandFault {
+    match text {
+        Ok(text) => CommandFault::Told(text),
+        Err(_) => CommandFault::OutOfMemory,
+    }
+}
+
+// What `clap` says, as a fault.
+pub(crate) fn told(alloc: Global, error: &Error) -> CommandFault {
+    if error.kind() == ErrorKind::OutOfMemory {
+        return CommandFault::OutOfMemory;
+    }
+    fault_of(text_of(alloc, error))
+}
+
+/// Writes the text of a fault to standard error, where that can be written, and answers the status of a
+/// command line that asks for nothing, which is 2 (this project's profile).
+pub fn show<R: Eprint>(rt: &R, text: &str) -> u8
+    ensures { result ≡ 2 }
+{
+    let _ = rt.eprint(text);
+    2
+}

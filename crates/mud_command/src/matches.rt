@@ -1,0 +1,31 @@
+//! What `clap` reads in the words.
+
+use crate::fault::{CommandFault, told};
+use clap::error::ErrorKind;
+use clap::{ArgMatches, Command};
+use std::alloc::Global;
+
+// What a command line reads in the words.
+pub(crate) fn matches_of<'a>(
+    alloc: Global,
+    command: &mut Command<'a>,
+    words: &'a [String],
+) -> Result<ArgMatches<'a>, CommandFault> {
+    match command.try_get_matches_from_mut(words) {
+        Ok(matches) => Ok(matches),
+        Err(error) => Err(told(alloc, &error)),
+    }
+}
+
+// What is told of words that were read and still ask for nothing.
+pub(crate) fn unfit(
+    alloc: Global,
+    command: &mut Command<'_>,
+    kind: ErrorKind,
+    message: &str,
+) -> CommandFault {
+    match command.error(kind, message) {
+        Ok(error) => told(alloc, &error),
+        Err(_) => CommandFault::OutOfMemory,
+    }
+}

@@ -1,0 +1,69 @@
+//! The command line of `mud_check`.
+
+use crate::fault::CommandFault;
+use crate::matches::{matches_of, unfit};
+use clap::error::ErrorKind;
+use clap::{Arg, ArgMatches, Command};
+use std::alloc::{AllocError, Global};
+
+/// Where a history's text and a proof's are.
+#[derive(Clone, Copy, Debug)]
+pub enum Sources<'a> {
+    /// In two files of these names.
+    Files { history: &'a str, proof: &'a str },
+    /// One behind the other in standard input.
+    Input,
+}
+
+/// Where the words of `mud_check` say that the texts are: in two files, or in standard input where there
+/// are none but the program's name, which is the first.
+pub fn sources_of<'a>(alloc: Global, words: &'a [String]) -> Result<Sources<'a>, CommandFault> {
+    match command(alloc) {
+        Ok(mut command) => sources_by(alloc, &mut command, words),
+        Err(_) => Err(CommandFault::OutOfMemory),
+    }
+}
+
+// Where the texts are, as the command line reads the words.
+fn sources_by<'a>(
+    alloc: Global,
+    command: &mut Command<'a>,
+    words: &'a [String],
+) -> Result<Sources<'a>, CommandFault> {
+    let matches = matches_of(alloc, command, words)?;
+    match sources_in(&matches) {
+        Some(sources) => Ok(sources),
+        None => {
+            let message = "a history needs a proof beside it";
+            Err(unfit(alloc, command, ErrorKind::MissingRequiredArgument, message))
+        }
+    }
+}
+
+// The files that were named, both or none.
+fn sources_in<'a>(matches: &ArgMatches<'a>) -> Option<Sources<'a>> {
+    match (matches.get_str("HISTORY"), matches.get_str("PROOF")) {
+        (Some(history), Some(proof)) => Some(Sources::Files { history, proof }),
+        (None, None) => Some(Sources::Input),
+        (Some(_), None) | (None, Some(_)) => None,
+    }
+}
+
+// The command line that is understood.
+fn command<'a>(alloc: Global) -> Result<Command<'a>, AllocError> {
+    let about =
+        "Tries a certificate against a history; without files it reads the history's text and then the \
+        proof's from standard input";
+    Command::new(alloc, "mud_check")
+        .about(about)
+        .arg(history(alloc))?
+        .arg(proof(alloc))
+}
+
+fn history<'a>(alloc: Global) -> Arg<'a> {
+    Arg::new(alloc, "HISTORY").help("The file of the history's text")
+}
+
+fn proof<'a>(alloc: Global) -> Arg<'a> {
+    Arg::new(alloc, "PROOF").help("The file of the proof's text")
+}

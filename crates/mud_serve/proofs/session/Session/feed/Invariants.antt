@@ -1,8 +1,0 @@
-use Rattle.std.proofs.Common.{take}
-use Rattle.mud_nvt.specs.Shown.{all_shown}
-use Rattle.mud_serve.proofs.TalkLemmas.{SoFar}
-use Rattle.mud_serve.proofs.session.Session.feed.Given as goal
-
--- the units gone over had their turns
-abbrev pub invariant-loop-unit : goal.invariant-loop-unit
-invariant-loop-unit g l = SoFar g.D.Door.acts (all_shown (take l.unit-index l.unit-items)) l.initial.self l.self (g.D.Door.desk l.initial.door) (g.D.Door.desk l.door)

@@ -4,11 +4,11 @@ use Rattle.std.specs.declared.alloc.Global.{Global}
 use Rattle.once_cell.specs.Once.{cell_name, Agrees}
 use Rattle.once_cell.specs.declared.race.note.Note.{Note}
 use mathlib.Core.List.{IsPrefix}
-use Rattle.std.specs.Prelude.{MatchOption, IfSome}
+use Rattle.std.specs.Prelude.{MatchOption, IfSome, Result, Ok, Err, OnErr}
 use Rattle.std.specs.Option.{option_copied}
 use Rattle.mud_chron.specs.Entry.{Accepted}
 use Rattle.std.proofs.Math.ListN.{length-set}
-use Rattle.mud_row.specs.Known.{Known, entry_at, names_of, entry_first, known_front, known_of, AreCounted}
+use Rattle.mud_row.specs.Known.{Known, Fills, entry_at, names_of, entry_first, known_front, known_of, AreCounted}
 
 -- the note at a place has the name of the cell at that place
 pub name_at : (cells : List (Global × ℕ)) (ns : List (Note Accepted)) (i : ℕ) (c : Global × ℕ) (n : Note Accepted) → names_of ns ≡ map cell_name cells → i < length cells → c ≡ get_or cells i c → n ≡ get_or ns i n → n.cell ≡ cell_name c
@@ -211,3 +211,25 @@ counted-more k ns m e counted lt known = (
 pub found_place : (r : Option (Bor Accepted)) (x : Accepted) (n known : ℕ) → option_copied r ≡ Some x → 1 ≤ n → n ≤ known → MatchOption r ((n ≡ 0) ⊎ (known < n)) (λ _. (1 ≤ n) × (n ≤ known))
 found_place None x n known is from to = absurd (cc)
 found_place (Some b) x n known is from to = (from, to)
+
+take_front : (es fs : List Accepted) → take (length es) (es ++ fs) ≡ es
+take_front [] fs = refl
+take_front (e ∷ es) fs = ap (λ w. e ∷ w) (take_front es fs)
+
+-- where the entries that are left make up the whole, some first ones of all were added
+pub fills : (old new rest entries : List Accepted) → length old ≤ length new → new ++ rest ≡ old ++ entries → Fills old entries new
+fills [] new rest entries le e = record {
+  count = length new;
+  few = omega (arith, ap length e, length-append new rest);
+  is = sym (take_front new rest) ∙ ap (take (length new)) e;
+}
+fills (x ∷ old) [] rest entries le e = absurd (omega arith)
+fills (x ∷ old) (y ∷ new) rest entries le e =
+    let f = fills old new rest entries (omega arith) (cc) in
+    let head : y ≡ x = cc in
+    record { count = f.count; few = f.few; is = ap (λ w. w ∷ new) head ∙ ap (λ w. x ∷ w) f.is }
+
+-- what holds anyway holds after a fault
+pub any_err : {A E : Type 0} (r : Result A E) (P : Type 0) → P → OnErr r P
+any_err (Ok a) P p = tt
+any_err (Err e) P p = p

@@ -1,5 +1,5 @@
 -- What is known of a row of cells, each of which takes one entry and keeps it.
-use Rattle.std.specs.Prelude.{◌≡◌, ◌≤◌, length, ℕ, zero, suc, List, [], ◌∷◌, Option, Some, None, slice_get, take}
+use Rattle.std.specs.Prelude.{◌≡◌, ◌≤◌, length, ℕ, zero, suc, List, [], ◌∷◌, Option, Some, None, slice_get, take, ◌++◌}
 use Rattle.once_cell.specs.declared.race.note.Note.{Note}
 use Rattle.mud_world.specs.State.{State}
 use Rattle.mud_world.specs.History.{world_of}
@@ -49,3 +49,9 @@ AreCounted count notes = (length notes ≤ 65536) × (length (known_front count 
 abbrev pub entry_at : List Accepted → ℕ → Option Accepted
 entry_at es zero = None
 entry_at es (suc n) = slice_get es n
+
+-- the list is longer by some first ones of the entries
+pub record Fills (old entries new : List Accepted) : Type 0 where
+  pub count : ℕ
+  pub few : count ≤ length entries
+  pub is : new ≡ old ++ take count entries

@@ -14,13 +14,15 @@
 //! | `Pass::known` | how many entries are known |
 //! | `Row::publish` | sets the first cell that is not known, or gives the entry back: [`RowFault`] |
 //! | `Row::next` | the entry of the first cell that is not known, which is known from then on |
+//! | `Row::fill` | sets the first cells that are not known to entries in order: [`FillFault`] |
 //! | `Row::entry` | a known entry, counted from 1 |
 //! | `Pass::learn`, `Pass::agree` | the longer knowledge of two, and that one begins the other |
 //! | `Replica::new`, `known`, `at`, `world` | a replica, what it knows, and the world of what it took in |
 //! | `Replica::extend`, `publish`, `learn` | know more; the world stays |
 //! | `Replica::peek`, `step`, `catch_up` | the next known entry; takes in that one, or all |
 //! | `Replica::see` | `extend`, and then `catch_up` |
-//! | `Replica::entry`, `tell` | a known entry; a pass learns what the replica knows |
+//! | `Replica::entry`, `tell`, `hear` | a known entry; a pass learns what the replica knows, or it what a pass knows |
+//! | `Replica::copy` | an equal replica, with a copy of the world |
 //!
 //! ```text
 //! let row = Row::new(alloc, 65536)?;
@@ -33,8 +35,8 @@
 //! ```
 //!
 //! A pass, or a replica, is used with the row that made it: a contract asks that the names of the
-//! cells be those of the row. Memory is asked for by `Row::new`, `Row::pass`, `Pass::again`,
-//! `Replica::new`, `step`, `catch_up` and `see`, and by no other call. What is known of a cell is
+//! cells be those of the row. Memory is asked for by `Row::new`, `Row::pass`, `Row::fill`,
+//! `Pass::again`, `Replica::new`, `copy`, `step`, `catch_up` and `see`, and by no other call. What is known of a cell is
 //! read through a `&mut` today, so `entry`, `learn`, `agree`, `again`, `peek` and `tell` take the
 //! pass or replica that they read by `&mut`, and say that it stays as it was.
 //!
@@ -49,7 +51,7 @@ mod pass;
 mod replica;
 mod row;
 
-pub use fault::RowFault;
+pub use fault::{FillFault, RowFault};
 pub use pass::Pass;
 pub use replica::Replica;
 pub use row::Row;

@@ -209,6 +209,36 @@ impl Replica {
     {
         self.pass.learn(&mut other.pass);
     }
+
+    /// Learns what the pass knows, as `Pass::learn`. The world stays as it was, and so does the pass.
+    /// It takes no memory.
+    pub fn hear(&mut self, pass: &mut Pass)
+        requires { self.old.row ≡ pass.old.row }
+        ensures pass_same { pass.new ≡ pass.old }
+        ensures still { (self.new.row ≡ self.old.row) × (self.new.at ≡ self.old.at) }
+        ensures longer { (self.new.list ≡ self.old.list) ⊎ (self.new.list ≡ pass.old.list) }
+        ensures mine { IsPrefix self.old.list self.new.list }
+        ensures theirs { IsPrefix pass.old.list self.new.list }
+        ensures within { self.old.at ≤ length self.old.list }
+    {
+        self.pass.learn(pass);
+    }
+
+    /// An equal replica, whose world is a copy; this one stays as it was. Only want of memory is an
+    /// error.
+    pub fn copy(&mut self, alloc: Global) -> Result<Replica, AllocError>
+        ensures same { self.new ≡ self.old }
+        ensures copy { IfOk result (λ r. r ≡ self.old) }
+        ensures within { self.old.at ≤ length self.old.list }
+    {
+        let world = self.world.copy()?;
+        let pass = self.pass.again(alloc)?;
+        Ok(Replica {
+            world,
+            at: self.at,
+            pass,
+        })
+    }
 }
 
 // Takes an entry into the world: one whose change is not legal changes nothing. Where memory is

@@ -1,10 +1,10 @@
 //! The cells of one history.
 
-ghost use Rattle.std.specs.Prelude.{◌≡◌, ◌++◌, ◌∷◌, [], ◌<◌, ◌≤◌, ◌+◌, ◌↔◌, ◌⊎◌, length, IfOk, IfErr, IsErrAnd, MatchOption};
+ghost use Rattle.std.specs.Prelude.{◌≡◌, ◌++◌, ◌∷◌, [], ◌<◌, ◌≤◌, ◌+◌, ◌↔◌, ◌⊎◌, length, IfOk, IfErr, IsErrAnd, MatchOption, OnOk, OnErr, take};
 ghost use Rattle.std.specs.Option.{option_copied};
-ghost use Rattle.mud_row.specs.Known.{entry_at};
+ghost use Rattle.mud_row.specs.Known.{entry_at, Fills};
 
-use crate::fault::RowFault;
+use crate::fault::{FillFault, RowFault};
 use crate::pass::Pass;
 use mud_chron::Entry;
 use once_cell::race::OnceBox;
@@ -124,5 +124,26 @@ impl Row {
         }
         let at = (n - 1) as usize;
         self.cells[at].get_as(&mut pass.notes[at])
+    }
+
+    /// Sets the first cells that the pass does not know to these entries, in order. After a fault the
+    /// pass knows some first ones of them. It is `HistoryFull` only where they do not fit behind what
+    /// the pass knows, and `Unpublished` where a cell did not take its entry.
+    pub fn fill(&self, alloc: Global, pass: &mut Pass, entries: Vec<Entry>) -> Result<(), FillFault>
+        requires { pass.old.row ≡ self.now }
+        ensures row { pass.new.row ≡ pass.old.row }
+        ensures ok { OnOk result (pass.new.list ≡ pass.old.list ++ entries.items) }
+        ensures err { OnErr result (Fills pass.old.list entries.items pass.new.list) }
+        ensures full { IsErrAnd result (λ f. f ≡ FillFault.HistoryFull) → length self.now < length pass.old.list + length entries.items }
+    {
+        for entry in entries {
+            let entry = Box::new(alloc, entry)?;
+            match self.publish(pass, entry) {
+                Ok(_) => {}
+                Err((_, RowFault::HistoryFull)) => return Err(FillFault::HistoryFull),
+                Err((_, RowFault::Unpublished)) => return Err(FillFault::Unpublished),
+            }
+        }
+        Ok(())
     }
 }

@@ -2,9 +2,10 @@
 
 ghost use Rattle.std.specs.Prelude.{◌<◌, ◌^◌};
 
-use crate::village::{act, world};
+use crate::village::take_in;
+use mud_chron::{Entry, read_history};
 use mud_world::World;
-use std::alloc::Global;
+use std::alloc::{AllocError, Global};
 use std::test::Fail;
 
 /// A row of numbers: each is the last one times a constant, and a constant more (D. E. Knuth,
@@ -28,27 +29,54 @@ impl Dice {
     }
 }
 
-// A change by #1 or #2, which may be illegal.
-fn any_change(alloc: Global, dice: &mut Dice) -> Result<String, Fail> {
-    let actor = if dice.roll(2) == 0 { 1 } else { 2 };
-    let number = dice.roll(16);
-    let cost = dice.roll(4);
-    Ok(match dice.roll(9) {
-        0 | 1 => format!(in alloc; "dig #{actor} new \"Room\" out \"out\" back \"back\"")?,
-        2 => format!(in alloc; "dig #{actor} old #{number} out \"out\" back \"back\"")?,
-        3 => format!(in alloc; "lock #{actor} #{number} !#1")?,
-        4 => format!(in alloc; "unlock #{actor} #{number}")?,
-        5 | 6 => format!(in alloc; "walk #{actor} #{number}")?,
-        _ => format!(in alloc; "cost #{actor} #{number} {cost}")?,
-    })
+// The words of a change: before its actor, and before and behind its number.
+fn words(side: u32) -> (&'static str, &'static str, &'static str) {
+    match side {
+        0..=3 => ("dig", "new \"Room ", "\" out \"out\" back \"back\""),
+        4 | 5 => ("dig", "old #", " out \"out\" back \"back\""),
+        6 => ("lock", "#", " !#1"),
+        7 => ("lock", "#", " !#2"),
+        8 => ("unlock", "#", ""),
+        9..=11 => ("walk", "#", ""),
+        12 => ("cost", "#", " 0"),
+        13 => ("cost", "#", " 1"),
+        14 => ("cost", "#", " 2"),
+        _ => ("cost", "#", " 3"),
+    }
 }
 
-/// A world of a few rooms, with the players #1 and #2; some exits and rooms are locked to #1.
-pub(crate) fn any_world(alloc: Global, dice: &mut Dice) -> Result<World, Fail> {
-    let mut world = world(alloc, "player #2 \"Bob\"")?;
-    for _ in 0..40 {
-        let change = any_change(alloc, dice)?;
-        let _refusal = act(alloc, &mut world, &change)?;
+// The line of an entry with a change by #1 or #2, which may be illegal.
+fn any_line(alloc: Global, dice: &mut Dice, version: u32) -> Result<String, AllocError> {
+    let actor = if dice.roll(2) == 0 { 1 } else { 2 };
+    let number = dice.roll(16);
+    let (deed, front, back) = words(dice.roll(16));
+    format!(in alloc; "{version} 1 {deed} #{actor} {front}{number}{back}\n")
+}
+
+// A history in which the player #2 comes, and 40 such changes.
+fn any_history(alloc: Global, dice: &mut Dice) -> Result<String, AllocError> {
+    let mut text = String::from_str(alloc, "mud history 2\n1 1 player #2 \"Bob\"\n")?;
+    for version in 2..42 {
+        text.push_str(&any_line(alloc, dice, version)?)?;
     }
+    text.push_str("end 41\n")?;
+    Ok(text)
+}
+
+// Does each change that is legal.
+fn take_all(world: &mut World, entries: &[Entry]) -> Result<(), Fail> {
+    for entry in entries {
+        take_in(world, entry)?;
+    }
+    Ok(())
+}
+
+/// A world of a few rooms, with the players #1 and #2; some exits and rooms are locked to one
+/// of them.
+pub(crate) fn any_world(alloc: Global, dice: &mut Dice) -> Result<World, Fail> {
+    let text = any_history(alloc, dice)?;
+    let entries = read_history(alloc, text.as_bytes())?;
+    let mut world = World::opening(alloc)?;
+    take_all(&mut world, &entries)?;
     Ok(world)
 }

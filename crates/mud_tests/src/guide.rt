@@ -1,11 +1,11 @@
 //! The guide on random worlds, against a slow program of the definitions.
 
 use crate::dice::{Dice, any_world};
-use crate::plain::{plain_labels, plain_place, plain_way};
+use crate::plain::Plain;
 use mud_guide::{meet_alone, route_alone};
-use mud_roads::Traveller;
 use mud_world::World;
 use std::alloc::{AllocError, Global};
+use std::process::Abort;
 use std::test::Fail;
 
 // What the guide says of a route, where there are such a player and such a room.
@@ -18,7 +18,7 @@ fn route(alloc: Global, world: &World, player: u32, room: u32) -> Result<String,
 }
 
 // What the guide says of a meeting of #2 and #1, where there are such players.
-fn meet(alloc: Global, world: &World) -> Result<String, AllocError> {
+fn meeting(alloc: Global, world: &World) -> Result<String, AllocError> {
     if world.is_player(1) && world.is_player(2) {
         Ok(meet_alone(alloc, world, 7, &[2, 1])?.text)
     } else {
@@ -26,72 +26,69 @@ fn meet(alloc: Global, world: &World) -> Result<String, AllocError> {
     }
 }
 
-// Whether all routes of a player are those of the slow program.
-fn routes_are_plain(
+// Sees that the guide says of a route to a room what the slow program says.
+fn check_route(
+    rt: &impl Abort,
     alloc: Global,
     world: &World,
-    traveller: &Traveller,
-) -> Result<bool, AllocError> {
-    let labels = plain_labels(alloc, traveller, world.next_number())?;
-    let from = traveller.place();
-    let mut alike = true;
+    player: u32,
+    plain: &Plain,
+    room: u32,
+) -> Result<(), Fail> {
+    let found = route(alloc, world, player, room)?;
+    let wanted = plain.route(alloc, room)?;
+    assert_eq!(rt; found.as_str(), wanted.as_str());
+    Ok(())
+}
+
+// Sees the same of the routes to all rooms.
+fn check_routes(
+    rt: &impl Abort,
+    alloc: Global,
+    world: &World,
+    player: u32,
+    plain: &Plain,
+) -> Result<(), Fail> {
     for room in 0..world.next_number() {
         if world.is_room(room) {
-            let way = plain_way(alloc, &labels, traveller, room)?;
-            let wanted = format!(in alloc; "route #{from} to #{room} {way}")?;
-            let found = route(alloc, world, traveller.player(), room)?;
-            alike = alike && found.as_str() == wanted.as_str();
+            check_route(rt, alloc, world, player, plain, room)?;
         }
     }
-    Ok(alike)
+    Ok(())
 }
 
-// What is to be said of a meeting of two.
-fn plain_meeting(
+// Sees the same of a meeting of #2 and #1.
+fn check_meeting(
+    rt: &impl Abort,
     alloc: Global,
-    next: u32,
-    one: &Traveller,
-    other: &Traveller,
-) -> Result<String, AllocError> {
-    let near = plain_labels(alloc, one, next)?;
-    let far = plain_labels(alloc, other, next)?;
-    let (a, b) = (one.player(), other.player());
-    let (here, there) = (one.place(), other.place());
-    match plain_place(&near, &far, next) {
-        Some((room, cost)) => {
-            let first = plain_way(alloc, &near, one, room)?;
-            let second = plain_way(alloc, &far, other, room)?;
-            let head = format!(in alloc; "meet #{a} #{b} at #{room} cost {cost}")?;
-            format!(in alloc; "{head}\n  #{a} from #{here} {first}\n  #{b} from #{there} {second}")
-        }
-        None => format!(in alloc; "meet #{a} #{b} no meeting"),
-    }
+    world: &World,
+    wizard: &Plain,
+    bob: &Plain,
+) -> Result<(), Fail> {
+    let found = meeting(alloc, world)?;
+    let wanted = bob.meeting(alloc, wizard)?;
+    assert_eq!(rt; found.as_str(), wanted.as_str());
+    Ok(())
 }
 
-// Whether the guide says of a player's routes what the slow program says.
-fn routes_agree(alloc: Global, world: &World, player: u32) -> Result<bool, AllocError> {
-    if !world.is_player(player) {
-        return Ok(false);
-    }
-    let traveller = Traveller::of(alloc, world, player)?;
-    routes_are_plain(alloc, world, &traveller)
+// Sees the same of both players' routes and their meeting.
+fn check_players(
+    rt: &impl Abort,
+    alloc: Global,
+    world: &World,
+    wizard: &Plain,
+    bob: &Plain,
+) -> Result<(), Fail> {
+    check_routes(rt, alloc, world, 1, wizard)?;
+    check_routes(rt, alloc, world, 2, bob)?;
+    check_meeting(rt, alloc, world, wizard, bob)
 }
 
-// What the slow program says of a meeting of #2 and #1.
-fn wanted(alloc: Global, world: &World) -> Result<String, AllocError> {
-    if !world.is_player(1) || !world.is_player(2) {
-        return Ok(String::new(alloc));
-    }
-    let wizard = Traveller::of(alloc, world, 1)?;
-    let bob = Traveller::of(alloc, world, 2)?;
-    plain_meeting(alloc, world.next_number(), &bob, &wizard)
-}
-
-// Whether the guide says the same.
-fn meetings_agree(alloc: Global, world: &World) -> Result<bool, AllocError> {
-    let wanted = wanted(alloc, world)?;
-    let found = meet(alloc, world)?;
-    Ok(found.as_str() == wanted.as_str())
+// Sees the same of a world.
+fn check_world(rt: &impl Abort, alloc: Global, world: &World) -> Result<(), Fail> {
+    let wizard = Plain::of(alloc, world, 1)?;
+    let bob = Plain::of(alloc, world, 2)?;
+    check_players(rt, alloc, world, &wizard, &bob)
 }
 
 #[test]
@@ -100,8 +97,7 @@ fn random_worlds(rt: HostRuntime) -> Result<(), Fail> {
     let mut dice = Dice { last: 1 };
     for _turn in 0..40 {
         let world = any_world(alloc, &mut dice)?;
-        assert!(rt; routes_agree(alloc, &world, 1)? && routes_agree(alloc, &world, 2)?);
-        assert!(rt; meetings_agree(alloc, &world)?);
+        check_world(&rt, alloc, &world)?;
     }
     Ok(())
 }

@@ -8,21 +8,15 @@
 #![tactic(auto)]
 
 #[cfg(test)]
-mod cert;
-#[cfg(test)]
 mod chron;
 #[cfg(test)]
 mod dice;
 #[cfg(test)]
 mod guide;
 #[cfg(test)]
-mod key;
-#[cfg(test)]
 mod nvt;
 #[cfg(test)]
 mod plain;
-#[cfg(test)]
-mod roads;
 #[cfg(test)]
 mod row;
 #[cfg(test)]
@@ -33,7 +27,5 @@ mod rules;
 mod search;
 #[cfg(test)]
 mod village;
-#[cfg(test)]
-mod words;
 #[cfg(test)]
 mod world;

@@ -1,7 +1,9 @@
 //! A slow program of the definitions: least labels, routes and meetings.
 
 use mud_roads::{Label, Step, Traveller};
+use mud_world::World;
 use std::alloc::{AllocError, Global};
+use std::test::Fail;
 
 // The label one step on.
 fn after(from: Label, step: &Step) -> Label {
@@ -11,8 +13,8 @@ fn after(from: Label, step: &Step) -> Label {
     }
 }
 
-/// The label of a room, if it has one.
-pub(crate) fn at(labels: &[Option<Label>], room: u32) -> Option<Label> {
+// The label of a room, if it has one.
+fn at(labels: &[Option<Label>], room: u32) -> Option<Label> {
     labels.get(room as usize).copied().flatten()
 }
 
@@ -44,8 +46,8 @@ fn lower_all(labels: &mut [Option<Label>], traveller: &Traveller, next: u32) -> 
     fell
 }
 
-/// The labels of all numbers below this one: rounds over all rooms until no label falls.
-pub(crate) fn plain_labels(
+// The labels of all numbers below this one: rounds over all rooms until no label falls.
+fn plain_labels(
     alloc: Global,
     traveller: &Traveller,
     next: u32,
@@ -81,53 +83,57 @@ fn lowest(labels: &[Option<Label>], traveller: &Traveller, to: u32) -> Option<(u
     lowest
 }
 
-// The exits of the route, from its end back.
-fn back(
-    alloc: Global,
-    labels: &[Option<Label>],
-    traveller: &Traveller,
-    to: u32,
-) -> Result<Vec<u32>, AllocError> {
-    let mut exits = Vec::new(alloc);
-    let mut at = to;
-    for _ in 0..8192 {
-        let Some((by, exit)) = lowest(labels, traveller, at) else {
-            break;
-        };
-        exits.push(exit)?;
-        at = by;
-    }
-    Ok(exits)
-}
-
-/// What is to be said of a way to a room.
-pub(crate) fn plain_way(
+// The exits of the route to a room, one behind the other.
+fn exits(
     alloc: Global,
     labels: &[Option<Label>],
     traveller: &Traveller,
     to: u32,
 ) -> Result<String, AllocError> {
-    let Some(end) = at(labels, to) else {
-        return String::from_str(alloc, "no way");
-    };
-    let cost = end.cost;
-    let mut text = format!(in alloc; "cost {cost} by")?;
-    let exits = back(alloc, labels, traveller, to)?;
-    if exits.is_empty() {
-        text.push_str(" nothing")?;
-    }
-    for exit in exits.iter().rev() {
-        text.push_str(&format!(in alloc; " #{exit}")?)?;
+    let mut text = String::new(alloc);
+    let mut at = to;
+    for _ in 0..8192 {
+        let Some((by, exit)) = lowest(labels, traveller, at) else {
+            break;
+        };
+        text = format!(in alloc; " #{exit}{text}")?;
+        at = by;
     }
     Ok(text)
 }
 
-/// The room where two meet and its cost, if there is one.
-pub(crate) fn plain_place(
-    one: &[Option<Label>],
-    other: &[Option<Label>],
-    next: u32,
-) -> Option<(u32, u32)> {
+// What is to be said of a way of this cost to a room.
+fn way(
+    alloc: Global,
+    labels: &[Option<Label>],
+    traveller: &Traveller,
+    to: u32,
+    cost: u32,
+) -> Result<String, AllocError> {
+    let exits = exits(alloc, labels, traveller, to)?;
+    let by = if exits.is_empty() {
+        " nothing"
+    } else {
+        exits.as_str()
+    };
+    format!(in alloc; "cost {cost} by{by}")
+}
+
+// What is to be said of a way to a room.
+fn plain_way(
+    alloc: Global,
+    labels: &[Option<Label>],
+    traveller: &Traveller,
+    to: u32,
+) -> Result<String, AllocError> {
+    match at(labels, to) {
+        Some(end) => way(alloc, labels, traveller, to, end.cost),
+        None => String::from_str(alloc, "no way"),
+    }
+}
+
+// The room where two meet and its cost, if there is one.
+fn plain_place(one: &[Option<Label>], other: &[Option<Label>], next: u32) -> Option<(u32, u32)> {
     let mut best: Option<(u32, u32)> = None;
     for room in 0..next {
         if let (Some(a), Some(b)) = (at(one, room), at(other, room)) {
@@ -142,4 +148,63 @@ pub(crate) fn plain_place(
         }
     }
     best
+}
+
+/// A traveller, with the labels of all numbers of his world.
+#[derive(Drop)]
+pub(crate) struct Plain {
+    next: u32,
+    traveller: Traveller,
+    labels: Vec<Option<Label>>,
+}
+
+impl Plain {
+    /// The traveller who is a player of the world.
+    pub(crate) fn of(alloc: Global, world: &World, player: u32) -> Result<Plain, Fail> {
+        if !world.is_player(player) {
+            return Err("no player".into());
+        }
+        let next = world.next_number();
+        let traveller = Traveller::of(alloc, world, player)?;
+        let labels = plain_labels(alloc, &traveller, next)?;
+        Ok(Plain {
+            next,
+            traveller,
+            labels,
+        })
+    }
+
+    /// What is to be said of a route.
+    pub(crate) fn route(&self, alloc: Global, to: u32) -> Result<String, AllocError> {
+        let from = self.traveller.place();
+        let way = plain_way(alloc, &self.labels, &self.traveller, to)?;
+        format!(in alloc; "route #{from} to #{to} {way}")
+    }
+
+    // What is to be said of the way to a place where he meets others.
+    fn leg(&self, alloc: Global, to: u32) -> Result<String, AllocError> {
+        let player = self.traveller.player();
+        let from = self.traveller.place();
+        let way = plain_way(alloc, &self.labels, &self.traveller, to)?;
+        format!(in alloc; "  #{player} from #{from} {way}")
+    }
+
+    // What is to be said of both ways to a room.
+    fn legs(&self, alloc: Global, other: &Plain, to: u32) -> Result<String, AllocError> {
+        let mine = self.leg(alloc, to)?;
+        let theirs = other.leg(alloc, to)?;
+        format!(in alloc; "{mine}\n{theirs}")
+    }
+
+    /// What is to be said of a meeting with another.
+    pub(crate) fn meeting(&self, alloc: Global, other: &Plain) -> Result<String, AllocError> {
+        let (a, b) = (self.traveller.player(), other.traveller.player());
+        match plain_place(&self.labels, &other.labels, self.next) {
+            Some((room, cost)) => {
+                let legs = self.legs(alloc, other, room)?;
+                format!(in alloc; "meet #{a} #{b} at #{room} cost {cost}\n{legs}")
+            }
+            None => format!(in alloc; "meet #{a} #{b} no meeting"),
+        }
+    }
 }

@@ -2,25 +2,30 @@
 
 ghost use Rattle.std.specs.Prelude.{◌≡◌};
 
-use crate::village::{LIBRARY, entry};
+use crate::village::entry;
 use mud_chron::Entry;
 use mud_row::{Pass, Replica, Row, RowFault};
 use std::alloc::Global;
 use std::process::Abort;
 use std::test::Fail;
 
+// The library #2, with the exit #3 to it from the hall #0 and #4 back.
+const LIBRARY: &str = "dig #1 new \"Library\" out \"north\" back \"south\"";
+
 const WALK: &str = "walk #1 #3";
+
+const BACK: &str = "walk #1 #4";
 
 // The entry of a change, by a desk.
 fn boxed(alloc: Global, desk: u32, change: &str) -> Result<Box<Entry>, Fail> {
     Ok(Box::new(alloc, entry(alloc, desk, change)?)?)
 }
 
-// The desk of an entry.
-fn desk_of(entry: Option<&Entry>) -> Option<u32> {
+// The desk of an entry; 0 where there is none.
+fn desk_of(entry: Option<&Entry>) -> u32 {
     match entry {
-        Some(entry) => Some(entry.desk()),
-        None => None,
+        Some(entry) => entry.desk(),
+        None => 0,
     }
 }
 
@@ -29,37 +34,21 @@ fn is_shared<T: Send + Sync>(_value: &T) {}
 
 fn is_sent<T: Send>(_value: &T) {}
 
-// The number that an entry is published as.
-fn set(
-    alloc: Global,
-    row: &Row,
-    pass: &mut Pass,
-    desk: u32,
-    change: &str,
-) -> Result<Option<u32>, Fail>
-    requires { pass.old.row ≡ row.now }
-    ensures { pass.new.row ≡ pass.old.row }
-{
-    match row.publish(pass, boxed(alloc, desk, change)?) {
-        Ok(number) => Ok(Some(number)),
-        Err(_) => Ok(None),
-    }
+// What comes of an entry that is to be set: its number, or the desk of what comes back, and why.
+#[derive(Clone, Copy, PartialEq, Eq)]
+enum Outcome {
+    Set(u32),
+    Back(u32, RowFault),
 }
 
-// The desk of the entry that comes back, and why it does.
-fn refused(
-    alloc: Global,
-    row: &Row,
-    pass: &mut Pass,
-    desk: u32,
-    change: &str,
-) -> Result<Option<(u32, RowFault)>, Fail>
+// What comes of the entry of a change.
+fn set(alloc: Global, row: &Row, pass: &mut Pass, desk: u32, change: &str) -> Result<Outcome, Fail>
     requires { pass.old.row ≡ row.now }
     ensures { pass.new.row ≡ pass.old.row }
 {
     match row.publish(pass, boxed(alloc, desk, change)?) {
-        Ok(_) => Ok(None),
-        Err((back, fault)) => Ok(Some((back.desk(), fault))),
+        Ok(number) => Ok(Outcome::Set(number)),
+        Err((back, fault)) => Ok(Outcome::Back(back.desk(), fault)),
     }
 }
 
@@ -70,26 +59,25 @@ fn start(rt: &impl Abort, alloc: Global, row: &Row, a: &mut Pass, b: &mut Pass) 
     ensures a { a.new.row ≡ a.old.row }
     ensures b { b.new.row ≡ b.old.row }
 {
-    assert!(rt; row.next(b).is_none());
-    let number = set(alloc, row, a, 1, LIBRARY)?;
-    let back = refused(alloc, row, b, 2, WALK)?;
-    assert!(rt; number == Some(1) && back == Some((2, RowFault::Unpublished)));
-    assert!(rt; a.known() == 1 && b.known() == 0);
-    assert!(rt; desk_of(row.next(b)) == Some(1));
+    let before = desk_of(row.next(b));
+    let one = set(alloc, row, a, 1, LIBRARY)?;
+    let other = set(alloc, row, b, 2, WALK)?;
+    let is_set = one == Outcome::Set(1) && other == Outcome::Back(2, RowFault::Unpublished);
+    assert!(rt; is_set && before == 0 && a.known() == 1 && b.known() == 0);
+    assert!(rt; desk_of(row.next(b)) == 1);
     Ok(())
 }
 
 // The other sets the second entry, and then the row is full.
-fn race(rt: &impl Abort, alloc: Global, row: &Row, a: &mut Pass, b: &mut Pass) -> Result<(), Fail>
+fn fill(rt: &impl Abort, alloc: Global, row: &Row, a: &mut Pass, b: &mut Pass) -> Result<(), Fail>
     requires a { a.old.row ≡ row.now }
     requires b { b.old.row ≡ row.now }
     ensures { a.new.row ≡ a.old.row }
 {
-    start(rt, alloc, row, a, b)?;
-    let number = set(alloc, row, b, 2, WALK)?;
-    let back = refused(alloc, row, b, 3, WALK)?;
-    assert!(rt; number == Some(2) && back == Some((3, RowFault::HistoryFull)));
-    assert!(rt; desk_of(row.next(a)) == Some(2));
+    let second = set(alloc, row, b, 2, WALK)?;
+    let third = set(alloc, row, b, 3, WALK)?;
+    let is_full = third == Outcome::Back(3, RowFault::HistoryFull);
+    assert!(rt; second == Outcome::Set(2) && is_full && desk_of(row.next(a)) == 2);
     a.agree(b);
     assert!(rt; a.known() == 2 && b.known() == 2);
     Ok(())
@@ -102,9 +90,8 @@ fn learn_late(rt: &impl Abort, row: &Row, early: &mut Pass, late: &mut Pass)
 {
     assert!(rt; early.known() == 0 && late.known() == 2);
     early.learn(late);
-    assert!(rt; desk_of(row.entry(early, 1)) == Some(1));
-    assert!(rt; desk_of(row.entry(early, 2)) == Some(2));
-    assert!(rt; row.next(early).is_none());
+    let desks = (desk_of(row.entry(early, 1)), desk_of(row.entry(early, 2)));
+    assert!(rt; desks == (1, 2) && desk_of(row.next(early)) == 0);
 }
 
 // What passes know that are copied before and after others set what they set.
@@ -113,7 +100,8 @@ fn know(rt: &impl Abort, alloc: Global, row: &Row, a: &mut Pass, b: &mut Pass) -
     requires b { b.old.row ≡ row.now }
 {
     let mut early = a.again(alloc)?;
-    race(rt, alloc, row, a, b)?;
+    start(rt, alloc, row, a, b)?;
+    fill(rt, alloc, row, a, b)?;
     let mut late = a.again(alloc)?;
     learn_late(rt, row, &mut early, &mut late);
     Ok(())
@@ -130,40 +118,30 @@ fn passes_of_one_row(rt: HostRuntime) -> Result<(), Fail> {
     know(&rt, alloc, &row, &mut a, &mut b)
 }
 
-// Sets the entry of a change.
+// Sets the entry of a change, and tells whether it was set.
 fn publish(
-    rt: &impl Abort,
     alloc: Global,
     row: &Row,
     replica: &mut Replica,
     desk: u32,
     change: &str,
-) -> Result<(), Fail>
+) -> Result<bool, Fail>
     requires { replica.old.row ≡ row.now }
     ensures { replica.new.row ≡ replica.old.row }
 {
     let entry = boxed(alloc, desk, change)?;
-    assert!(rt; replica.publish(row, entry).is_ok());
-    Ok(())
+    Ok(replica.publish(row, entry).is_ok())
 }
 
-// What another replica finds, and then takes in.
-fn find(rt: &impl Abort, row: &Row, other: &mut Replica) -> Result<(), Fail>
-    requires { other.old.row ≡ row.now }
+// A walk that is not legal yet, the library, and the walk: whether they were set.
+fn publish_three(alloc: Global, row: &Row, one: &mut Replica) -> Result<bool, Fail>
+    requires { one.old.row ≡ row.now }
+    ensures { one.new.row ≡ one.old.row }
 {
-    other.extend(row);
-    assert!(rt; other.known() == 2);
-    assert!(rt; other.at() == 0);
-    other.see(row)?;
-    assert!(rt; other.world().place(1) == Some(2));
-    assert!(rt; desk_of(other.entry(row, 2)) == Some(2));
-    Ok(())
-}
-
-// The same of a new replica.
-fn find_alone(rt: &impl Abort, alloc: Global, row: &Row) -> Result<(), Fail> {
-    let mut other = Replica::new(alloc, row)?;
-    find(rt, row, &mut other)
+    let early = publish(alloc, row, one, 1, WALK)?;
+    let library = publish(alloc, row, one, 2, LIBRARY)?;
+    let walk = publish(alloc, row, one, 3, WALK)?;
+    Ok(early && library && walk)
 }
 
 // What another replica learns and tells, and then takes in.
@@ -177,25 +155,26 @@ fn learn(
     requires one { one.old.row ≡ row.now }
     requires other { other.old.row ≡ row.now }
     requires told { told.old.row ≡ row.now }
-    ensures { one.new.row ≡ one.old.row }
+    ensures one { one.new.row ≡ one.old.row }
+    ensures other { other.new.row ≡ other.old.row }
 {
     other.learn(one);
     other.tell(told);
-    assert!(rt; told.known() == 2);
-    assert!(rt; other.at() == 0);
+    assert!(rt; told.known() == 3 && other.at() == 0);
     other.catch_up(row)?;
-    assert!(rt; other.at() == 2);
+    assert!(rt; other.at() == 3);
     Ok(())
 }
 
-// The same of a new replica and a new pass.
-fn learn_alone(rt: &impl Abort, alloc: Global, row: &Row, one: &mut Replica) -> Result<(), Fail>
-    requires { one.old.row ≡ row.now }
-    ensures { one.new.row ≡ one.old.row }
+// What another replica finds, and then takes in.
+fn find(rt: &impl Abort, row: &Row, other: &mut Replica) -> Result<(), Fail>
+    requires { other.old.row ≡ row.now }
 {
-    let mut told = row.pass(alloc)?;
-    let mut other = Replica::new(alloc, row)?;
-    learn(rt, row, one, &mut other, &mut told)
+    other.extend(row);
+    assert!(rt; other.known() == 4 && other.at() == 3);
+    other.see(row)?;
+    assert!(rt; other.world().place(1) == Some(0) && desk_of(other.entry(row, 2)) == 2);
+    Ok(())
 }
 
 // What a replica is to take in next, and the next number of its world when it did.
@@ -203,31 +182,65 @@ fn step(
     rt: &impl Abort,
     row: &Row,
     replica: &mut Replica,
-    desk: Option<u32>,
+    desk: u32,
     next_number: u32,
 ) -> Result<(), Fail>
     requires { replica.old.row ≡ row.now }
     ensures { replica.new.row ≡ replica.old.row }
 {
-    assert!(rt; desk_of(replica.peek(row)) == desk);
-    assert!(rt; replica.step(row)? == desk.is_some());
+    let is_next = desk_of(replica.peek(row)) == desk;
+    let has_stepped = replica.step(row)?;
+    assert!(rt; is_next && has_stepped == (desk != 0));
     assert!(rt; replica.world().next_number() == next_number);
     Ok(())
 }
 
-// What comes of two legal changes.
-fn legal(rt: &impl Abort, alloc: Global, row: &Row, one: &mut Replica) -> Result<(), Fail>
+// What comes of the changes, step by step: what is not legal changes nothing.
+fn steps(rt: &impl Abort, row: &Row, one: &mut Replica) -> Result<(), Fail>
     requires { one.old.row ≡ row.now }
 {
-    publish(rt, alloc, row, one, 1, LIBRARY)?;
-    publish(rt, alloc, row, one, 2, WALK)?;
-    find_alone(rt, alloc, row)?;
-    learn_alone(rt, alloc, row, one)?;
-    step(rt, row, one, Some(1), 5)?;
-    step(rt, row, one, Some(2), 5)?;
-    step(rt, row, one, None, 5)?;
-    assert!(rt; one.world().place(1) == Some(2));
+    step(rt, row, one, 1, 2)?;
+    step(rt, row, one, 2, 5)?;
+    step(rt, row, one, 3, 5)?;
+    step(rt, row, one, 4, 5)?;
+    step(rt, row, one, 0, 5)?;
+    assert!(rt; one.world().place(1) == Some(0));
     Ok(())
+}
+
+// What comes of the changes to one that sets them, and to another that learns of three and finds
+// the fourth.
+fn share(
+    rt: &impl Abort,
+    alloc: Global,
+    row: &Row,
+    one: &mut Replica,
+    other: &mut Replica,
+    told: &mut Pass,
+) -> Result<(), Fail>
+    requires one { one.old.row ≡ row.now }
+    requires other { other.old.row ≡ row.now }
+    requires told { told.old.row ≡ row.now }
+{
+    assert!(rt; publish_three(alloc, row, one)?);
+    learn(rt, row, one, other, told)?;
+    assert!(rt; publish(alloc, row, one, 4, BACK)?);
+    find(rt, row, other)?;
+    steps(rt, row, one)
+}
+
+// The same of a new replica and a new pass.
+fn share_with_others(
+    rt: &impl Abort,
+    alloc: Global,
+    row: &Row,
+    one: &mut Replica,
+) -> Result<(), Fail>
+    requires { one.old.row ≡ row.now }
+{
+    let mut told = row.pass(alloc)?;
+    let mut other = Replica::new(alloc, row)?;
+    share(rt, alloc, row, one, &mut other, &mut told)
 }
 
 #[test]
@@ -235,26 +248,7 @@ fn replicas_of_one_row(rt: HostRuntime) -> Result<(), Fail> {
     let row = Row::new(rt.alloc(), 8)?;
     let mut one = Replica::new(rt.alloc(), &row)?;
     is_sent(&one);
-    legal(&rt, rt.alloc(), &row, &mut one)
-}
-
-// What comes of a change that is not legal, and of a legal one behind it.
-fn not_legal(rt: &impl Abort, alloc: Global, row: &Row, one: &mut Replica) -> Result<(), Fail>
-    requires { one.old.row ≡ row.now }
-{
-    publish(rt, alloc, row, one, 1, WALK)?;
-    publish(rt, alloc, row, one, 2, LIBRARY)?;
-    step(rt, row, one, Some(1), 2)?;
-    step(rt, row, one, Some(2), 5)?;
-    assert!(rt; one.world().place(1) == Some(0));
-    Ok(())
-}
-
-#[test]
-fn what_is_not_legal_changes_nothing(rt: HostRuntime) -> Result<(), Fail> {
-    let row = Row::new(rt.alloc(), 8)?;
-    let mut one = Replica::new(rt.alloc(), &row)?;
-    not_legal(&rt, rt.alloc(), &row, &mut one)
+    share_with_others(&rt, rt.alloc(), &row, &mut one)
 }
 
 #[test]

@@ -1,41 +1,14 @@
-//! Tables as texts: a row for each thing that is asked, with what is to be answered.
+//! Tables as texts: a row for each thing that is asked of a world, with what is to be answered.
 
+use crate::rules::{line_answer, shown};
+use crate::world::{key_of, tried};
+use mud_world::World;
 use std::alloc::Global;
 use std::process::Abort;
 use std::test::Fail;
 
-/// What answers the rows of a table.
-pub(crate) trait Answers {
-    fn answer(&mut self, alloc: Global, asked: &str) -> Result<String, Fail>;
-}
-
-// The first row `ASKED => WANTED` that is answered otherwise, with that answer; else the empty text.
-fn wrong<T: Answers>(alloc: Global, answers: &mut T, rows: &str) -> Result<String, Fail> {
-    for row in rows.split('\n') {
-        if let Some((asked, wanted)) = row.split_once(" => ") {
-            let answer = answers.answer(alloc, asked)?;
-            if answer.as_str() != wanted {
-                return Ok(format!(in alloc; "{asked} => {answer}")?);
-            }
-        }
-    }
-    Ok(String::new(alloc))
-}
-
-/// Sees that each row of the table is answered as it says, one after the other.
-pub(crate) fn check<T: Answers>(
-    rt: &impl Abort,
-    alloc: Global,
-    answers: &mut T,
-    rows: &str,
-) -> Result<(), Fail> {
-    let wrong = wrong(alloc, answers, rows)?;
-    assert_eq!(rt; wrong.as_str(), "");
-    Ok(())
-}
-
-/// What a row asks: its first word, and the rest.
-pub(crate) fn parted(asked: &str) -> (&str, &str) {
+// What a row asks: its first word, and the rest.
+fn parted(asked: &str) -> (&str, &str) {
     match asked.split_once(' ') {
         Some(parts) => parts,
         None => (asked, ""),
@@ -48,4 +21,32 @@ pub(crate) fn number(text: &str) -> u32 {
         Ok(number) => number,
         Err(_) => 99,
     }
+}
+
+// What is answered to a row.
+fn answer(alloc: Global, world: &World, asked: &str) -> Result<String, Fail> {
+    let (what, rest) = parted(asked);
+    match what {
+        "try" => tried(alloc, world, rest),
+        "key" => key_of(alloc, world, number(rest)),
+        "shown" => Ok(shown(alloc, world, number(rest))?),
+        _ => Ok(line_answer(alloc, world, what, rest)?),
+    }
+}
+
+// Sees that the row `ASKED => WANTED` is answered as it says.
+fn check_row(rt: &impl Abort, alloc: Global, world: &World, row: &str) -> Result<(), Fail> {
+    if let Some((asked, wanted)) = row.split_once(" => ") {
+        let answer = answer(alloc, world, asked)?;
+        assert_eq!(rt; (asked, answer.as_str()), (asked, wanted));
+    }
+    Ok(())
+}
+
+/// Sees that each row of the table is answered as it says.
+pub(crate) fn check(rt: &impl Abort, alloc: Global, world: &World, rows: &str) -> Result<(), Fail> {
+    for row in rows.split('\n') {
+        check_row(rt, alloc, world, row)?;
+    }
+    Ok(())
 }

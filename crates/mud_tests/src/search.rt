@@ -1,36 +1,34 @@
-//! A frontier by hand, its labels, and random worlds against a slow program of the definition.
+//! A frontier by hand, and its labels.
 
 ghost use Rattle.std.specs.Prelude.{◌≡◌, ◌≤◌, All, length};
 ghost use Rattle.mud_roads.specs.Open.{IsTraveller};
 
-use crate::dice::{Dice, any_world};
-use crate::plain::{at, plain_labels};
 use crate::village::world;
 use mud_roads::{Label, Traveller};
-use mud_search::{Frontier, Job, Labels, Put, Rest, Task, labels_alone};
+use mud_search::{Frontier, Job, Labels, Put, Rest, Task};
 use mud_world::World;
 use std::alloc::{AllocError, Global};
 use std::marker::Brand;
 use std::process::Abort;
+use std::slice;
 use std::test::Fail;
 
 // The exits #3 from #0 to #2 at cost 9, #5 from #0 to #4 at 3, #6 from #4 to #2 at 4, #8 from #2 to
 // #7 at 1, and #9 from #2 to #0 at 1.
-fn crossing(alloc: Global) -> Result<World, Fail> {
-    world(alloc, CHANGES)
-}
-
-const CHANGES: &str = "dig #1 new \"A\" out \"a\"
-cost #1 #3 9
-dig #1 new \"B\" out \"b\"
-cost #1 #5 3
-walk #1 #5
-dig #1 old #2 out \"c\"
-cost #1 #6 4
-walk #1 #6
-dig #1 new \"D\" out \"d\"
-dig #1 old #0 out \"e\"
-walk #1 #9";
+const CROSSING: &str = "mud history 2
+1 1 dig #1 new \"A\" out \"a\"
+2 1 cost #1 #3 9
+3 1 dig #1 new \"B\" out \"b\"
+4 1 cost #1 #5 3
+5 1 walk #1 #5
+6 1 dig #1 old #2 out \"c\"
+7 1 cost #1 #6 4
+8 1 walk #1 #6
+9 1 dig #1 new \"D\" out \"d\"
+10 1 dig #1 old #0 out \"e\"
+11 1 walk #1 #9
+end 11
+";
 
 fn label(cost: u32, exits: u32) -> Label {
     Label { cost, exits }
@@ -115,7 +113,28 @@ fn turns() -> [(Move, usize, usize); 15] {
     ]
 }
 
-// Does each move with a frontier, and gives the labels at the end.
+// Does each move with a frontier; no room is open at the end.
+fn play<J: Job>(
+    rt: &impl Abort,
+    alloc: Global,
+    world: &World,
+    party: &[Traveller],
+    frontier: &mut Frontier<J>,
+) -> Result<(), Fail>
+    requires world { world.now ≡ J.world }
+    requires party { party.now ≡ J.travellers }
+    requires travellers { All (IsTraveller J.world) J.travellers }
+{
+    for (turn, opened, held) in turns() {
+        let is_so = moves(frontier, alloc, world, party, turn)?;
+        assert!(rt; is_so && frontier.rest() == Rest { opened, held });
+    }
+    frontier.facts();
+    assert!(rt; frontier.take().is_none());
+    Ok(())
+}
+
+// The labels that a frontier has after the moves.
 fn by_hand<J: Job>(
     rt: &impl Abort,
     alloc: Global,
@@ -128,12 +147,7 @@ fn by_hand<J: Job>(
     requires few { length J.travellers ≤ 8 }
 {
     let mut frontier = Frontier::<J>::new(alloc, world, party)?;
-    for (turn, opened, held) in turns() {
-        assert!(rt; moves(&mut frontier, alloc, world, party, turn)?);
-        assert!(rt; frontier.rest() == Rest { opened, held });
-    }
-    frontier.facts();
-    assert!(rt; frontier.take().is_none());
+    play(rt, alloc, world, party, &mut frontier)?;
     Ok(frontier.into_labels())
 }
 
@@ -154,59 +168,17 @@ fn check_labels(rt: &impl Abort, labels: &Labels) {
     assert!(rt; labels.get(1, 0).is_none());
 }
 
+// The labels of the wizard's rooms.
+fn wizards_labels(rt: &impl Abort, alloc: Global, world: &World) -> Result<Labels, Fail> {
+    assert!(rt; world.is_player(1));
+    let wizard = Traveller::of(alloc, world, 1)?;
+    by_hand::<Brand>(rt, alloc, world, slice::from_ref(&wizard))
+}
+
 #[test]
 fn a_frontier_by_hand(rt: HostRuntime) -> Result<(), Fail> {
-    let alloc = rt.alloc();
-    let world = crossing(alloc)?;
-    assert!(rt; world.is_player(1));
-    let party = [Traveller::of(alloc, &world, 1)?];
-    let labels = by_hand::<Brand>(&rt, alloc, &world, &party)?;
+    let world = world(rt.alloc(), CROSSING)?;
+    let labels = wizards_labels(&rt, rt.alloc(), &world)?;
     check_labels(&rt, &labels);
-    let alone = labels_alone(alloc, &world, &party)?;
-    check_labels(&rt, &alone);
-    Ok(())
-}
-
-// Whether a member's labels are those that are found slowly.
-fn are_plain(
-    alloc: Global,
-    next: u32,
-    traveller: &Traveller,
-    labels: &Labels,
-    member: usize,
-) -> Result<bool, AllocError> {
-    let plain = plain_labels(alloc, traveller, next)?;
-    let mut alike = true;
-    for room in 0..next {
-        alike = alike && labels.get(member, room) == at(&plain, room);
-    }
-    Ok(alike)
-}
-
-// Whether the labels of both players are.
-fn is_plain(alloc: Global, world: &World) -> Result<bool, AllocError> {
-    if !world.is_player(1) || !world.is_player(2) {
-        return Ok(false);
-    }
-    let party = [
-        Traveller::of(alloc, world, 1)?,
-        Traveller::of(alloc, world, 2)?,
-    ];
-    let labels = labels_alone(alloc, world, &party)?;
-    let next = world.next_number();
-    Ok(
-        are_plain(alloc, next, &party[0], &labels, 0)?
-            && are_plain(alloc, next, &party[1], &labels, 1)?,
-    )
-}
-
-#[test]
-fn random_worlds(rt: HostRuntime) -> Result<(), Fail> {
-    let alloc = rt.alloc();
-    let mut dice = Dice { last: 1 };
-    for _turn in 0..60 {
-        let world = any_world(alloc, &mut dice)?;
-        assert!(rt; is_plain(alloc, &world)?);
-    }
     Ok(())
 }

@@ -51,8 +51,8 @@ pub record IsValid (w : State) (c : Certificate) : Type 0 where
 abbrev pub goer_of : State → Account → Goer
 goer_of w m = (roads_of w m.player, m.from)
 
--- the walk that is stated leads the member to the room and costs this; the room has the walk's label, and no walk there has
--- a lesser one
+-- the walk that is stated leads the member to the room and costs this; the room has the walk's label, and no walk
+-- there has a lesser one
 pub record StatesLeast (w : State) (hop to cost : ℕ) (m : Account) : Type 0 where
   pub steps : List Step
   pub stated : m.walk ≡ Some (map (λ (s : Step). s.exit) steps)
@@ -61,8 +61,8 @@ pub record StatesLeast (w : State) (hop to cost : ℕ) (m : Account) : Type 0 wh
   pub label : label_at m to ≡ Some (total hop steps)
   pub least : IsLeast hop (roads_of w m.player) m.from to (total hop steps)
 
--- the conclusion says what is least, and so are the walks that are stated: to the room, or none leads there; to where the
--- party meets, or it can't
+-- the conclusion says what is least, and so are the walks that are stated: to the room, or none leads there; to where
+-- the party meets, or it can't
 abbrev pub IsBest : State → ℕ → List Account → Conclusion → Type 0
 IsBest w hop ms (Route to (Some cost)) = All (StatesLeast w hop to cost) ms
 IsBest w hop ms (Route to None) = All (λ m. NoWalk (roads_of w m.player) m.from to) ms

@@ -144,7 +144,8 @@ fn given_doubt(world: &World, form: Form, holding: &Holding, member: &Member) ->
 // The first doubt of the member's labels and walk.
 fn labels_doubt(world: &World, form: Form, holding: &Holding, member: &Member) -> Option<Doubt>
     requires { IsHolding world.now member.now.player holding.now }
-    ensures { result ≡ option_map (λ x. Arc member.now.player x) (find (breaks world.now form member.now) (numbers world.now))
+    ensures { result
+        ≡ option_map (λ x. Arc member.now.player x) (find (breaks world.now form member.now) (numbers world.now))
         or given_doubt world.now form member.now member.now.walk }
 {
     let player = member.player();

@@ -36,9 +36,9 @@
 //!
 //! A pass, or a replica, is used with the row that made it: a contract asks that the names of the
 //! cells be those of the row. Memory is asked for by `Row::new`, `Row::pass`, `Row::fill`,
-//! `Pass::again`, `Replica::new`, `copy`, `step`, `catch_up` and `see`, and by no other call. What is known of a cell is
-//! read through a `&mut` today, so `entry`, `learn`, `agree`, `again`, `peek` and `tell` take the
-//! pass or replica that they read by `&mut`, and say that it stays as it was.
+//! `Pass::again`, `Replica::new`, `copy`, `step`, `catch_up` and `see`, and by no other call. What is
+//! known of a cell is read through a `&mut` today, so `entry`, `learn`, `agree`, `again`, `peek` and
+//! `tell` take the pass or replica that they read by `&mut`, and say that it stays as it was.
 //!
 //! Proved is that a known entry never changes, that of two passes of one row one knows the
 //! beginning of what the other knows, that a fault leaves the pass as it was and gives the entry

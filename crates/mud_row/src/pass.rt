@@ -120,7 +120,8 @@ fn compare(
     requires within { (count ≤ mine_known) × (count ≤ theirs_known) }
     ensures mine_same { mine.new.items ≡ mine.old.items }
     ensures theirs_same { theirs.new.items ≡ theirs.old.items }
-    ensures agree { take count (known_front mine_known mine.old.items) ≡ take count (known_front theirs_known theirs.old.items) }
+    ensures agree { take count (known_front mine_known mine.old.items)
+        ≡ take count (known_front theirs_known theirs.old.items) }
 {
     for i in 0..count {
         let at = i as usize;

@@ -99,7 +99,8 @@ impl Replica {
         requires { self.old.row ≡ row.now }
         ensures same { self.new ≡ self.old }
         ensures entry { option_copied result ≡ slice_get self.old.list self.old.at }
-        ensures place { MatchOption result (self.old.at ≡ length self.old.list) (λ _. self.old.at < length self.old.list) }
+        ensures place { MatchOption result (self.old.at ≡ length self.old.list)
+            (λ _. self.old.at < length self.old.list) }
         ensures limit { length self.old.list ≤ 65536 }
     {
         if self.at == self.pass.known() {
@@ -113,7 +114,9 @@ impl Replica {
     pub fn step(&mut self, row: &Row) -> Result<bool, AllocError>
         requires { self.old.row ≡ row.now }
         ensures still { (self.new.row ≡ self.old.row) × (self.new.list ≡ self.old.list) }
-        ensures ok { IfOk result (λ more. MatchBool more ((self.old.at < length self.old.list) × (self.new.at ≡ self.old.at + 1)) ((self.old.at ≡ length self.old.list) × (self.new.at ≡ self.old.at))) }
+        ensures ok { IfOk result (λ more. MatchBool more
+            ((self.old.at < length self.old.list) × (self.new.at ≡ self.old.at + 1))
+            ((self.old.at ≡ length self.old.list) × (self.new.at ≡ self.old.at))) }
         ensures err { OnErr result (self.new ≡ self.old) }
         ensures more { OnErr result (self.old.at < length self.old.list) }
     {
@@ -163,7 +166,8 @@ impl Replica {
     pub fn publish(&mut self, row: &Row, entry: Box<Entry>) -> Result<u32, (Box<Entry>, RowFault)>
         requires { self.old.row ≡ row.now }
         ensures still { (self.new.row ≡ self.old.row) × (self.new.at ≡ self.old.at) }
-        ensures published { IfOk result (λ n. (self.new.list ≡ self.old.list ++ entry.value ∷ []) × (n ≡ length self.old.list + 1)) }
+        ensures published { IfOk result (λ n. (self.new.list ≡ self.old.list ++ entry.value ∷ [])
+            × (n ≡ length self.old.list + 1)) }
         ensures refused { IfErr result (λ f. (self.new ≡ self.old) × (f.0.value ≡ entry.value)) }
         ensures full { IsErrAnd result (λ f. f.1 ≡ RowFault.HistoryFull) ↔ (length self.old.list ≡ length row.now) }
         ensures fits { length self.old.list ≤ length row.now }
@@ -178,7 +182,8 @@ impl Replica {
         requires { self.old.row ≡ row.now }
         ensures same { self.new ≡ self.old }
         ensures entry { option_copied result ≡ entry_at self.old.list n }
-        ensures place { MatchOption result ((n ≡ 0) ⊎ (length self.old.list < n)) (λ _. (1 ≤ n) × (n ≤ length self.old.list)) }
+        ensures place { MatchOption result ((n ≡ 0) ⊎ (length self.old.list < n))
+            (λ _. (1 ≤ n) × (n ≤ length self.old.list)) }
     {
         row.entry(&mut self.pass, n)
     }

@@ -71,7 +71,8 @@ impl Row {
     pub fn publish(&self, pass: &mut Pass, entry: Box<Entry>) -> Result<u32, (Box<Entry>, RowFault)>
         requires { pass.old.row ≡ self.now }
         ensures row { pass.new.row ≡ pass.old.row }
-        ensures published { IfOk result (λ n. (pass.new.list ≡ pass.old.list ++ entry.value ∷ []) × (n ≡ length pass.old.list + 1)) }
+        ensures published { IfOk result (λ n. (pass.new.list ≡ pass.old.list ++ entry.value ∷ [])
+            × (n ≡ length pass.old.list + 1)) }
         ensures refused { IfErr result (λ f. (pass.new ≡ pass.old) × (f.0.value ≡ entry.value)) }
         ensures full { IsErrAnd result (λ f. f.1 ≡ RowFault.HistoryFull) ↔ (length pass.old.list ≡ length self.now) }
         ensures fits { length pass.old.list ≤ length self.now }
@@ -96,7 +97,8 @@ impl Row {
         requires { pass.old.row ≡ self.now }
         ensures row { pass.new.row ≡ pass.old.row }
         ensures found { MatchOption result (pass.new ≡ pass.old) (λ e. pass.new.list ≡ pass.old.list ++ e.now ∷ []) }
-        ensures fits { MatchOption result (length pass.old.list ≤ length self.now) (λ _. length pass.old.list < length self.now) }
+        ensures fits { MatchOption result (length pass.old.list ≤ length self.now)
+            (λ _. length pass.old.list < length self.now) }
     {
         let at = pass.count as usize;
         if at == self.cells.len() {
@@ -117,7 +119,8 @@ impl Row {
         requires { pass.old.row ≡ self.now }
         ensures same { pass.new ≡ pass.old }
         ensures entry { option_copied result ≡ entry_at pass.old.list n }
-        ensures place { MatchOption result ((n ≡ 0) ⊎ (length pass.old.list < n)) (λ _. (1 ≤ n) × (n ≤ length pass.old.list)) }
+        ensures place { MatchOption result ((n ≡ 0) ⊎ (length pass.old.list < n))
+            (λ _. (1 ≤ n) × (n ≤ length pass.old.list)) }
     {
         if n == 0 || n > pass.count {
             return None;
@@ -134,7 +137,8 @@ impl Row {
         ensures row { pass.new.row ≡ pass.old.row }
         ensures ok { OnOk result (pass.new.list ≡ pass.old.list ++ entries.items) }
         ensures err { OnErr result (Fills pass.old.list entries.items pass.new.list) }
-        ensures full { IsErrAnd result (λ f. f ≡ FillFault.HistoryFull) → length self.now < length pass.old.list + length entries.items }
+        ensures full { IsErrAnd result (λ f. f ≡ FillFault.HistoryFull)
+            → length self.now < length pass.old.list + length entries.items }
     {
         for entry in entries {
             let entry = Box::new(alloc, entry)?;

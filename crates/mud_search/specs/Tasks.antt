@@ -42,8 +42,8 @@ HasFallen old new l steps room =
     (s : Step) × Contains steps s × (s.to ≡ room) × (new room ≡ Open (after 1 l s))
     × ((k : Label) → labels_of old room ≡ Some k → Below (after 1 l s) k)
 
--- what a settled task leaves: its room is finished; another is as before or has fallen; no step leads to a greater label
--- than its own
+-- what a settled task leaves: its room is finished; another is as before or has fallen; no step leads to a greater
+-- label than its own
 pub record IsDone (old new : ℕ → ℕ → Slot) (t : Task) (steps : List Step) : Type 0 where
   pub was : labels_of (old t.member) t.room ≡ Some t.label
   pub finished : new t.member t.room ≡ Finished t.label

@@ -7,3 +7,4 @@ pub mod Parties
 pub mod Parts
 pub mod Sides
 pub mod Decided
+pub mod Guests

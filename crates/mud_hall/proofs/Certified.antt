@@ -1,0 +1,77 @@
+-- The checker accepts the certificate of an answer.
+use Rattle.std.proofs.Common.{◌≡◌, ◌≢◌, ℕ, ◌≤◌, List, ◌++◌, length, take, Option, None, Some, sym, ◌∙◌, ap, subst, arith}
+use Rattle.std.specs.Option.{IsSomeAnd}
+use Rattle.std.proofs.lemmas.List.{length-append}
+use Rattle.std.proofs.lemmas.List.Elements.{All-from_recursion}
+use Rattle.std.proofs.Math.Seq.{take-append_seam}
+use mathlib.Core.List.{IsPrefix}
+use Rattle.mud_world.specs.State.{State}
+use Rattle.mud_chron.specs.Entry.{Accepted as Entry}
+use Rattle.mud_chron.specs.History.{SpellsHistory}
+use Rattle.mud_chron.specs.Laws.{IsWrittenAgain, HasNoReturns}
+use Rattle.mud_cert.specs.Certificate.{Certificate, IsCertificate}
+use Rattle.mud_cert.specs.Text.{cert_text}
+use Rattle.mud_cert.specs.TextLaws.{HasNoReturn}
+use Rattle.mud_cert.specs.Valid.{IsValid, Optimal}
+use Rattle.mud_cert.specs.Laws.{ValidIsOptimal}
+use Rattle.mud_cert.specs.FindingLaws.{DropsNothing}
+use Rattle.mud_hall.specs.Told.{world_after}
+use Rattle.mud_hall.specs.Steps.{Hall}
+use Rattle.mud_hall.specs.Right.{IsAcceptedWith, IsCertified}
+use Rattle.mud_hall.proofs.Worlds.{world-sound}
+use Rattle.mud_hall.proofs.Keeping.{IsKept}
+
+-- the laws below on which this stands
+pub record Below : Type 0 where
+  pub again : IsWrittenAgain
+  pub no_returns : HasNoReturns
+  pub no_return : HasNoReturn
+  pub drops_nothing : DropsNothing
+  pub optimal : ValidIsOptimal
+
+-- what a certificate has to be
+pub record IsGood (w : State) (v : ℕ) (c : Certificate) : Type 0 where
+  pub limits : IsCertificate c
+  pub version : c.version ≡ v
+  pub valid : IsValid w c
+
+-- the first entries stay the first ones
+pub first_stay : (f later : List Entry) → IsPrefix f later → take (length f) later ≡ f
+first_stay f later on = ap (λ (x : List Entry). take (length f) x) (sym on.1) ∙ take-append_seam f on.0
+
+longer : (f later : List Entry) → IsPrefix f later → length f ≤ length later
+longer f later on = omega (arith, ap length on.1, length-append f on.0)
+
+accepted : Below → (f : List Entry) (later : Hall) (c : Certificate) → IsKept later → IsPrefix f later.history
+    → IsGood (world_after f) (length f) c → IsAcceptedWith later.history c
+accepted below f later c kept on good =
+    let same : take c.version later.history ≡ f =
+            ap (λ (n : ℕ). take n later.history) good.version ∙ first_stay f later.history on in
+    let best : Optimal (world_after f) c =
+            below.optimal (world_after f) (world-sound f) c good.limits good.valid in
+    record {
+      written = (below.again later.history later.history kept.each (omega (arith, kept.few, kept.fits))).0;
+      accepted = λ text spells. record {
+        entries = later.history;
+        cert = c;
+        texts = record {
+          history_is = record {
+            spells = subst (λ (t : List ℕ). SpellsHistory t later.history)
+                (sym (below.drops_nothing text
+                (All-from_recursion (λ b. b ≢ 13) text (below.no_returns text later.history spells)))) spells;
+            legal = kept.legal;
+          };
+          certificate = good.limits;
+          proof_is = below.drops_nothing (cert_text c) (below.no_return c good.limits);
+        };
+        reached = omega (arith, good.version, longer f later.history on);
+        valid = subst (λ (x : List Entry). IsValid (world_after x) c) (sym same) good.valid;
+        least = subst (λ (x : List Entry). Optimal (world_after x) c) (sym same) best;
+      };
+    }
+
+pub certified : Below → (f : List Entry) (later : Hall) (cert : Option Certificate) → IsKept later
+    → IsPrefix f later.history → IsSomeAnd cert (IsGood (world_after f) (length f))
+    → IsCertified later.history (length f) cert
+certified below f later None kept on good = absurd good
+certified below f later (Some c) kept on good = (good.version, accepted below f later c kept on good)

@@ -1,0 +1,14 @@
+pub mod Notices
+pub mod Seats
+pub mod Storing
+pub mod Showing
+pub mod Endings
+pub mod Guests
+pub mod Lists
+pub mod Learning
+pub mod Worlds
+pub mod Keeping
+pub mod Certified
+pub mod Journeys
+pub mod Guiding
+pub mod Sample

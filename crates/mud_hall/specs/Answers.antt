@@ -1,0 +1,76 @@
+-- What a line that asks is answered.
+use Rattle.std.specs.Prelude.{◌≡◌, ℕ, List, ◌++◌, length, codes, string_bytes, Option, Some, None}
+use Rattle.std.specs.Option.{IsSome, IsSomeAnd}
+use Rattle.mud_world.specs.State.{State}
+use Rattle.mud_world.specs.declared.refusal.Refusal.TheVariants.{NotUnderstood}
+use Rattle.mud_rules.specs.declared.verdict.Journey.{Journey}
+use Rattle.mud_rules.specs.declared.verdict.Journey.TheVariants.{Route, Meet}
+use Rattle.mud_rules.specs.declared.verdict.Query.{Query}
+use Rattle.mud_rules.specs.declared.verdict.Query.TheVariants as query
+use Rattle.mud_rules.specs.declared.verdict.Verdict.{Verdict}
+use Rattle.mud_rules.specs.declared.verdict.Verdict.TheVariants as verdict
+use Rattle.mud_rules.specs.Replies.{refusal_text}
+use Rattle.mud_rules.specs.Answers.{show_text}
+use Rattle.mud_chron.specs.Entry.{Accepted}
+use Rattle.mud_chron.specs.Text.{written_text}
+use Rattle.mud_cert.specs.Certificate.{Certificate}
+use Rattle.mud_cert.specs.Text.{cert_text}
+use Rattle.mud_guide.specs.declared.answer.Answer.{Answer}
+use Rattle.mud_guide.specs.Answers.{IsRouteAnswer, IsMeetAnswer}
+use Rattle.mud_hall.specs.Told.{world_after}
+use Rattle.mud_hall.specs.Desk.{DeskState}
+use Rattle.mud_hall.specs.Replies.{verdict_on}
+
+-- an answer: the version that it speaks of, its text, and what certifies it
+pub record Answered : Type 0 where
+  pub version : ℕ
+  pub text : List ℕ
+  pub cert : Option Certificate
+
+-- what a call returned, with its text as bytes
+abbrev pub answered : Answer → Answered
+answered a = record { version = a.version; text = string_bytes a.text; cert = a.cert }
+
+-- the guide's answer about a journey, which a player alone gets
+abbrev pub IsGuided : State → ℕ → Option ℕ → Journey → Answer → Type 0
+IsGuided w v None journey g = ⊥
+IsGuided w v (Some p) (Route to) g = IsRouteAnswer w v p to g
+IsGuided w v (Some p) (Meet party) g = IsMeetAnswer w v party g
+
+-- the answer is the text of this certificate; its last line has no end
+pub record IsProof (cert : Option Certificate) (a : Answered) : Type 0 where
+  pub text : IsSomeAnd cert (λ c. a.text ++ codes "\n" ≡ codes "proof\n" ++ cert_text c)
+  pub cert_is : a.cert ≡ cert
+
+-- the answer is the text of the certificate of the guide's answer
+abbrev pub IsProven : State → ℕ → Option ℕ → Journey → Answer → Type 0
+IsProven w v player journey a = (g : Answer) × IsGuided w v player journey g × IsProof g.cert (answered a)
+
+-- the answer to a question; the last line of a history has no end either
+abbrev pub IsShown : List Accepted → Option ℕ → Query → Answered → Type 0
+IsShown h player (query.View view) a = (a.text ≡ show_text (world_after h) player view) × (a.cert ≡ None)
+IsShown h player (query.Journey journey) a =
+    (g : Answer) × IsGuided (world_after h) (length h) player journey g × (a ≡ answered g)
+IsShown h player (query.Proof journey) a =
+    (g : Answer) × IsGuided (world_after h) (length h) player journey g × IsProof g.cert a
+IsShown h player query.History a =
+    (a.text ++ codes "\n" ≡ codes "history\n" ++ written_text h) × (a.cert ≡ None)
+
+-- the answer to what a line comes to: what asks nothing is not understood
+abbrev pub Shows : List Accepted → Option ℕ → Verdict → Answered → Type 0
+Shows h player (verdict.Ask q) a = IsShown h player q a
+Shows h player (verdict.Refused f) a = (a.text ≡ refusal_text f) × (a.cert ≡ None)
+Shows h player (verdict.Change e) a = (a.text ≡ refusal_text NotUnderstood) × (a.cert ≡ None)
+Shows h player (verdict.Become p) a = (a.text ≡ refusal_text NotUnderstood) × (a.cert ≡ None)
+
+-- the desk answers the line by exactly what it has seen
+pub record Answers (s : DeskState) (line : List ℕ) (a : Answered) : Type 0 where
+  pub version : a.version ≡ length s.seen
+  pub shows : Shows s.seen s.player (verdict_on s.seen s.player line) a
+
+-- a guest asks for no journey. Cited by private clauses alone.
+abbrev pub CanAsk : Option ℕ → Query → Type 0
+CanAsk player (query.View view) = Unit {0}
+CanAsk player (query.Journey journey) = IsSome player
+CanAsk player (query.Proof journey) = IsSome player
+CanAsk player query.History = Unit {0}

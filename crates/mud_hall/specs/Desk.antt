@@ -1,0 +1,107 @@
+-- A desk of a hall, and what it takes in.
+use Rattle.std.specs.Prelude.{◌≡◌, ◌≤◌, ◌⊎◌, ℕ, ◌+◌, nat_lt, if◌then◌else◌, IsTrue, Option, Some, None}
+use Rattle.std.specs.Prelude.{List, [], ◌∷◌, ◌++◌, length, take, drop}
+use mathlib.Core.List.{IsPrefix}
+use Rattle.mud_world.specs.State.{State, is_player}
+use Rattle.mud_world.specs.Legal.{is_arrival}
+use Rattle.mud_world.specs.declared.change.Change.{Change}
+use Rattle.mud_chron.specs.Entry.{Accepted}
+use Rattle.mud_row.specs.Known.{Standing}
+use Rattle.mud_hall.specs.Told.{world_after, notices}
+
+-- a desk: its number, its player, or none for a guest, the entries that it has seen, the versions of its accepted
+-- calls, and what it was told
+pub record DeskState : Type 0 where
+  pub number : ℕ
+  pub player : Option ℕ
+  pub seen : List Accepted
+  pub calls : List ℕ
+  pub told : List (List ℕ)
+
+-- a guest's desk of this number, which has seen these entries
+abbrev pub new_desk : ℕ → List Accepted → DeskState
+new_desk number seen = record { number = number; player = None; seen = seen; calls = []; told = [] }
+
+-- a guest's desk again
+abbrev pub as_guest : DeskState → DeskState
+as_guest s = record { number = s.number; player = None; seen = s.seen; calls = s.calls; told = [] }
+
+abbrev pub as_player : DeskState → ℕ → DeskState
+as_player s p = record { number = s.number; player = Some p; seen = s.seen; calls = s.calls; told = s.told }
+
+-- the desk once it was given these told lines
+abbrev pub with_told : DeskState → List (List ℕ) → DeskState
+with_told s told = record { number = s.number; player = s.player; seen = s.seen; calls = s.calls; told = told }
+
+-- the desk once it took these entries in: it is told of them
+abbrev pub took_in : DeskState → List Accepted → DeskState
+took_in s entries = record {
+  number = s.number;
+  player = s.player;
+  seen = s.seen ++ entries;
+  calls = s.calls;
+  told = s.told ++ notices s.player s.seen entries;
+}
+
+-- the desk after its own change, of which it is told nothing: a new player sits down where he came
+abbrev pub as_accepted : DeskState → Change → DeskState
+as_accepted s e = record {
+  number = s.number;
+  player = if is_arrival e.deed then Some e.actor else s.player;
+  seen = s.seen ++ record { desk = s.number; change = e } ∷ [];
+  calls = s.calls ++ (length s.seen + 1) ∷ [];
+  told = s.told;
+}
+
+-- some entries were taken in, and nothing else changed
+pub record TakesIn (old new : DeskState) : Type 0 where
+  pub entries : List Accepted
+  pub is : new ≡ took_in old entries
+
+-- it took in what another desk has seen, where that is more
+pub record Learns (old other new : DeskState) : Type 0 where
+  pub takes_in : TakesIn old new
+  pub longer : new.seen ≡ (if nat_lt (length old.seen) (length other.seen) then other.seen else old.seen)
+
+-- a new guest's desk, which has seen at least what was loaded
+pub record IsNew (loaded : List Accepted) (new : DeskState) : Type 0 where
+  pub from : 1 ≤ new.number
+  pub to : new.number ≤ 64
+  pub begun : IsPrefix loaded new.seen
+  pub is : new ≡ new_desk new.number new.seen
+
+-- ---- what a contract sees of a desk
+
+-- its state, and how many of the entries that it has seen its world took in
+pub record View : Type 0 where
+  pub state : DeskState
+  pub at : ℕ
+
+-- the state of a desk of this replica; of what its world has not taken in yet it is told all the same
+abbrev pub state_of : ℕ → Option ℕ → Standing → List ℕ → List (List ℕ) → DeskState
+state_of number player r calls stored = record {
+  number = number;
+  player = player;
+  seen = r.list;
+  calls = calls;
+  told = stored ++ notices player (take r.at r.list) (drop r.at r.list);
+}
+
+-- the player, if there is one, is one of this world
+abbrev pub IsSeated : State → Option ℕ → Type 0
+IsSeated w None = Unit {0}
+IsSeated w (Some p) = IsTrue (is_player w p)
+
+-- what is true of every desk of the hall with these cells and these loaded entries
+pub record IsHeld (cells : List ℕ) (loaded : List Accepted) (number : ℕ) (player : Option ℕ) (r : Standing) : Type 0 where
+  pub row : r.row ≡ cells
+  pub begun : IsPrefix loaded r.list
+  pub from : 1 ≤ number
+  pub to : number ≤ 64
+  pub seated : IsSeated (world_after r.list) player
+
+-- what is true of what lies under the lock of that hall: at most 64 desks were given, and it knows what was loaded
+pub record IsKept (cells : List ℕ) (loaded : List Accepted) (given : ℕ) (r : Standing) : Type 0 where
+  pub few : given ≤ 64
+  pub row : r.row ≡ cells
+  pub begun : IsPrefix loaded r.list

@@ -1,0 +1,10 @@
+pub mod Told
+pub mod Desk
+pub mod Replies
+pub mod Answers
+pub mod Opening
+pub mod Alone
+pub mod Settling
+pub mod Steps
+pub mod Right
+pub mod Laws

@@ -1,0 +1,93 @@
+-- What is true of an answer about a journey, in terms of walks, costs and rooms.
+use Rattle.std.specs.Prelude.{◌≡◌, ℕ, ◌≤◌, List, [], ◌∷◌, ◌++◌, length, Option, Some, None, codes}
+use Rattle.std.specs.Option.{IsSomeAnd, option_map}
+use Rattle.std.specs.List.{AllZip}
+use Rattle.mud_world.specs.State.{State, place_of}
+use Rattle.mud_roads.specs.declared.label.Step.{Step}
+use Rattle.mud_roads.specs.Walks.{Walk, NoWalk, Goer, IsMeeting, NoMeeting}
+use Rattle.mud_roads.specs.Open.{roads_of}
+use Rattle.mud_rules.specs.declared.verdict.Journey.{Journey as Question}
+use Rattle.mud_rules.specs.declared.verdict.Journey.TheVariants as question
+use Rattle.mud_chron.specs.Entry.{Accepted as Entry}
+use Rattle.mud_chron.specs.Text.{written_text}
+use Rattle.mud_chron.specs.History.{SpellsHistory}
+use Rattle.mud_cert.specs.Certificate.{Account, Certificate}
+use Rattle.mud_cert.specs.declared.cert.Conclusion.{Conclusion}
+use Rattle.mud_cert.specs.declared.cert.Conclusion.TheVariants.{Route, Meet}
+use Rattle.mud_cert.specs.Text.{cert_text}
+use Rattle.mud_cert.specs.declared.cert.Meeting.{Meeting}
+use Rattle.mud_cert.specs.declared.finding.Finding.TheVariants as finding
+use Rattle.mud_cert.specs.Finding.{IsFinding}
+use Rattle.mud_guide.specs.Ways.{cost_of, exits_of}
+use Rattle.mud_guide.specs.Journeys.{Journey, goers_of}
+use Rattle.mud_guide.specs.Texts.{route_text, meet_text}
+
+-- a walk open to p from one room to another; none costs less, or as much with fewer exits
+pub record IsBestWalk (w : State) (p from to : ℕ) (ss : List Step) : Type 0 where
+  pub walk : Walk (roads_of w p) from ss to
+  pub cheapest : (ts : List Step) → Walk (roads_of w p) from ts to → cost_of ss ≤ cost_of ts
+  pub shortest : (ts : List Step) → Walk (roads_of w p) from ts to → cost_of ss ≡ cost_of ts → length ss ≤ length ts
+
+-- a best walk, or none where no walk is open to p, or where there is no room to go to
+abbrev pub IsBestWay : State → ℕ → ℕ → Option ℕ → Option (List Step) → Type 0
+IsBestWay w p from (Some to) (Some ss) = IsBestWalk w p from to ss
+IsBestWay w p from (Some to) None = NoWalk (roads_of w p) from to
+IsBestWay w p from None way = way ≡ None
+
+-- p goes from where he is by a best way to the room
+pub record GoesBest (w : State) (to : Option ℕ) (p : ℕ) (j : Journey) : Type 0 where
+  pub who : j.player ≡ p
+  pub place : place_of w p ≡ Some j.from
+  pub way : IsBestWay w p j.from to j.way
+
+-- the member of a certificate is he who goes, from there, by these exits
+pub record IsMemberFor (j : Journey) (a : Account) : Type 0 where
+  pub who : a.player ≡ j.player
+  pub from : a.from ≡ j.from
+  pub walk : a.walk ≡ option_map exits_of j.way
+
+-- the certificate is of those who go so, and concludes this
+pub record Certifies (journeys : List Journey) (says : Conclusion) (c : Certificate) : Type 0 where
+  pub members : AllZip IsMemberFor journeys c.members
+  pub conclusion : c.conclusion ≡ says
+
+-- the text tells a best way of p to the room, and the certificate is of that way
+pub record TellsRoute (w : State) (p to : ℕ) (text : List ℕ) (cert : Option Certificate) : Type 0 where
+  pub journey : Journey
+  pub goes : GoesBest w (Some to) p journey
+  pub text_is : text ≡ route_text to journey
+  pub certified : IsSomeAnd cert (Certifies (journey ∷ []) (Route to (option_map cost_of journey.way)))
+
+-- of the rooms where all come the one of least greatest cost, then of lowest number; or none where there is none
+abbrev pub IsBestPlace : List Goer → Option Meeting → Type 0
+IsBestPlace party (Some m) = IsMeeting 0 party m.room m.cost
+IsBestPlace party None = NoMeeting 0 party
+
+-- the text tells where the party meets, and the best way of each, or that there is no meeting, and the certificate is
+-- of those ways
+pub record TellsMeeting (w : State) (party : List ℕ) (text : List ℕ) (cert : Option Certificate) : Type 0 where
+  pub place : Option Meeting
+  pub journeys : List Journey
+  pub go : AllZip (GoesBest w (option_map (λ m. m.room) place)) party journeys
+  pub best : IsBestPlace (goers_of w journeys) place
+  pub text_is : text ≡ meet_text place journeys
+  pub certified : IsSomeAnd cert (Certifies journeys (Meet place))
+
+-- the journey that p asked for is told as it is, and the certificate is of what is told
+abbrev pub TellsJourney : State → ℕ → Question → List ℕ → Option Certificate → Type 0
+TellsJourney w p (question.Route to) text cert = TellsRoute w p to text cert
+TellsJourney w p (question.Meet party) text cert = TellsMeeting w party text cert
+
+-- the history has a text, as it is written in format 2, and with each text of it, in either format, the checker
+-- accepts that of the certificate
+pub record IsAcceptedWith (h : List Entry) (c : Certificate) : Type 0 where
+  pub written : SpellsHistory (written_text h) h
+  pub accepted : (text : List ℕ) → SpellsHistory text h → IsFinding text (cert_text c) finding.Accepted
+
+-- there is a certificate, of that version, and the checker accepts it with the text of the history
+abbrev pub IsCertified : List Entry → ℕ → Option Certificate → Type 0
+IsCertified h v cert = IsSomeAnd cert (λ c. (c.version ≡ v) × IsAcceptedWith h c)
+
+-- the text is that of the certificate; its last line has no end
+abbrev pub TellsProof : Option Certificate → List ℕ → Type 0
+TellsProof cert text = IsSomeAnd cert (λ c. text ++ codes "\n" ≡ codes "proof\n" ++ cert_text c)

@@ -1,0 +1,54 @@
+-- The settlement of a hall: the one history that its desks made.
+use Rattle.std.specs.Prelude.{◌≡◌, ◌≢◌, ℕ, ◌+◌, ◌<◌, ◌≤◌, List, [], ◌∷◌, ◌++◌, length, drop, Some, All, Any, ◌==◌, if◌then◌else◌, slice_get}
+use Rattle.std.specs.List.{AllPairs}
+use mathlib.Core.List.{IsPrefix}
+use Rattle.mud_chron.specs.Entry.{Accepted}
+use Rattle.mud_hall.specs.declared.fault.CloseFault.{CloseFault}
+use Rattle.mud_hall.specs.declared.fault.CloseFault.TheVariants.{OutOfMemory, SameNumber, Missing, Mismatch}
+use Rattle.mud_hall.specs.Desk.{View}
+
+-- the versions, from v on, of the entries that bear the number n
+abbrev pub versions_by : ℕ → ℕ → List Accepted → List ℕ
+versions_by n v [] = []
+versions_by n v (e ∷ es) = (if e.desk == n then v ∷ [] else []) ++ versions_by n (v + 1) es
+
+-- the entries of a history behind those that were loaded
+abbrev pub made : List Accepted → List Accepted → List Accepted
+made loaded history = drop (length loaded) history
+
+-- some desk has the number
+abbrev pub HasNumber : List View → ℕ → Type 0
+HasNumber desks n = Any (λ d. d.state.number ≡ n) desks
+
+-- the history that these desks made: each knows a beginning of it; behind what was loaded each entry is a call of the desk whose number it bears, and each desk's calls are there once, in their order
+pub record IsSettled (loaded : List Accepted) (desks : List View) (history : List Accepted) : Type 0 where
+  pub begun : IsPrefix loaded history
+  pub known : All (λ d. IsPrefix d.state.seen history) desks
+  pub calls : All (λ d. d.state.calls ≡ versions_by d.state.number (length loaded + 1) (made loaded history)) desks
+  pub apart : AllPairs (λ c d. c.state.number ≢ d.state.number) desks
+  pub named : All (λ e. HasNumber desks e.desk) (made loaded history)
+
+-- two desks have the number
+pub record HaveSameNumber (desks : List View) (n : ℕ) : Type 0 where
+  pub i : ℕ
+  pub j : ℕ
+  pub a : View
+  pub b : View
+  pub apart : i < j
+  pub one : slice_get desks i ≡ Some a
+  pub other : slice_get desks j ≡ Some b
+  pub one_is : a.state.number ≡ n
+  pub other_is : b.state.number ≡ n
+
+-- the least number from 1 that no desk has
+pub record IsMissing (desks : List View) (n : ℕ) : Type 0 where
+  pub from : 1 ≤ n
+  pub none : HasNumber desks n → ⊥
+  pub least : (k : ℕ) → k + 1 < n → HasNumber desks (k + 1)
+
+-- when each fault of a settlement comes
+abbrev pub IsCloseFault : List View → CloseFault → Type 0
+IsCloseFault desks OutOfMemory = Unit {0}
+IsCloseFault desks (SameNumber n) = HaveSameNumber desks n
+IsCloseFault desks (Missing n) = IsMissing desks n
+IsCloseFault desks (Mismatch v) = Unit {0}

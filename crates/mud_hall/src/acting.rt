@@ -1,0 +1,95 @@
+//! Lines that act.
+
+ghost use Rattle.std.specs.Prelude.{◌≡◌, ◌++◌, ◌∷◌, [], ◌<◌, ◌≤◌, ◌+◌, length, Some, None, IfOk, IfErr, OnErr, OnOk, string_bytes};
+ghost use Rattle.mud_rules.specs.Outcome.{IsLawful};
+ghost use Rattle.mud_hall.specs.Told.{world_after};
+ghost use Rattle.mud_hall.specs.Desk.{DeskState, as_player};
+ghost use Rattle.mud_hall.specs.Replies.{shown, Acts, Replies, Stores};
+
+use crate::desk::Desk;
+use crate::fault::Fault;
+use crate::name::HallName;
+use crate::reply::Reply;
+use mud_chron::Entry;
+use mud_row::{Row, RowFault};
+use mud_rules::{Verdict, decide, refusal_text, reply_text, welcome_text};
+use mud_words::parse;
+use mud_world::Change;
+use std::alloc::{AllocError, Global};
+
+impl<J: HallName> Desk<J> {
+    // Takes in all entries, and replies to the line in the world that they lead to.
+    pub(crate) fn act(&mut self, alloc: Global, row: &Row, line: &str) -> Result<Reply, Fault>
+        requires { row.now ≡ J.cells }
+        ensures { Acts (length row.now) self.old.state line.now (shown result) self.new.state }
+    {
+        self.take_in(alloc, row)?;
+        self.reply(alloc, row, line)
+    }
+
+    // Replies to the line in the world of all that it knows.
+    fn reply(&mut self, alloc: Global, row: &Row, line: &str) -> Result<Reply, Fault>
+        requires row { row.now ≡ J.cells }
+        requires all { self.old.at ≡ length self.old.state.seen }
+        ensures { Replies (length row.now) self.old.state line.now (shown result) self.new.state }
+    {
+        let parsed = parse(alloc, line)?;
+        match decide(alloc, self.replica.world(), self.player, &parsed)? {
+            Verdict::Refused(refusal) => {
+                let text = String::from_str(alloc, refusal_text(refusal))?;
+                Ok(Reply::Refused {
+                    version: self.seen(),
+                    refusal,
+                    text,
+                })
+            }
+            Verdict::Ask(_) => Ok(Reply::Question {
+                version: self.seen(),
+            }),
+            Verdict::Become(player) => {
+                let text = welcome_text(alloc, player)?;
+                self.seat(player);
+                Ok(Reply::Became {
+                    version: self.seen(),
+                    text,
+                })
+            }
+            Verdict::Change(change) => self.store(alloc, row, change),
+        }
+    }
+
+    // A player who has the name sits down.
+    fn seat(&mut self, player: u32)
+        requires all { self.old.at ≡ length self.old.state.seen }
+        requires lawful { IsLawful (world_after self.old.state.seen) self.old.state.player (Verdict.Become player) }
+        ensures { self.new.state ≡ as_player self.old.state player }
+    {
+        self.player = Some(player);
+    }
+
+    // Adds a change to the history. What could lack memory is made before the cell is set.
+    fn store(&mut self, alloc: Global, row: &Row, change: Change) -> Result<Reply, Fault>
+        requires row { row.now ≡ J.cells }
+        requires all { self.old.at ≡ length self.old.state.seen }
+        requires lawful { IsLawful (world_after self.old.state.seen) self.old.state.player (Verdict.Change change) }
+        ensures { Stores (length row.now) self.old.state change (shown result) self.new.state }
+    {
+        if self.replica.known() == row.capacity() {
+            return Err(Fault::HistoryFull);
+        }
+        let actor = change.actor;
+        let text = reply_text(alloc, self.replica.world(), &change)?;
+        let _sound = self.replica.world().next_number();
+        let entry = Box::new(alloc, Entry::new(self.number, change))?;
+        self.calls.reserve(1)?;
+        match self.replica.publish(row, entry) {
+            Ok(version) => {
+                self.calls.push_reserved(version);
+                self.player = Some(actor);
+                Ok(Reply::Accepted { version, text })
+            }
+            Err((_, RowFault::HistoryFull)) => Err(Fault::HistoryFull),
+            Err((_, RowFault::Unpublished)) => Err(Fault::Unpublished),
+        }
+    }
+}

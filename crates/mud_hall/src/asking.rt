@@ -1,0 +1,91 @@
+//! Lines that ask.
+
+ghost use Rattle.std.specs.Prelude.{◌≡◌, length, IfOk};
+ghost use Rattle.mud_rules.specs.Outcome.{IsQuestion, IsLawful};
+ghost use Rattle.mud_hall.specs.Told.{world_after};
+ghost use Rattle.mud_hall.specs.Replies.{verdict_on};
+ghost use Rattle.mud_hall.specs.Answers.{answered, Answers, IsShown, CanAsk};
+
+use crate::answering;
+use crate::desk::Desk;
+use crate::entries::entries_of;
+use crate::name::HallName;
+use crate::texts::history_answer;
+use mud_guide::Answer;
+use mud_row::Row;
+use mud_rules::{Query, Verdict, decide, refusal_text};
+use mud_words::parse;
+use std::alloc::{AllocError, Global};
+
+impl<J: HallName> Desk<J> {
+    // Answers a line at exactly what it has seen.
+    pub(crate) fn answer(
+        &mut self,
+        alloc: Global,
+        row: &Row,
+        line: &str,
+    ) -> Result<Answer, AllocError>
+        requires { row.now ≡ J.cells }
+        ensures same { self.new.state ≡ self.old.state }
+        ensures ok { IfOk result (λ a. Answers self.old.state line.now (answered a)) }
+    {
+        self.catch_up(alloc, row)?;
+        self.respond(alloc, row, line)
+    }
+
+    // Answers a line in the world of all that it has seen.
+    fn respond(&mut self, alloc: Global, row: &Row, line: &str) -> Result<Answer, AllocError>
+        requires row { row.now ≡ J.cells }
+        requires all { self.old.at ≡ length self.old.state.seen }
+        ensures same { self.new.state ≡ self.old.state }
+        ensures ok { IfOk result (λ a. Answers self.old.state line.now (answered a)) }
+    {
+        match self.verdict(alloc, line)? {
+            Verdict::Ask(query) => self.explain(alloc, row, &query),
+            Verdict::Refused(refusal) => {
+                answering::plain(alloc, self.seen(), refusal_text(refusal))
+            }
+            Verdict::Change(_) => answering::not_understood(alloc, self.seen()),
+            Verdict::Become(_) => answering::not_understood(alloc, self.seen()),
+        }
+    }
+
+    // What a line comes to in the world of all that it has seen.
+    fn verdict(&self, alloc: Global, line: &str) -> Result<Verdict, AllocError>
+        requires all { self.now.at ≡ length self.now.state.seen }
+        ensures decision { IfOk result (λ v. v ≡ verdict_on self.now.state.seen self.now.state.player line.now) }
+        ensures lawful { IfOk result (IsLawful (world_after self.now.state.seen) self.now.state.player) }
+    {
+        let parsed = parse(alloc, line)?;
+        decide(alloc, self.replica.world(), self.player, &parsed)
+    }
+
+    // The answer to a question.
+    fn explain(&mut self, alloc: Global, row: &Row, query: &Query) -> Result<Answer, AllocError>
+        requires row { row.now ≡ J.cells }
+        requires all { self.old.at ≡ length self.old.state.seen }
+        requires question { IsQuestion (world_after self.old.state.seen) query.now }
+        requires player { CanAsk self.old.state.player query.now }
+        ensures same { self.new.state ≡ self.old.state }
+        ensures version { IfOk result (λ a. a.version ≡ length self.old.state.seen) }
+        ensures shown { IfOk result (λ a. IsShown self.old.state.seen self.old.state.player query.now (answered a)) }
+    {
+        let (version, player) = (self.seen(), self.player);
+        let world = self.replica.world();
+        match query {
+            Query::View(view) => answering::view(alloc, world, version, player, view),
+            Query::Journey(journey) => {
+                Ok(answering::guide(alloc, world, version, player, journey)?)
+            }
+            Query::Proof(journey) => answering::prove(alloc, world, version, player, journey),
+            Query::History => {
+                let entries = entries_of(alloc, row, &mut self.replica)?;
+                Ok(Answer {
+                    version,
+                    text: history_answer(alloc, &entries)?,
+                    cert: None,
+                })
+            }
+        }
+    }
+}

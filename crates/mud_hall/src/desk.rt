@@ -1,0 +1,186 @@
+//! One caller's side of a hall.
+
+ghost use Rattle.std.specs.Prelude.{◌≡◌, ◌++◌, ◌∷◌, [], ◌<◌, ◌≤◌, ◌+◌, ◌⊎◌, length, take, drop, map, Some, None, IfOk, IfErr, OnErr, OnOk, MatchBool, string_bytes};
+ghost use Rattle.std.specs.Option.{option_to_list};
+ghost use mathlib.Core.List.{IsPrefix};
+ghost use Rattle.mud_hall.specs.Told.{notices, notice_in, notice_text};
+ghost use Rattle.mud_hall.specs.Desk.{View, DeskState, TakesIn, Learns, IsNew, as_guest, with_told, state_of};
+
+use crate::name::HallName;
+use mud_chron::Entry;
+use mud_row::{Replica, Row};
+use mud_rules::heard;
+use mud_world::World;
+use std::alloc::{AllocError, Global};
+use std::marker::{Model, PhantomData};
+use std::mem;
+
+/// One caller's side of a hall: who he is, what he knows, what he did and what he was told.
+#[derive(Drop)]
+pub struct Desk<J: HallName> {
+    pub(crate) number: u32,
+    pub(crate) player: Option<u32>,
+    pub(crate) replica: Replica,
+    pub(crate) calls: Vec<u32>,
+    pub(crate) told: Vec<String>,
+    of: PhantomData<J>,
+}
+
+impl<J: HallName> Model for Desk<J> {
+    ghost use Rattle.std.specs.Prelude.{map, string_bytes};
+    ghost use Rattle.mud_hall.specs.Desk.{View, state_of, IsHeld};
+
+    ghost Value = { View };
+
+    ghost use Rattle.mud_key.specs.TreeCode.{coded_number_tree};
+    ghost use Rattle.std.specs.Coded.{codes};
+
+    ghost coded = { Prim.hlevel (codes, coded_number_tree) };
+
+    ghost view = { λ d. record {
+      state = state_of d.number d.player d.replica d.calls.items (map string_bytes d.told.items);
+      at = d.replica.at
+    } };
+
+    ghost invariant = { λ d. IsHeld J.cells J.loaded d.number d.player d.replica };
+}
+
+impl<J: HallName> Desk<J> {
+    // A new guest's desk with this replica.
+    pub(crate) fn guest_at(alloc: Global, replica: Replica, number: u32) -> Desk<J>
+        requires row { replica.row ≡ J.cells }
+        requires loaded { IsPrefix J.loaded replica.list }
+        requires number { (1 ≤ number) × (number ≤ 64) }
+        ensures new { IsNew J.loaded result.state }
+        ensures number { result.state.number ≡ number }
+    {
+        Desk {
+            number,
+            player: None,
+            replica,
+            calls: Vec::new(alloc),
+            told: Vec::new(alloc),
+            of: PhantomData,
+        }
+    }
+
+    /// Its number in its hall, 1 to 64.
+    pub fn number(&self) -> u32
+        ensures { result ≡ self.now.state.number }
+    {
+        self.number
+    }
+
+    /// How many entries it has seen.
+    pub fn seen(&self) -> u32
+        ensures seen { result ≡ length self.now.state.seen }
+        ensures limit { result ≤ 65536 }
+    {
+        self.replica.known()
+    }
+
+    // Takes one more known entry into its world, with the line that its player is told of it.
+    fn take_one(&mut self, alloc: Global, row: &Row) -> Result<bool, AllocError>
+        requires { row.now ≡ J.cells }
+        ensures still { self.new.state ≡ self.old.state }
+        ensures ok { IfOk result (λ more. MatchBool more ((self.old.at < length self.old.state.seen) × (self.new.at ≡ self.old.at + 1)) ((self.old.at ≡ length self.old.state.seen) × (self.new.at ≡ self.old.at))) }
+        ensures err { OnErr result (self.new.at ≡ self.old.at) }
+    {
+        let Some(entry) = self.replica.peek(row) else {
+            return Ok(false);
+        };
+        let version = self.replica.at() + 1;
+        let line = line_told(alloc, self.player, version, self.replica.world(), entry)?;
+        self.told.reserve(1)?;
+        self.replica.step(row)?;
+        if let Some(line) = line {
+            self.told.push_reserved(line);
+        }
+        Ok(true)
+    }
+
+    // Takes all cells that are found set into what it knows.
+    fn extend(&mut self, row: &Row)
+        requires { row.now ≡ J.cells }
+        ensures at { self.new.at ≡ self.old.at }
+        ensures state { TakesIn self.old.state self.new.state }
+    {
+        self.replica.extend(row);
+    }
+
+    // Takes all that it knows into its world.
+    pub(crate) fn catch_up(&mut self, alloc: Global, row: &Row) -> Result<(), AllocError>
+        requires { row.now ≡ J.cells }
+        ensures still { self.new.state ≡ self.old.state }
+        ensures ok { OnOk result (self.new.at ≡ length self.new.state.seen) }
+    {
+        for _ in self.replica.at()..self.replica.known() {
+            self.take_one(alloc, row)?;
+        }
+        Ok(())
+    }
+
+    // Takes all cells that are found set into what it knows and into its world.
+    pub(crate) fn take_in(&mut self, alloc: Global, row: &Row) -> Result<(), AllocError>
+        requires { row.now ≡ J.cells }
+        ensures state { TakesIn self.old.state self.new.state }
+        ensures ok { OnOk result (self.new.at ≡ length self.new.state.seen) }
+    {
+        self.extend(row);
+        self.catch_up(alloc, row)
+    }
+
+    /// Takes over what another desk of its hall knows, where that is more. It takes no memory.
+    pub fn learn(&mut self, other: &mut Desk<J>)
+        ensures other_same { other.new ≡ other.old }
+        ensures at { self.new.at ≡ self.old.at }
+        ensures learns { Learns self.old.state other.old.state self.new.state }
+        ensures theirs { IsPrefix other.old.state.seen self.new.state.seen }
+    {
+        self.replica.learn(&mut other.replica);
+    }
+
+    /// A guest's desk again: its number, what it knows and its calls stay. It takes no memory.
+    pub fn guest(&mut self)
+        ensures { self.new ≡ record { state = as_guest self.old.state; at = self.old.at } }
+    {
+        self.player = None;
+        self.told = Vec::new(*Vec::allocator(&self.told));
+    }
+
+    /// The lines that it was told of the entries that its world took in, each once. It takes no
+    /// memory.
+    pub fn take_told(&mut self) -> Vec<String>
+        ensures told { self.old.state.told ≡ map string_bytes result.items ++ self.new.state.told }
+        ensures rest { let s = self.old.state in self.new ≡ record { state = with_told s (notices s.player (take self.old.at s.seen) (drop self.old.at s.seen)); at = self.old.at } }
+    {
+        let empty = Vec::new(*Vec::allocator(&self.told));
+        mem::replace(&mut self.told, empty)
+    }
+}
+
+// The notice of an entry for a player, if he hears it; the world is the one before it.
+fn line_told(
+    alloc: Global,
+    player: Option<u32>,
+    version: u32,
+    world: &World,
+    entry: &Entry,
+) -> Result<Option<String>, AllocError>
+    ensures { IfOk result (λ line. map string_bytes (option_to_list line) ≡ notice_in player version world.now entry.now) }
+{
+    let Some(player) = player else {
+        return Ok(None);
+    };
+    match heard(alloc, world, entry.change(), player)? {
+        None => Ok(None),
+        Some(line) => Ok(Some(notice_text(alloc, version, &line)?)),
+    }
+}
+
+// A notice names the change that was heard.
+fn notice_text(alloc: Global, version: u32, line: &str) -> Result<String, AllocError>
+    ensures { IfOk result (λ text. string_bytes text ≡ notice_text version line.now) }
+{
+    Ok(format!(in alloc; "({version}) {line}")?)
+}

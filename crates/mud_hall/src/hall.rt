@@ -1,0 +1,202 @@
+//! Many desks over one history.
+
+ghost use Rattle.std.specs.Prelude.{◌≡◌, ◌≤◌, ◌<◌, ◌⊎◌, [], length, IfOk, IfErr, OnErr, OnOk};
+ghost use Rattle.mud_chron.specs.Replay.{changes_of, AreLegal};
+ghost use Rattle.mud_hall.specs.Desk.{IsNew, TakesIn};
+ghost use Rattle.mud_hall.specs.Replies.{shown, Acts};
+ghost use Rattle.mud_hall.specs.Answers.{answered, Answers};
+ghost use Rattle.mud_hall.specs.Opening.{Begun, IsLoadFault};
+
+use crate::desk::Desk;
+use crate::fault::{Fault, LoadFault};
+use crate::kept::Kept;
+use crate::name::HallName;
+use crate::reply::Reply;
+use mud_chron::{ChronFault, Entry, replay};
+use mud_guide::Answer;
+use mud_row::{FillFault, Replica, Row};
+use std::alloc::{AllocError, Global};
+use std::marker::Model;
+use std::sync::{Mutex, Wait};
+
+/// A hall that has no name yet. A contract sees the names of the cells of its history, and the
+/// entries that it begins with.
+#[derive(Drop)]
+pub struct NewHall {
+    row: Row,
+    known: Replica,
+    alloc: Global,
+}
+
+impl Model for NewHall {
+    ghost use Rattle.std.specs.Prelude.{◌≡◌};
+    ghost use Rattle.mud_hall.specs.Opening.{Begun};
+
+    ghost Value = { Begun };
+
+    ghost use Rattle.mud_key.specs.TreeCode.{coded_number_tree};
+    ghost use Rattle.std.specs.Coded.{codes};
+
+    ghost coded = { Prim.hlevel (codes, coded_number_tree) };
+
+    ghost view = { λ h. record { cells = h.row; loaded = h.known.list } };
+
+    ghost invariant = { λ h. h.known.row ≡ h.row };
+}
+
+impl NewHall {
+    /// A hall whose history is empty and can have so many entries, 1 to 65,536. Only want of memory
+    /// is an error.
+    pub fn open(alloc: Global, capacity: u32) -> Result<NewHall, AllocError>
+        requires from { 1 ≤ capacity }
+        requires to { capacity ≤ 65536 }
+        ensures capacity { IfOk result (λ h. length h.cells ≡ capacity) }
+        ensures loaded { IfOk result (λ h. h.loaded ≡ []) }
+    {
+        let row = Row::new(alloc, capacity)?;
+        let known = Replica::new(alloc, &row)?;
+        Ok(NewHall { row, known, alloc })
+    }
+
+    /// A hall that goes on from these entries. Tried in this order: `BadChange`, the first entry
+    /// whose change is not legal where it stands; `OverCapacity`, more entries than the history can
+    /// have; `NotStored`.
+    pub fn resume(alloc: Global, capacity: u32, entries: Vec<Entry>) -> Result<NewHall, LoadFault>
+        requires from { 1 ≤ capacity }
+        requires to { capacity ≤ 65536 }
+        ensures capacity { IfOk result (λ h. length h.cells ≡ capacity) }
+        ensures loaded { IfOk result (λ h. h.loaded ≡ entries.items) }
+        ensures legal { OnOk result (AreLegal (changes_of entries.items)) }
+        ensures fault { IfErr result (IsLoadFault capacity entries.items) }
+    {
+        if let Err(fault) = is_loadable(alloc, capacity, &entries) {
+            return Err(fault);
+        }
+        let row = Row::new(alloc, capacity)?;
+        let mut pass = row.pass(alloc)?;
+        let mut known = Replica::new(alloc, &row)?;
+        match row.fill(alloc, &mut pass, entries) {
+            Ok(()) => {}
+            Err(FillFault::OutOfMemory) => return Err(LoadFault::OutOfMemory),
+            Err(FillFault::HistoryFull) => unreachable!(),
+            Err(FillFault::Unpublished) => return Err(LoadFault::NotStored),
+        }
+        known.hear(&mut pass);
+        known.catch_up(&row)?;
+        Ok(NewHall { row, known, alloc })
+    }
+
+    /// The hall by its name, from which all types of its desks take it.
+    pub fn named<J: HallName>(self) -> Hall<J>
+        requires cells { self.cells ≡ J.cells }
+        requires loaded { self.loaded ≡ J.loaded }
+        ensures { result ≡ length J.cells }
+    {
+        let NewHall { row, known, alloc } = self;
+        let loaded = known.known();
+        Hall {
+            row,
+            kept: Mutex::new(Kept::new(known)),
+            alloc,
+            loaded,
+        }
+    }
+}
+
+// Whether each change is legal where it stands, and the history can have them all.
+fn is_loadable(alloc: Global, capacity: u32, entries: &[Entry]) -> Result<(), LoadFault>
+    ensures legal { OnOk result (AreLegal (changes_of entries.now)) }
+    ensures few { OnOk result (length entries.now ≤ capacity) }
+    ensures fault { IfErr result (IsLoadFault capacity entries.now) }
+{
+    match replay(alloc, entries) {
+        Ok(_) => {}
+        Err(ChronFault::OutOfMemory) => return Err(LoadFault::OutOfMemory),
+        Err(ChronFault::BadChange(n)) => return Err(LoadFault::BadChange(n)),
+        Err(_) => unreachable!(),
+    }
+    if entries.len() > capacity as usize {
+        return Err(LoadFault::OverCapacity);
+    }
+    Ok(())
+}
+
+/// One history, and the desks of those who make it. A contract sees how many entries the history can
+/// have. The lock keeps how many desks were given and what the hall itself knows, nothing else.
+#[derive(Drop)]
+pub struct Hall<J: HallName> {
+    pub(crate) row: Row,
+    pub(crate) kept: Mutex<Kept<J>>,
+    pub(crate) alloc: Global,
+    pub(crate) loaded: u32,
+}
+
+impl<J: HallName> Model for Hall<J> {
+    ghost use Rattle.std.specs.Prelude.{◌≡◌, ℕ, length};
+
+    ghost Value = { ℕ };
+
+    ghost view = { λ h. length h.row };
+
+    ghost invariant = { λ h. (h.row ≡ J.cells) × (h.loaded ≡ length J.loaded) };
+}
+
+impl<J: HallName> Hall<J> {
+    /// How many entries the history can have, 1 to 65,536.
+    pub fn capacity(&self) -> u32
+        ensures capacity { result ≡ self.now }
+        ensures limit { result ≤ 65536 }
+    {
+        self.row.capacity()
+    }
+
+    /// How many entries it began with.
+    pub fn loaded(&self) -> u32
+        ensures { result ≡ length J.loaded }
+    {
+        self.loaded
+    }
+
+    /// A guest's desk of the next number, from 1, which has seen the whole history. It is
+    /// `DesksFull` where 64 were given.
+    pub fn desk<R: Wait>(&self, rt: &R) -> Result<Desk<J>, Fault>
+        ensures new { IfOk result (λ d. IsNew J.loaded d.state) }
+        ensures fault { IfErr result (λ f. (f ≡ Fault.OutOfMemory) ⊎ (f ≡ Fault.DesksFull)) }
+    {
+        let mut kept = self.kept.lock(rt);
+        kept.desk(self.alloc, &self.row)
+    }
+
+    /// Takes in all entries, and then replies to the line in the world that they lead to. A change
+    /// is added to the history: `HistoryFull` where it takes no more, `Unpublished` where it did not
+    /// take the entry. After a fault the history has no entry of this call.
+    pub fn act<R: Wait>(&self, rt: &R, desk: &mut Desk<J>, line: &str) -> Result<Reply, Fault>
+        ensures { Acts self.now desk.old.state line.now (shown result) desk.new.state }
+    {
+        let _kept = self.kept.lock(rt);
+        desk.act(self.alloc, &self.row, line)
+    }
+}
+
+impl<J: HallName> Desk<J> {
+    /// Takes in all entries that are found. It waits for nobody.
+    pub fn see(&mut self, hall: &Hall<J>) -> Result<(), Fault>
+        ensures state { TakesIn self.old.state self.new.state }
+        ensures ok { OnOk result (self.new.at ≡ length self.new.state.seen) }
+        ensures fault { IfErr result (λ f. f ≡ Fault.OutOfMemory) }
+    {
+        self.take_in(hall.alloc, &hall.row)?;
+        Ok(())
+    }
+
+    /// Answers a line by exactly what it has seen. A line that asks nothing is not understood. It
+    /// waits for nobody.
+    pub fn ask(&mut self, hall: &Hall<J>, line: &str) -> Result<Answer, Fault>
+        ensures same { self.new.state ≡ self.old.state }
+        ensures ok { IfOk result (λ a. Answers self.old.state line.now (answered a)) }
+        ensures fault { IfErr result (λ f. f ≡ Fault.OutOfMemory) }
+    {
+        let answer = self.answer(hall.alloc, &hall.row, line)?;
+        Ok(answer)
+    }
+}

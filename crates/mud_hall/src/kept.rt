@@ -1,0 +1,75 @@
+//! What lies under the lock of a hall.
+
+ghost use Rattle.std.specs.Prelude.{◌≡◌, ◌≤◌, ◌<◌, ◌+◌, ◌↔◌, IfOk, OnOk, OnErr, IsErrAnd, IfErr, ◌⊎◌};
+ghost use mathlib.Core.List.{IsPrefix};
+ghost use Rattle.mud_hall.specs.Desk.{IsNew};
+
+use crate::desk::Desk;
+use crate::fault::Fault;
+use crate::name::HallName;
+use mud_row::{Replica, Row};
+use std::alloc::Global;
+use std::marker::{Model, PhantomData};
+
+/// The most desks of a hall.
+pub const MOST_DESKS: u32 = 64;
+
+/// How many desks were given, and what the hall knows, which begins with what was loaded. A
+/// contract sees the number.
+#[derive(Drop)]
+pub struct Kept<J: HallName> {
+    given: u32,
+    pub(crate) known: Replica,
+    of: PhantomData<J>,
+}
+
+impl<J: HallName> Model for Kept<J> {
+    ghost use Rattle.std.specs.Prelude.{ℕ, ◌≡◌, ◌≤◌};
+    ghost use Rattle.mud_hall.specs.Desk.{IsKept};
+
+    ghost Value = { ℕ };
+
+    ghost view = { λ k. k.given };
+
+    ghost invariant = { λ k. IsKept J.cells J.loaded k.given k.known };
+}
+
+impl<J: HallName> Kept<J> {
+    // At first no desk was given.
+    pub(crate) fn new(known: Replica) -> Kept<J>
+        requires row { known.row ≡ J.cells }
+        requires loaded { IsPrefix J.loaded known.list }
+        ensures { result ≡ 0 }
+    {
+        Kept {
+            given: 0,
+            known,
+            of: PhantomData,
+        }
+    }
+
+    // How many desks were given.
+    pub(crate) fn given(&self) -> u32
+        ensures given { result ≡ self.now }
+        ensures few { result ≤ 64 }
+    {
+        self.given
+    }
+
+    // The desk of the next number, which has seen all that is found.
+    pub(crate) fn desk(&mut self, alloc: Global, row: &Row) -> Result<Desk<J>, Fault>
+        requires { row.now ≡ J.cells }
+        ensures new { IfOk result (λ d. IsNew J.loaded d.state) }
+        ensures number { IfOk result (λ d. (d.state.number ≡ self.old + 1) × (self.new ≡ self.old + 1)) }
+        ensures err { IfErr result (λ f. (self.new ≡ self.old) × ((f ≡ Fault.OutOfMemory) ⊎ (f ≡ Fault.DesksFull))) }
+        ensures full { IsErrAnd result (λ f. f ≡ Fault.DesksFull) ↔ (self.old ≡ 64) }
+    {
+        if self.given >= MOST_DESKS {
+            return Err(Fault::DesksFull);
+        }
+        self.known.see(row)?;
+        let replica = self.known.copy(alloc)?;
+        self.given += 1;
+        Ok(Desk::guest_at(alloc, replica, self.given))
+    }
+}

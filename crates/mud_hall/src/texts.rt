@@ -1,0 +1,40 @@
+//! Answers that are texts of lines: a history's, and a certificate's.
+
+ghost use Rattle.std.specs.Prelude.{◌≡◌, ◌≤◌, ◌++◌, [], ◌∷◌, List, ℕ, IfOk, codes, length, string_bytes};
+ghost use Rattle.mud_chron.specs.Text.{written_text};
+ghost use Rattle.mud_cert.specs.Text.{cert_text};
+
+use mud_cert::Cert;
+use mud_cert::text_laws::ends_with_lf;
+use mud_chron::{Entry, write_history};
+use std::alloc::{AllocError, Global};
+
+/// The answer to `@history`: the word, and the lines of the history text, the last without its end.
+pub(crate) fn history_answer(alloc: Global, history: &[Entry]) -> Result<String, AllocError>
+    requires { length history.now ≤ 65536 }
+    ensures { IfOk result (λ text. string_bytes text ++ codes "\n" ≡ codes "history\n" ++ written_text history.now) }
+{
+    let mut text = String::from_str(alloc, "history\n")?;
+    write_history(alloc, history, &mut text)?;
+    Ok(without_last_line_end(text))
+}
+
+/// The answer to `proof`: the word, and the lines of the certificate, the last without its end.
+pub(crate) fn proof_answer(alloc: Global, cert: &Cert) -> Result<String, AllocError>
+    ensures { IfOk result (λ text. string_bytes text ++ codes "\n" ≡ codes "proof\n" ++ cert_text cert.now) }
+{
+    let mut text = String::from_str(alloc, "proof\n")?;
+    cert.write(alloc, &mut text)?;
+    ends_with_lf();
+    Ok(without_last_line_end(text))
+}
+
+// The text without the LF that ends its last line.
+fn without_last_line_end(text: String) -> String
+    requires { (front : List ℕ) × (string_bytes text ≡ front ++ 10 ∷ []) }
+    ensures { string_bytes result ++ codes "\n" ≡ string_bytes text }
+{
+    let mut text = text;
+    let _ = text.pop();
+    text
+}

@@ -77,6 +77,10 @@ pub record View : Type 0 where
   pub state : DeskState
   pub at : ℕ
 
+-- what it is not told yet: the notices of the entries that its world has not taken in
+abbrev pub untold : View → List (List ℕ)
+untold v = notices v.state.player (take v.at v.state.seen) (drop v.at v.state.seen)
+
 -- the state of a desk of this replica; of what its world has not taken in yet it is told all the same
 abbrev pub state_of : ℕ → Option ℕ → Standing → List ℕ → List (List ℕ) → DeskState
 state_of number player r calls stored = record {

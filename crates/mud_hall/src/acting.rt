@@ -1,10 +1,10 @@
 //! Lines that act.
 
-ghost use Rattle.std.specs.Prelude.{◌≡◌, ◌++◌, ◌∷◌, [], ◌<◌, ◌≤◌, ◌+◌, length, Some, None, IfOk, IfErr, OnErr, OnOk, string_bytes};
+ghost use Rattle.std.specs.Prelude.{◌≡◌, ◌≢◌, ◌++◌, ◌∷◌, [], ◌<◌, ◌≤◌, ◌+◌, length, Some, None, IfOk, IfErr, OnErr, OnOk, string_bytes};
 ghost use Rattle.mud_rules.specs.Outcome.{IsLawful};
 ghost use Rattle.mud_hall.specs.Told.{world_after};
-ghost use Rattle.mud_hall.specs.Desk.{DeskState, as_player};
-ghost use Rattle.mud_hall.specs.Replies.{shown, Acts, Replies, Stores};
+ghost use Rattle.mud_hall.specs.Desk.{DeskState, as_player, untold};
+ghost use Rattle.mud_hall.specs.Replies.{Failed, shown, Acts, Replies, Stores};
 
 use crate::desk::Desk;
 use crate::fault::Fault;
@@ -21,7 +21,8 @@ impl<J: HallName> Desk<J> {
     // Takes in all entries, and replies to the line in the world that they lead to.
     pub(crate) fn act(&mut self, alloc: Global, row: &Row, line: &str) -> Result<Reply, Fault>
         requires { row.now ≡ J.cells }
-        ensures { Acts (length row.now) self.old.state line.now (shown result) self.new.state }
+        ensures acts { Acts (length row.now) self.old.state line.now (shown result) self.new.state }
+        ensures told { shown result ≢ Failed Fault.OutOfMemory → untold self.new ≡ [] }
     {
         self.take_in(alloc, row)?;
         self.reply(alloc, row, line)
@@ -31,7 +32,8 @@ impl<J: HallName> Desk<J> {
     fn reply(&mut self, alloc: Global, row: &Row, line: &str) -> Result<Reply, Fault>
         requires row { row.now ≡ J.cells }
         requires all { self.old.at ≡ length self.old.state.seen }
-        ensures { Replies (length row.now) self.old.state line.now (shown result) self.new.state }
+        ensures replies { Replies (length row.now) self.old.state line.now (shown result) self.new.state }
+        ensures told { shown result ≢ Failed Fault.OutOfMemory → untold self.new ≡ [] }
     {
         let parsed = parse(alloc, line)?;
         match decide(alloc, self.replica.world(), self.player, &parsed)? {
@@ -62,7 +64,8 @@ impl<J: HallName> Desk<J> {
     fn seat(&mut self, player: u32)
         requires all { self.old.at ≡ length self.old.state.seen }
         requires lawful { IsLawful (world_after self.old.state.seen) self.old.state.player (Verdict.Become player) }
-        ensures { self.new.state ≡ as_player self.old.state player }
+        ensures state { self.new.state ≡ as_player self.old.state player }
+        ensures told { untold self.new ≡ [] }
     {
         self.player = Some(player);
     }
@@ -72,7 +75,8 @@ impl<J: HallName> Desk<J> {
         requires row { row.now ≡ J.cells }
         requires all { self.old.at ≡ length self.old.state.seen }
         requires lawful { IsLawful (world_after self.old.state.seen) self.old.state.player (Verdict.Change change) }
-        ensures { Stores (length row.now) self.old.state change (shown result) self.new.state }
+        ensures stores { Stores (length row.now) self.old.state change (shown result) self.new.state }
+        ensures told { shown result ≢ Failed Fault.OutOfMemory → untold self.new ≡ [] }
     {
         if self.replica.known() == row.capacity() {
             return Err(Fault::HistoryFull);

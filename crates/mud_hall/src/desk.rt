@@ -1,10 +1,10 @@
 //! One caller's side of a hall.
 
-ghost use Rattle.std.specs.Prelude.{◌≡◌, ◌++◌, ◌∷◌, [], ◌<◌, ◌≤◌, ◌+◌, ◌⊎◌, length, take, drop, map, Some, None, IfOk, IfErr, OnErr, OnOk, MatchBool, string_bytes};
+ghost use Rattle.std.specs.Prelude.{◌≡◌, ◌++◌, ◌∷◌, [], ◌<◌, ◌≤◌, ◌+◌, ◌⊎◌, length, map, Some, None, IfOk, IfErr, OnErr, OnOk, MatchBool, string_bytes};
 ghost use Rattle.std.specs.Option.{option_to_list};
 ghost use mathlib.Core.List.{IsPrefix};
-ghost use Rattle.mud_hall.specs.Told.{notices, notice_in, notice_text};
-ghost use Rattle.mud_hall.specs.Desk.{View, DeskState, TakesIn, Learns, IsNew, as_guest, with_told, state_of};
+ghost use Rattle.mud_hall.specs.Told.{notice_in, notice_text};
+ghost use Rattle.mud_hall.specs.Desk.{View, DeskState, TakesIn, Learns, IsNew, as_guest, with_told, untold};
 
 use crate::name::HallName;
 use mud_chron::Entry;
@@ -148,11 +148,11 @@ impl<J: HallName> Desk<J> {
         self.told = Vec::new(*Vec::allocator(&self.told));
     }
 
-    /// The lines that it was told of the entries that its world took in, each once. It takes no
-    /// memory.
+    /// The lines that it was told of the entries that its world took in, each once; of the others it
+    /// will be told later. It takes no memory.
     pub fn take_told(&mut self) -> Vec<String>
         ensures told { self.old.state.told ≡ map string_bytes result.items ++ self.new.state.told }
-        ensures rest { let s = self.old.state in self.new ≡ record { state = with_told s (notices s.player (take self.old.at s.seen) (drop self.old.at s.seen)); at = self.old.at } }
+        ensures rest { self.new ≡ record { state = with_told self.old.state (untold self.old); at = self.old.at } }
     {
         let empty = Vec::new(*Vec::allocator(&self.told));
         mem::replace(&mut self.told, empty)

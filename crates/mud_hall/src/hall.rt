@@ -1,9 +1,9 @@
 //! Many desks over one history.
 
-ghost use Rattle.std.specs.Prelude.{◌≡◌, ◌≤◌, ◌<◌, ◌⊎◌, [], length, IfOk, IfErr, OnErr, OnOk};
+ghost use Rattle.std.specs.Prelude.{◌≡◌, ◌≢◌, ◌≤◌, ◌<◌, ◌⊎◌, [], length, IfOk, IfErr, OnErr, OnOk};
 ghost use Rattle.mud_chron.specs.Replay.{changes_of, AreLegal};
-ghost use Rattle.mud_hall.specs.Desk.{IsNew, TakesIn};
-ghost use Rattle.mud_hall.specs.Replies.{shown, Acts};
+ghost use Rattle.mud_hall.specs.Desk.{IsNew, TakesIn, untold};
+ghost use Rattle.mud_hall.specs.Replies.{Failed, shown, Acts};
 ghost use Rattle.mud_hall.specs.Answers.{answered, Answers};
 ghost use Rattle.mud_hall.specs.Opening.{Begun, IsLoadFault};
 
@@ -171,7 +171,8 @@ impl<J: HallName> Hall<J> {
     /// is added to the history: `HistoryFull` where it takes no more, `Unpublished` where it did not
     /// take the entry. After a fault the history has no entry of this call.
     pub fn act<R: Wait>(&self, rt: &R, desk: &mut Desk<J>, line: &str) -> Result<Reply, Fault>
-        ensures { Acts self.now desk.old.state line.now (shown result) desk.new.state }
+        ensures acts { Acts self.now desk.old.state line.now (shown result) desk.new.state }
+        ensures told { shown result ≢ Failed Fault.OutOfMemory → untold desk.new ≡ [] }
     {
         let _kept = self.kept.lock(rt);
         desk.act(self.alloc, &self.row, line)
@@ -182,7 +183,7 @@ impl<J: HallName> Desk<J> {
     /// Takes in all entries that are found. It waits for nobody.
     pub fn see(&mut self, hall: &Hall<J>) -> Result<(), Fault>
         ensures state { TakesIn self.old.state self.new.state }
-        ensures ok { OnOk result (self.new.at ≡ length self.new.state.seen) }
+        ensures told { OnOk result (untold self.new ≡ []) }
         ensures fault { IfErr result (λ f. f ≡ Fault.OutOfMemory) }
     {
         self.take_in(hall.alloc, &hall.row)?;

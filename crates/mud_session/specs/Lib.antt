@@ -1,0 +1,6 @@
+pub mod Session
+pub mod State
+pub mod Feeding
+pub mod Script
+pub mod Serving
+pub mod Laws

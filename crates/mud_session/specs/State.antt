@@ -1,0 +1,22 @@
+-- What a contract sees of a session.
+use Rattle.std.specs.Prelude.{ℕ, Bool, List}
+use Rattle.mud_nvt.specs.Machine.{Held}
+use Rattle.mud_hall.specs.Desk.{DeskState}
+use Rattle.mud_session.specs.Session.{Talk}
+
+-- its terminal, whether it has ended, and what is to be sent
+pub record State : Type 0 where
+  pub terminal : Held
+  pub has_ended : Bool
+  pub out : List ℕ
+
+-- a door: how many entries the history can have, its desk, and what the desk is not told yet of the entries that it has
+-- seen
+pub record DoorState : Type 0 where
+  pub capacity : ℕ
+  pub desk : DeskState
+  pub untold : List (List ℕ)
+
+-- where a session stands at this door
+abbrev pub talk_of : State → DoorState → Talk
+talk_of state door = record { capacity = door.capacity; desk = door.desk; has_ended = state.has_ended }

@@ -1,0 +1,46 @@
+//! Where the lines of a session are answered.
+
+ghost use Rattle.std.specs.Prelude.{◌≡◌, ◌≢◌, ◌++◌, [], IfOk, OnOk, map, string_bytes};
+ghost use Rattle.mud_hall.specs.Desk.{DeskState, with_told};
+ghost use Rattle.mud_hall.specs.Replies.{Failed, Replies, shown};
+ghost use Rattle.mud_hall.specs.Answers.{Answers, answered};
+ghost use Rattle.mud_session.specs.Session.{TakingIn};
+ghost use Rattle.mud_session.specs.State.{DoorState};
+
+use mud_guide::Answer;
+use mud_hall::{Fault, Reply};
+use std::sync::Wait;
+use std::thread::Threads;
+
+/// Where the lines of a session are answered: a desk, alone or of a hall. A contract sees the desk, how many entries
+/// the history can have, and what the desk is not told yet; and what the desk may take in of others' entries.
+pub trait Door {
+    ghost state: { Self → DoorState };
+
+    ghost takes_in: { TakingIn };
+
+    /// Takes entries in, and replies to a line that acts.
+    fn act<X: Threads + Wait + Sync>(&mut self, rt: &X, line: &str) -> Result<Reply, Fault>
+        ensures capacity { (state self.new).capacity ≡ (state self.old).capacity }
+        ensures replies { (ready : DeskState) × takes_in (state self.old).desk ready
+            × Replies (state self.old).capacity ready line.now (shown result) (state self.new).desk }
+        ensures told { shown result ≢ Failed Fault.OutOfMemory → (state self.new).untold ≡ [] };
+
+    /// Takes entries in.
+    fn see(&mut self) -> Result<(), Fault>
+        ensures capacity { (state self.new).capacity ≡ (state self.old).capacity }
+        ensures takes { takes_in (state self.old).desk (state self.new).desk }
+        ensures told { OnOk result ((state self.new).untold ≡ []) };
+
+    /// Answers a line that asks, by exactly what the desk has seen.
+    fn ask<X: Threads + Wait + Sync>(&mut self, rt: &X, line: &str) -> Result<Answer, Fault>
+        ensures capacity { (state self.new).capacity ≡ (state self.old).capacity }
+        ensures same { (state self.new).desk ≡ (state self.old).desk }
+        ensures answers { IfOk result (λ a. Answers (state self.old).desk line.now (answered a)) };
+
+    /// The lines that the desk was told, each once. It takes no memory.
+    fn take_told(&mut self) -> Vec<String>
+        ensures capacity { (state self.new).capacity ≡ (state self.old).capacity }
+        ensures told { (state self.old).desk.told ≡ map string_bytes result.items ++ (state self.new).desk.told }
+        ensures rest { (state self.new).desk ≡ with_told (state self.old).desk (state self.old).untold };
+}

@@ -11,7 +11,8 @@ use Rattle.mud_rules.proofs.Guests.{guest-asks}
 use Rattle.mud_hall.specs.Answers.{CanAsk}
 
 -- a question about a journey has a player
-pub can-ask : (w : State) (player : Option ℕ) (l : Line) (q : Query) → decision w player l ≡ verdict.Ask q → CanAsk player q
+pub can-ask : (w : State) (player : Option ℕ) (l : Line) (q : Query) → decision w player l ≡ verdict.Ask q
+    → CanAsk player q
 can-ask w None l (query.View view) is = tt
 can-ask w None l (query.Journey journey) is = absurd ((guest-asks w l (query.Journey journey) is journey).0 refl)
 can-ask w None l (query.Proof journey) is = absurd ((guest-asks w l (query.Proof journey) is journey).1 refl)

@@ -98,15 +98,20 @@ right below known f later kept on None (verdict.Become n) a version h = tt
 right below known f later kept on None (verdict.Refused r) a version h = tt
 
 pub guide_is_right : Below → Known → GuideIsRight
-guide_is_right below known capacity begin fits begins before hall run s line a next (e, there, same, answers) behind later more d v at long =
+guide_is_right below known capacity begin fits begins before hall run s line a next
+    (e, there, same, answers) behind later more d v at long =
     let first : Keeps begin hall = run_kept begin before hall (begun_kept capacity begin fits begins) run in
-    let rest : Keeps hall later = run_kept hall behind later first.kept (subst (λ (x : Hall). IsRun x behind later) same more) in
+    let rest : Keeps hall later = run_kept hall behind later first.kept
+        (subst (λ (x : Hall). IsRun x behind later) same more) in
     let desk : e ≡ d = some-inj e d (sym there ∙ at) in
     let mine : IsDesk hall.history s d = first.kept.desks s d at in
     let front : take (length d.seen) hall.history ≡ d.seen = first_stay d.seen hall.history mine.known in
     let on : IsPrefix d.seen later.history = goes_trans d.seen hall.history later.history mine.known rest.on in
     let answer : Answers d line a = subst (λ (x : DeskState). Answers x line a) desk answers in
     let here : IsRight (world_after d.seen) (length d.seen) d.player (verdict_on d.seen d.player line) a later.history =
-            right below known d.seen later rest.kept on d.player (verdict_on d.seen d.player line) a answer.version answer.shows in
-    subst (λ (n : ℕ). IsRight (world_after (take n hall.history)) n d.player (verdict_on (take n hall.history) d.player line) a later.history) long
-    (subst (λ (f : List Entry). IsRight (world_after f) (length d.seen) d.player (verdict_on f d.player line) a later.history) (sym front) here)
+            right below known d.seen later rest.kept on d.player
+                (verdict_on d.seen d.player line) a answer.version answer.shows in
+    subst (λ (n : ℕ). IsRight (world_after (take n hall.history)) n d.player
+        (verdict_on (take n hall.history) d.player line) a later.history) long
+    (subst (λ (f : List Entry). IsRight (world_after f) (length d.seen) d.player
+        (verdict_on f d.player line) a later.history) (sym front) here)

@@ -79,7 +79,8 @@ route-told routes w v p to g x = record {
 
 -- ---- meetings
 
-best-place : MeetingIsAlike → (party : List Goer) (place : Option Meeting) → IsPlace party place → IsBestPlace party place
+best-place : MeetingIsAlike → (party : List Goer) (place : Option Meeting) → IsPlace party place
+    → IsBestPlace party place
 best-place alike party None none = (alike 1 0 party).1 none
 best-place alike party (Some m) is = (alike 1 0 party).0 m.room m.cost is
 

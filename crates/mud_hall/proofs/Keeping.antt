@@ -1,5 +1,6 @@
 -- What every step of a hall keeps.
-use Rattle.std.proofs.Common.{◌≡◌, ◌≢◌, ℕ, ◌+◌, ◌≤◌, ◌<◌, ◌⊎◌, inl, inr, List, [], ◌∷◌, ◌++◌, length, Option, None, Some, refl, sym, ◌∙◌, ap, subst, arith, append_assoc, append-nil, cond, eqb}
+use Rattle.std.proofs.Common.{◌≡◌, ◌≢◌, ℕ, ◌+◌, ◌≤◌, ◌<◌, ◌⊎◌, inl, inr, List, [], ◌∷◌, ◌++◌, length}
+use Rattle.std.proofs.Common.{Option, None, Some, refl, sym, ◌∙◌, ap, subst, arith, append_assoc, append-nil, cond, eqb}
 use Rattle.std.specs.List.{AllByRecursion}
 use mathlib.Core.List.{IsPrefix}
 use Rattle.std.proofs.lemmas.Bool.{cases_eq, eq-eqb, ne_eqb}
@@ -17,7 +18,8 @@ use Rattle.mud_chron.proofs.Spellable.{legal_is_spellable}
 use Rattle.mud_words.specs.Parse.{parsed}
 use Rattle.mud_hall.specs.Told.{world_after}
 use Rattle.mud_hall.specs.Desk.{DeskState, new_desk}
-use Rattle.mud_hall.specs.Replies.{Reply, Accepted, Became, Refused, Question, Failed, verdict_on, Stores, Changes, Replies, Acts}
+use Rattle.mud_hall.specs.Replies.{Reply, Accepted, Became, Refused, Question, Failed}
+use Rattle.mud_hall.specs.Replies.{verdict_on, Stores, Changes, Replies, Acts}
 use Rattle.mud_hall.specs.declared.fault.Fault.TheVariants.{OutOfMemory, HistoryFull, Unpublished, DesksFull}
 use Rattle.mud_hall.specs.Steps.{Hall, AreLoadable, opened, lone_desk, opened_alone, Begins, Gives, Turns, Grows}
 use Rattle.mud_hall.specs.Steps.{Step, Desks, See, Learn, Act, Ask, Guest, Makes, IsRun}
@@ -59,18 +61,23 @@ goes-same old new e = ([], append-nil old ∙ sym e)
 pub goes_trans : (a b c : List Entry) → IsPrefix a b → IsPrefix b c → IsPrefix a c
 goes_trans a b c x y = (x.0 ++ y.0, sym (append_assoc a x.0 y.0) ∙ (ap (λ (h : List Entry). h ++ y.0) x.1 ∙ y.1))
 
-each-push : (es : List Entry) (e : Entry) → AllByRecursion IsEntry es → IsEntry e → AllByRecursion IsEntry (es ++ e ∷ [])
+each-push : (es : List Entry) (e : Entry) → AllByRecursion IsEntry es → IsEntry e
+    → AllByRecursion IsEntry (es ++ e ∷ [])
 each-push [] e is last = (last, tt)
 each-push (x ∷ es) e is last = (is.0, each-push es e is.1 last)
 
-legal-push : (w : State) (cs : List Change) (e : Change) → AreLegalFrom w cs → refusal (world_from w cs) e ≡ None → AreLegalFrom w (cs ++ e ∷ [])
+legal-push : (w : State) (cs : List Change) (e : Change) → AreLegalFrom w cs → refusal (world_from w cs) e ≡ None
+    → AreLegalFrom w (cs ++ e ∷ [])
 legal-push w [] e legal is = (is, tt)
 legal-push w (c ∷ cs) e legal is =
-    (legal.0, legal-push (after w c) cs e legal.1 (sym (ap (λ (v : State). refusal (world_from v cs) e) (stepped-legal w c legal.0)) ∙ is))
+    (legal.0, legal-push (after w c) cs e legal.1 (sym (ap (λ (v : State). refusal (world_from v cs) e)
+        (stepped-legal w c legal.0)) ∙ is))
 
-legal-more : (h : List Entry) (e : Entry) → AreLegal (changes_of h) → refusal (world_after h) e.change ≡ None → AreLegal (changes_of (h ++ e ∷ []))
+legal-more : (h : List Entry) (e : Entry) → AreLegal (changes_of h) → refusal (world_after h) e.change ≡ None
+    → AreLegal (changes_of (h ++ e ∷ []))
 legal-more h e legal is =
-    subst AreLegal (sym (map-append (λ (x : Entry). x.change) h (e ∷ []))) (legal-push opening_state (changes_of h) e.change legal is)
+    subst AreLegal (sym (map-append (λ (x : Entry). x.change) h (e ∷ [])))
+        (legal-push opening_state (changes_of h) e.change legal is)
 
 -- two lists with one last entry each
 last-one : (xs ys : List Entry) (x y : Entry) → xs ++ x ∷ [] ≡ ys ++ y ∷ [] → xs ≡ ys
@@ -165,7 +172,8 @@ accepts old new s n was is e kept turns mine number made room grown =
     }
 
 -- what is stored is the change that was accepted
-stored : (old new : Hall) (s v : ℕ) (text line : List ℕ) (was ready is : DeskState) → IsKept old → Turns old s was is new
+stored : (old new : Hall) (s v : ℕ) (text line : List ℕ) (was ready is : DeskState) → IsKept old
+    → Turns old s was is new
     → ready.number ≡ was.number → Changes old.capacity ready line (Accepted v text) is
     → Grows (Accepted v text) old.history is new.history → Keeps old new
 stored old new s v text line was ready is kept turns number c grows =
@@ -223,7 +231,8 @@ gives old new s kept g =
       where
         go : (t ≡ s) ⊎ (t ≢ s) → IsDesk old.history t d
         go (inl same) =
-            let here : new_desk s g.seen ≡ d = some-inj (new_desk s g.seen) d (sym g.desk ∙ ap new.desks (sym same) ∙ at) in
+            let here : new_desk s g.seen ≡ d = some-inj (new_desk s g.seen) d
+                (sym g.desk ∙ ap new.desks (sym same) ∙ at) in
             record {
               from = omega (arith, same, g.next);
               to = omega (arith, same, g.few);
@@ -239,20 +248,24 @@ makes_kept old (See s) new kept (was, is, turns, same, t) =
 makes_kept old (Learn s t) new kept (was, is, other, turns, same, at, l) =
     rests old new s was is kept turns (ap (λ (d : DeskState). d.number) l.takes_in.is) same
 makes_kept old (Act s line reply) new kept (was, is, turns, grows, a) =
-    replies old new s line was a.ready is reply kept turns (ap (λ (d : DeskState). d.number) a.takes_in.is) grows a.replies
+    replies old new s line was a.ready is reply kept turns (ap
+        (λ (d : DeskState). d.number) a.takes_in.is) grows a.replies
 makes_kept old (Ask s line answer) new kept (d, at, same, a) =
-    record { kept = subst IsKept (sym same) kept; on = goes-same old.history new.history (ap (λ (h : Hall). h.history) same) }
+    record { kept = subst IsKept (sym same) kept; on = goes-same old.history new.history
+        (ap (λ (h : Hall). h.history) same) }
 makes_kept old (Guest s) new kept (was, is, turns, same, becomes) =
     rests old new s was is kept turns (ap (λ (d : DeskState). d.number) becomes) same
 
 pub run_kept : (old : Hall) (steps : List Step) (new : Hall) → IsKept old → IsRun old steps new → Keeps old new
-run_kept old [] new kept same = record { kept = subst IsKept same kept; on = goes-same old.history new.history (ap (λ (h : Hall). h.history) (sym same)) }
+run_kept old [] new kept same = record { kept = subst IsKept same kept; on =
+    goes-same old.history new.history (ap (λ (h : Hall). h.history) (sym same)) }
 run_kept old (step ∷ steps) new kept (hall, made, run) =
     let one : Keeps old hall = makes_kept old step hall kept made in
     let rest : Keeps hall new = run_kept hall steps new one.kept run in
     record { kept = rest.kept; on = goes_trans old.history hall.history new.history one.on rest.on }
 
-opened_kept : (capacity : ℕ) (loaded : List Entry) → capacity ≤ 65536 → AreLoadable capacity loaded → IsKept (opened capacity loaded)
+opened_kept : (capacity : ℕ) (loaded : List Entry) → capacity ≤ 65536 → AreLoadable capacity loaded
+    → IsKept (opened capacity loaded)
 opened_kept capacity loaded fits are = record {
   each = are.each;
   legal = are.legal;
@@ -272,7 +285,8 @@ alone_kept capacity fits = record {
   where
     go : (s : ℕ) (d : DeskState) → cond (eqb s 1) (Some lone_desk) None ≡ Some d → (s ≡ 1) ⊎ (s ≢ 1) → IsDesk [] s d
     go s d at (inl same) =
-        let here : lone_desk ≡ d = some-inj lone_desk d (sym (ap (λ b. cond b (Some lone_desk) None) (eq-eqb s 1 same)) ∙ at) in
+        let here : lone_desk ≡ d = some-inj lone_desk d (sym (ap (λ b. cond b (Some lone_desk) None) (eq-eqb s 1 same))
+            ∙ at) in
         record {
           from = omega (arith, same);
           to = omega (arith, same);
@@ -280,7 +294,8 @@ alone_kept capacity fits = record {
           known = subst (λ (x : DeskState). IsPrefix x.seen []) here ([], refl);
         }
     go s d at (inr apart) =
-        let bad : ◌≡◌ {A = Option DeskState} None (Some d) = sym (ap (λ b. cond b (Some lone_desk) None) (ne_eqb s 1 apart)) ∙ at in
+        let bad : ◌≡◌ {A = Option DeskState} None (Some d) =
+            sym (ap (λ b. cond b (Some lone_desk) None) (ne_eqb s 1 apart)) ∙ at in
         absurd (cc)
 
 pub begun_kept : (capacity : ℕ) (begin : Hall) → capacity ≤ 65536 → Begins capacity begin → IsKept begin

@@ -20,7 +20,8 @@ pub learned : (old other new : List Accepted) → (new ≡ old) ⊎ (new ≡ oth
     → new ≡ (if nat_lt (length old) (length other) then other else old)
 learned old other new is mine theirs = go (nat_lt (length old) (length other)) refl is
   where
-    go : (t : Bool) → nat_lt (length old) (length other) ≡ t → (new ≡ old) ⊎ (new ≡ other) → new ≡ (if t then other else old)
+    go : (t : Bool) → nat_lt (length old) (length other) ≡ t → (new ≡ old) ⊎ (new ≡ other)
+        → new ≡ (if t then other else old)
     go true e (inl same) =
         let less : length old < length other = grind (arith, nat_tests) in
         whole other new theirs (omega (arith, ap length same, less))

@@ -57,7 +57,8 @@ acted = record {
   replies = (1, refl, refl, refl, refl);
 }
 
-turned : Turns (with_desk (new_desk 1 [])) 1 (new_desk 1 []) (as_player (new_desk 1 []) 1) (with_desk (as_player (new_desk 1 []) 1))
+turned : Turns (with_desk (new_desk 1 [])) 1 (new_desk 1 []) (as_player (new_desk 1 []) 1)
+    (with_desk (as_player (new_desk 1 []) 1))
 turned = record {
   before = refl;
   after = refl;

@@ -31,34 +31,42 @@ from-sound w (e ∷ es) sound = from-sound (stepped w e) es (step-sound w e (ref
 pub world-sound : (h : List Accepted) → IsSound (world_after h)
 world-sound h = from-sound opening_state (changes_of h) opening-sound
 
-step-stays : (w : State) (e : Change) (p : ℕ) (o : Option Refusal) → refusal w e ≡ o → IsSound w → IsTrue (is_player w p) → IsTrue (is_player (stepped w e) p)
+step-stays : (w : State) (e : Change) (p : ℕ) (o : Option Refusal) → refusal w e ≡ o → IsSound w
+    → IsTrue (is_player w p) → IsTrue (is_player (stepped w e) p)
 step-stays w e p None is sound player = rw is (players_stay w e sound is p player)
 step-stays w e p (Some f) is sound player = rw is player
 
-from-stays : (w : State) (es : List Change) (p : ℕ) → IsSound w → IsTrue (is_player w p) → IsTrue (is_player (world_from w es) p)
+from-stays : (w : State) (es : List Change) (p : ℕ) → IsSound w → IsTrue (is_player w p)
+    → IsTrue (is_player (world_from w es) p)
 from-stays w [] p sound player = player
-from-stays w (e ∷ es) p sound player = from-stays (stepped w e) es p (step-sound w e (refusal w e) refl sound) (step-stays w e p (refusal w e) refl sound player)
+from-stays w (e ∷ es) p sound player = from-stays (stepped w e) es p (step-sound w e (refusal w e) refl sound)
+    (step-stays w e p (refusal w e) refl sound player)
 
 from-append : (w : State) (cs ds : List Change) → world_from w (cs ++ ds) ≡ world_from (world_from w cs) ds
 from-append w [] ds = refl
 from-append w (c ∷ cs) ds = from-append (stepped w c) cs ds
 
 pub after-append : (h es : List Accepted) → world_after (h ++ es) ≡ world_from (world_after h) (changes_of es)
-after-append h es = ap world_of (map-append (λ (e : Accepted). e.change) h es) ∙ from-append opening_state (changes_of h) (changes_of es)
+after-append h es = ap world_of (map-append (λ (e : Accepted). e.change) h es)
+    ∙ from-append opening_state (changes_of h) (changes_of es)
 
 -- who is a player after a history is one after each that goes on from it
-pub seated-on : (h g : List Accepted) (player : Option ℕ) → IsPrefix h g → IsSeated (world_after h) player → IsSeated (world_after g) player
+pub seated-on : (h g : List Accepted) (player : Option ℕ) → IsPrefix h g → IsSeated (world_after h) player
+    → IsSeated (world_after g) player
 seated-on h g None more is = tt
 seated-on h g (Some p) more is =
     let P : List Accepted → Type 0 = λ l. IsTrue (is_player (world_after l) p) in
     let Q : State → Type 0 = λ w. IsTrue (is_player w p) in
-    subst P more.1 (subst Q (sym (after-append h more.0)) (from-stays (world_after h) (changes_of more.0) p (world-sound h) is))
+    subst P more.1 (subst Q (sym (after-append h more.0)) (from-stays (world_after h) (changes_of more.0) p
+        (world-sound h) is))
 
 pub prefix_trans : {X : Type 0} (xs ys zs : List X) → IsPrefix xs ys → IsPrefix ys zs → IsPrefix xs zs
 prefix_trans xs ys zs a b = (a.0 ++ b.0, sym (append_assoc xs a.0 b.0) ∙ (ap (λ w. w ++ b.0) a.1 ∙ b.1))
 
 -- a desk whose replica comes to know more is one of its hall still
-pub held-on : (cells : List ℕ) (loaded : List Accepted) (number : ℕ) (player : Option ℕ) (was new : Standing) → IsHeld cells loaded number player was → IsPrefix was.list new.list → new.row ≡ was.row → IsHeld cells loaded number player new
+pub held-on : (cells : List ℕ) (loaded : List Accepted) (number : ℕ) (player : Option ℕ) (was new : Standing)
+    → IsHeld cells loaded number player was → IsPrefix was.list new.list → new.row ≡ was.row
+    → IsHeld cells loaded number player new
 held-on cells loaded number player was new held more row = record {
   row = row ∙ held.row;
   begun = prefix_trans loaded was.list new.list held.begun more;

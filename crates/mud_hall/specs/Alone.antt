@@ -18,7 +18,8 @@ alone capacity player h = record {
   state = record { number = 1; player = Some player; seen = h; calls = versions_by 1 1 h; told = [] };
 }
 
--- what is true of every such desk: its world is that of its history, and its player is one of that world
+-- what is true of every such desk: its world is that of its history, and its player is one of that world. A reader need
+-- not look into this: contracts only hand it on
 pub record IsAlone (capacity player : ℕ) (w : State) (h : List Accepted) : Type 0 where
   pub world : w ≡ world_after h
   pub room : length h ≤ capacity

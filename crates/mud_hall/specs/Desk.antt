@@ -24,33 +24,25 @@ new_desk number seen = record { number = number; player = None; seen = seen; cal
 
 -- a guest's desk again
 abbrev pub as_guest : DeskState → DeskState
-as_guest s = record { number = s.number; player = None; seen = s.seen; calls = s.calls; told = [] }
+as_guest s = record s { player = None; told = [] }
 
 abbrev pub as_player : DeskState → ℕ → DeskState
-as_player s p = record { number = s.number; player = Some p; seen = s.seen; calls = s.calls; told = s.told }
+as_player s p = record s { player = Some p }
 
 -- the desk once it was given these told lines
 abbrev pub with_told : DeskState → List (List ℕ) → DeskState
-with_told s told = record { number = s.number; player = s.player; seen = s.seen; calls = s.calls; told = told }
+with_told s told = record s { told = told }
 
 -- the desk once it took these entries in: it is told of them
 abbrev pub took_in : DeskState → List Accepted → DeskState
-took_in s entries = record {
-  number = s.number;
-  player = s.player;
-  seen = s.seen ++ entries;
-  calls = s.calls;
-  told = s.told ++ notices s.player s.seen entries;
-}
+took_in s entries = record s { seen = s.seen ++ entries; told = s.told ++ notices s.player s.seen entries }
 
 -- the desk after its own change, of which it is told nothing: a new player sits down where he came
 abbrev pub as_accepted : DeskState → Change → DeskState
-as_accepted s e = record {
-  number = s.number;
+as_accepted s e = record s {
   player = if is_arrival e.deed then Some e.actor else s.player;
   seen = s.seen ++ record { desk = s.number; change = e } ∷ [];
   calls = s.calls ++ (length s.seen + 1) ∷ [];
-  told = s.told;
 }
 
 -- some entries were taken in, and nothing else changed
@@ -96,7 +88,8 @@ abbrev pub IsSeated : State → Option ℕ → Type 0
 IsSeated w None = Unit {0}
 IsSeated w (Some p) = IsTrue (is_player w p)
 
--- what is true of every desk of the hall with these cells and these loaded entries
+-- what is true of every desk of the hall with these cells and these loaded entries. A reader need not look into this:
+-- contracts only hand it on
 pub record IsHeld (cells : List ℕ) (loaded : List Accepted) (number : ℕ) (player : Option ℕ) (r : Standing) : Type 0 where
   pub row : r.row ≡ cells
   pub begun : IsPrefix loaded r.list
@@ -104,7 +97,8 @@ pub record IsHeld (cells : List ℕ) (loaded : List Accepted) (number : ℕ) (pl
   pub to : number ≤ 64
   pub seated : IsSeated (world_after r.list) player
 
--- what is true of what lies under the lock of that hall: at most 64 desks were given, and it knows what was loaded
+-- what is true of what lies under the lock of that hall: at most 64 desks were given, and it knows what was loaded. A
+-- reader need not look into this: contracts only hand it on
 pub record IsKept (cells : List ℕ) (loaded : List Accepted) (given : ℕ) (r : Standing) : Type 0 where
   pub few : given ≤ 64
   pub row : r.row ≡ cells

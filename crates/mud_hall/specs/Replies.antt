@@ -44,10 +44,7 @@ Stores capacity s e (Accepted v text) new =
 Stores capacity s e (Failed HistoryFull) new = (length s.seen ≡ capacity) × (new ≡ s)
 Stores capacity s e (Failed Unpublished) new = (length s.seen < capacity) × (new ≡ s)
 Stores capacity s e (Failed OutOfMemory) new = new ≡ s
-Stores capacity s e (Failed DesksFull) new = ⊥
-Stores capacity s e (Became v text) new = ⊥
-Stores capacity s e (Refused v f text) new = ⊥
-Stores capacity s e (Question v) new = ⊥
+Stores capacity s e other new = ⊥
 
 -- the line comes to a change, which is stored or is not
 pub record Changes (capacity : ℕ) (s : DeskState) (line : List ℕ) (reply : Reply) (new : DeskState) : Type 0 where

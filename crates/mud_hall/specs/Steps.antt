@@ -8,7 +8,7 @@ use Rattle.mud_chron.specs.Replay.{changes_of, AreLegal}
 use Rattle.mud_hall.specs.declared.fault.Fault.{Fault}
 use Rattle.mud_hall.specs.Desk.{DeskState, new_desk, as_guest, as_player, TakesIn, Learns}
 use Rattle.mud_hall.specs.Replies.{Reply, Acts}
-use Rattle.mud_hall.specs.Replies.{Accepted, Became, Refused, Question, Failed}
+use Rattle.mud_hall.specs.Replies.{Accepted}
 use Rattle.mud_hall.specs.Answers.{Answered, Answers}
 
 -- a hall: how many entries its history can have, how many were loaded, its history, how many desks were given, and
@@ -90,10 +90,7 @@ pub record Turns (old : Hall) (s : ℕ) (was is : DeskState) (new : Hall) : Type
 -- the history after a reply: an accepted change ends it, and then the desk has seen all of it; else it stays
 abbrev pub Grows : Reply → List Entry → DeskState → List Entry → Type 0
 Grows (Accepted version text) old is new = (e : Entry) × (new ≡ old ++ e ∷ []) × (is.seen ≡ new)
-Grows (Became version text) old is new = new ≡ old
-Grows (Refused version refusal text) old is new = new ≡ old
-Grows (Question version) old is new = new ≡ old
-Grows (Failed fault) old is new = new ≡ old
+Grows other old is new = new ≡ old
 
 -- an answer is by what the desk has seen; where memory is refused there is none
 abbrev pub AnswersIfAny : DeskState → List ℕ → Option Answered → Type 0

@@ -1,6 +1,7 @@
 //! Lines that act.
 
-ghost use Rattle.std.specs.Prelude.{◌≡◌, ◌≢◌, ◌++◌, ◌∷◌, [], ◌<◌, ◌≤◌, ◌+◌, length, Some, None, IfOk, IfErr, OnErr, OnOk, string_bytes};
+ghost use Rattle.std.specs.Prelude.{◌≡◌, ◌≢◌, ◌++◌, ◌∷◌, [], ◌<◌, ◌≤◌, ◌+◌};
+ghost use Rattle.std.specs.Prelude.{length, Some, None, IfOk, IfErr, OnErr, OnOk, string_bytes};
 ghost use Rattle.mud_rules.specs.Outcome.{IsLawful};
 ghost use Rattle.mud_hall.specs.Told.{world_after};
 ghost use Rattle.mud_hall.specs.Desk.{DeskState, as_player, untold};

@@ -1,6 +1,7 @@
 //! One caller's side of a hall.
 
-ghost use Rattle.std.specs.Prelude.{◌≡◌, ◌++◌, ◌∷◌, [], ◌<◌, ◌≤◌, ◌+◌, ◌⊎◌, length, map, Some, None, IfOk, IfErr, OnErr, OnOk, MatchBool, string_bytes};
+ghost use Rattle.std.specs.Prelude.{◌≡◌, ◌++◌, ◌∷◌, [], ◌<◌, ◌≤◌, ◌+◌, ◌⊎◌, length};
+ghost use Rattle.std.specs.Prelude.{map, Some, None, IfOk, IfErr, OnErr, OnOk, MatchBool, string_bytes};
 ghost use Rattle.std.specs.Option.{option_to_list};
 ghost use mathlib.Core.List.{IsPrefix};
 ghost use Rattle.mud_hall.specs.Told.{notice_in, notice_text};
@@ -83,7 +84,9 @@ impl<J: HallName> Desk<J> {
     fn take_one(&mut self, alloc: Global, row: &Row) -> Result<bool, AllocError>
         requires { row.now ≡ J.cells }
         ensures still { self.new.state ≡ self.old.state }
-        ensures ok { IfOk result (λ more. MatchBool more ((self.old.at < length self.old.state.seen) × (self.new.at ≡ self.old.at + 1)) ((self.old.at ≡ length self.old.state.seen) × (self.new.at ≡ self.old.at))) }
+        ensures ok { IfOk result (λ more. MatchBool more ((self.old.at < length self.old.state.seen)
+            × (self.new.at ≡ self.old.at + 1)) ((self.old.at ≡ length self.old.state.seen)
+            × (self.new.at ≡ self.old.at))) }
         ensures err { OnErr result (self.new.at ≡ self.old.at) }
     {
         let Some(entry) = self.replica.peek(row) else {
@@ -167,7 +170,8 @@ fn line_told(
     world: &World,
     entry: &Entry,
 ) -> Result<Option<String>, AllocError>
-    ensures { IfOk result (λ line. map string_bytes (option_to_list line) ≡ notice_in player version world.now entry.now) }
+    ensures { IfOk result (λ line. map string_bytes (option_to_list line)
+        ≡ notice_in player version world.now entry.now) }
 {
     let Some(player) = player else {
         return Ok(None);

@@ -80,6 +80,13 @@ impl<J: HallName> Desk<J> {
         self.replica.known()
     }
 
+    /// How many changes were accepted here.
+    pub fn accepted(&self) -> usize
+        ensures { result ≡ length self.now.state.calls }
+    {
+        self.calls.len()
+    }
+
     // Takes one more known entry into its world, with the line that its player is told of it.
     fn take_one(&mut self, alloc: Global, row: &Row) -> Result<bool, AllocError>
         requires { row.now ≡ J.cells }

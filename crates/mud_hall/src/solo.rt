@@ -3,7 +3,7 @@
 ghost use Rattle.std.specs.Prelude.{◌≡◌, ◌≢◌, ◌≤◌, [], length, IfOk, IfErr};
 ghost use Rattle.mud_rules.specs.Outcome.{IsQuestion, IsLawful};
 ghost use Rattle.mud_hall.specs.Told.{world_after};
-ghost use Rattle.mud_hall.specs.Desk.{as_player};
+ghost use Rattle.mud_hall.specs.Desk.{as_player, with_told};
 ghost use Rattle.mud_hall.specs.Replies.{shown, verdict_on, Replies, Stores};
 ghost use Rattle.mud_hall.specs.Answers.{answered, Answers, IsShown};
 ghost use Rattle.mud_hall.specs.Alone.{Alone, alone};
@@ -184,6 +184,7 @@ impl Solo {
     pub fn take_told(&mut self) -> Vec<String>
         ensures same { self.new ≡ self.old }
         ensures none { result.items ≡ [] }
+        ensures rest { self.new.state ≡ with_told self.old.state [] }
     {
         Vec::new(self.alloc)
     }

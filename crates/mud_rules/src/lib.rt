@@ -30,9 +30,10 @@
 //! player who typed the line, a room that is asked for is one of the world, and those who are to
 //! meet are a [`Party`] of its players. All texts are exactly those of `Replies.antt`,
 //! `Answers.antt` and `Hearing.antt`. Want of memory is the one error. The functions of [`laws`]
-//! prove what the table comes to: a line whose text can't be read is refused as it would be whatever
-//! the text were read as; in a sound world a change that a line comes to is legal, and its names,
-//! keys and texts are such.
+//! prove what the table comes to: that one list gives the lesser of the command's own refusal and
+//! that of its change; a line whose text can't be read is refused as it would be whatever the text
+//! were read as; in a sound world a change that a line comes to is legal, and its names, keys and
+//! texts are such.
 #![tactic(auto)]
 
 mod answers;

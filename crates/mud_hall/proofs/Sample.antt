@@ -6,7 +6,7 @@ use Rattle.mud_words.specs.Words.{words}
 use Rattle.mud_words.specs.Prepositions.{phrase_at, counted}
 use Rattle.mud_words.specs.Parse.{parsed}
 use Rattle.mud_key.specs.Reading.{names_in, name_in}
-use Rattle.mud_rules.specs.Table.{verb_named}
+use Rattle.mud_rules.specs.Table.{verb_named, decision}
 use Rattle.mud_rules.specs.declared.verdict.Journey.TheVariants.{Route}
 use Rattle.mud_rules.specs.declared.verdict.Query.TheVariants as query
 use Rattle.mud_rules.specs.declared.verdict.Verdict.TheVariants as verdict
@@ -17,15 +17,15 @@ use Rattle.mud_hall.specs.Answers.{Answered, Answers}
 use Rattle.mud_hall.specs.Steps.{Hall, opened, Turns, Gives, Desks, Act, Ask, IsRun}
 
 wizard-comes : verdict_on [] None (codes "connect wizard") ≡ verdict.Become 1
-unfolding digits words phrase_at counted parsed verb_named name_in names_in
+unfolding digits words phrase_at counted parsed verb_named decision name_in names_in
 wizard-comes = refl
 
 no-room : verdict_on [] (Some 1) (codes "route to #9") ≡ verdict.Refused NoSuch
-unfolding digits words phrase_at counted parsed verb_named name_in names_in
+unfolding digits words phrase_at counted parsed verb_named decision name_in names_in
 no-room = refl
 
 a-room : verdict_on [] (Some 1) (codes "route to #0") ≡ verdict.Ask (query.Journey (Route 0))
-unfolding digits words phrase_at counted parsed verb_named name_in names_in
+unfolding digits words phrase_at counted parsed verb_named decision name_in names_in
 a-room = refl
 
 abbrev with_desk : DeskState → Hall
@@ -50,7 +50,7 @@ given = record {
 }
 
 acted : Acts 16 (new_desk 1 []) (codes "connect wizard") (Became 0 (codes "welcome #1")) (as_player (new_desk 1 []) 1)
-unfolding digits words phrase_at counted parsed verb_named name_in names_in
+unfolding digits words phrase_at counted parsed verb_named decision name_in names_in
 acted = record {
   ready = new_desk 1 [];
   takes_in = record { entries = []; is = refl };
@@ -73,7 +73,7 @@ abbrev reply : Answered
 reply = record { version = 0; text = codes "There is no such thing."; cert = None }
 
 answers : Answers (as_player (new_desk 1 []) 1) (codes "route to #9") reply
-unfolding digits words phrase_at counted parsed verb_named name_in names_in
+unfolding digits words phrase_at counted parsed verb_named decision name_in names_in
 answers = record { version = refl; shows = (refl, refl) }
 
 pub sample : IsRun (opened 16 []) (Desks 1 ∷ Act 1 (codes "connect wizard") (Became 0 (codes "welcome #1"))

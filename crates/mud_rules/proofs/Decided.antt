@@ -1,10 +1,12 @@
 -- What a line comes to is legal, and its names, keys and texts are such.
-use Rattle.std.proofs.Common.{◌≡◌, ℕ, ◌≤◌, inl, inr, Bool, true, false, List, [], Option, None, Some, Result, Ok, Err, refl, sym, ◌∙◌, subst}
-use Rattle.std.specs.Prelude.{not, ◌&&◌, ◌||◌, IsTrue, is_none, nat_lt, if◌then◌else◌}
-use Rattle.std.specs.Option.{option_map, option_map_or, option_and_then}
-use Rattle.std.specs.Result.{result_ok}
+use Rattle.std.proofs.Common.{◌≡◌, ℕ, ◌≤◌, inl, inr, Bool, true, false, List, [], ◌∷◌, Option, None, Some, Result, Ok}
+use Rattle.std.proofs.Common.{Err}
+use Rattle.std.proofs.Common.{refl, sym, ◌∙◌, subst}
+use Rattle.std.specs.Prelude.{not, ◌&&◌, ◌||◌, IsTrue, is_none, nat_lt, unwrap_or, if◌then◌else◌}
+use Rattle.std.specs.Option.{option_map, option_map_or, option_and_then, option_zip}
+use Rattle.std.specs.Result.{result_ok, result_map_both}
 use Rattle.std.specs.List.{before_first, after_first}
-use Rattle.std.proofs.lemmas.Bool.{cases_Bool, cond-true, cond-false}
+use Rattle.std.proofs.lemmas.Bool.{cases_Bool, cond-true, cond-false, true≢false}
 use Rattle.mud_key.specs.Name.{IsName}
 use Rattle.mud_key.specs.Names.{AreNames}
 use Rattle.mud_key.specs.Tree.{Tree, Has, Asks, Not, Join, AllObjects, IsKey}
@@ -16,11 +18,11 @@ use Rattle.mud_key.proofs.Found.{names_law, name_law, key_law}
 use Rattle.mud_key.proofs.NamesTaken.{are_names}
 use Rattle.mud_key.proofs.Resolving.{resolved_key}
 use Rattle.mud_words.specs.Line.{Line}
-use Rattle.mud_words.specs.Parse.{parsed}
+use Rattle.mud_words.specs.Parse.{joined, parsed}
 use Rattle.mud_words.specs.declared.Prep.TheVariants.{With, To, In, Is}
 use Rattle.mud_world.specs.Speech.{is_speech}
 use Rattle.mud_world.specs.Refusals.{number, lesser, refused_if}
-use Rattle.mud_world.specs.State.{State, place_of, leaving_of, exists, named_player, is_exit, is_thing, is_player, within}
+use Rattle.mud_world.specs.State.{State, place_of, leaving_of, exists, named_player, is_thing, is_player, within}
 use Rattle.mud_world.specs.Sound.{IsSound}
 use Rattle.mud_world.specs.Conditions.{shares_room}
 use Rattle.mud_world.specs.Reach.{in_reach}
@@ -33,23 +35,27 @@ use Rattle.mud_world.specs.declared.change.Doors.{Doors}
 use Rattle.mud_world.specs.declared.change.Target.{Target}
 use Rattle.mud_world.specs.declared.change.Target.TheVariants.{New, Old}
 use Rattle.mud_world.specs.declared.refusal.Refusal.{Refusal}
-use Rattle.mud_world.specs.declared.refusal.Refusal.TheVariants.{NotHere, BadName, BadKey, BadCost}
-use Rattle.mud_rules.specs.declared.matching.Match.{Match}
-use Rattle.mud_rules.specs.declared.matching.Match.TheVariants.{Nothing as MeansNothing, NoSuch as MeansNoSuch, Ambiguous as MeansSeveral}
+use Rattle.mud_world.specs.declared.refusal.Refusal.TheVariants.{NotUnderstood, NoSuch, WrongKind, NotHere}
+use Rattle.mud_world.specs.declared.refusal.Refusal.TheVariants.{BadName, BadKey, BadCost}
+use Rattle.mud_world.proofs.Least.{refusals_law}
 use Rattle.mud_rules.specs.declared.matching.Likeness.TheVariants.{Equal}
 use Rattle.mud_rules.specs.declared.verb.Verb.{Verb}
 use Rattle.mud_rules.specs.declared.verb.Verb.TheVariants as verb
-use Rattle.mud_rules.specs.declared.verdict.View.TheVariants.{Look, LookAt, Inventory, Version, Quit}
+use Rattle.mud_rules.specs.declared.verdict.View.TheVariants.{Look, LookAt, Inventory, KeyOf, Version, Quit}
 use Rattle.mud_rules.specs.declared.verdict.Query.TheVariants as query
 use Rattle.mud_rules.specs.declared.verdict.Verdict.{Verdict}
 use Rattle.mud_rules.specs.declared.verdict.Verdict.TheVariants as verdict
 use Rattle.mud_rules.specs.Matching.{is_empty, number_in, local_match, object_number, sole_like}
-use Rattle.mud_rules.specs.Outcome.{outcome, does, on_found, shaped, does_read, no_player, not_his}
-use Rattle.mud_rules.specs.Commands.{room_of, kind_then_here, talk, create, rename, cost, lock, near_named, named_by_key, key_meant, dig_room, two_doors, doors_in, has_bar, is_bar, target_in, dig_between, dig_exits, connecting, connect, walk}
-use Rattle.mud_rules.specs.Shapes.{first_of, whole_of, looked_text, is_bare, is_pair, has_empty_side, text_behind, object_named, object_behind, object_before, objects_round}
-use Rattle.mud_rules.specs.Table.{connect_line, dig_line, of_object, object_line, command, other_line, guest, decision, verb_named, journey_line, route_line, meet_line}
+use Rattle.mud_rules.specs.Outcome.{outcome, does, does_read, found, of_kind, on_found, shaped}
+use Rattle.mud_rules.specs.Commands.{kind_then_here, drop_down, create, rename, cost, lock, near_named, key_meant}
+use Rattle.mud_rules.specs.Commands.{dig_room}
+use Rattle.mud_rules.specs.Commands.{doors_in, has_bar, is_bar, target_in, dig_between, dig_exits, connecting, connect}
+use Rattle.mud_rules.specs.Shapes.{all_of, first_of, looked_at, is_pair, has_empty_side, text_behind}
+use Rattle.mud_rules.specs.Shapes.{object_named, object_before, objects_round}
+use Rattle.mud_rules.specs.Table.{connect_line, journey_of, command, other_line, guest, decision, verb_named}
 use Rattle.mud_rules.specs.Laws.{IsMade, AreMade}
 use Rattle.mud_rules.proofs.Bounds.{number_of_object}
+use Rattle.mud_rules.proofs.Ordered.{outcome_is}
 
 -- a change that a line comes to is so
 abbrev IsFine : State → Verdict → Type 0
@@ -70,21 +76,43 @@ lesser-none (Some f) (Some g) e = elim (cases_Bool (nat_lt (number g) (number f)
   | inr t ↦ no-some f (sym (cond-false (nat_lt (number g) (number f)) (Some g) (Some f) t) ∙ e)
 ]
 
-fine-outcome : (w : State) (own : Option Refusal) (e : Change) → HasParts e.deed → IsFine w (outcome w own e)
-fine-outcome w own e parts = go (lesser own (refusal w e)) refl
+fine-legal : (w : State) (own : Option Refusal) (e : Change) → (refusal w e ≡ None → HasParts e.deed)
+    → IsFine w (outcome w own e)
+fine-legal w own e parts = subst (IsFine w) (outcome_is w own e) (go (lesser own (refusal w e)) refl)
   where
-    go : (o : Option Refusal) → lesser own (refusal w e) ≡ o → IsFine w (option_map_or verdict.Refused o (verdict.Change e))
-    go None is = record { legal = lesser-none own (refusal w e) is; parts = parts }
+    go : (o : Option Refusal) → lesser own (refusal w e) ≡ o
+        → IsFine w (option_map_or verdict.Refused o (verdict.Change e))
+    go None is = let legal = lesser-none own (refusal w e) is in record { legal = legal; parts = parts legal }
     go (Some f) is = tt
+
+fine-outcome : (w : State) (own : Option Refusal) (e : Change) → HasParts e.deed → IsFine w (outcome w own e)
+fine-outcome w own e parts = fine-legal w own e (λ legal. parts)
 
 fine-does : (w : State) (p : ℕ) (own : Option Refusal) (d : Deed) → HasParts d → IsFine w (does w p own d)
 fine-does w p own d parts = fine-outcome w own (record { actor = p; deed = d }) parts
 
-fine-read : {A : Type 0} (w : State) (p : ℕ) (bar : Option Refusal) (own : Refusal) (o : Option A) (d : A → Deed) → ((x : A) → o ≡ Some x → HasParts (d x)) → IsFine w (does_read w p bar own o d)
-fine-read w p bar own None d is = tt
-fine-read w p bar own (Some x) d is = fine-does w p None (d x) (is x refl)
+never-none : {B : Type 0} (f : Refusal) (o : Option Refusal) → lesser (Some f) o ≡ None → B
+never-none f None e = no-some f e
+never-none f (Some g) e = no-some g (lesser-none (Some f) (Some g) e)
 
-fine-found : {A : Type 0} (w : State) (r : Result A Refusal) (f : A → Verdict) → ((x : A) → IsFine w (f x)) → IsFine w (on_found r f)
+fine-refused : (w : State) (p : ℕ) (own : Refusal) (d : Deed) → IsFine w (does w p (Some own) d)
+fine-refused w p own d = subst (IsFine w) (outcome_is w (Some own) e) (go (lesser (Some own) (refusal w e)) refl)
+  where
+    e : Change
+    e = record { actor = p; deed = d }
+
+    go : (o : Option Refusal) → lesser (Some own) (refusal w e) ≡ o
+        → IsFine w (option_map_or verdict.Refused o (verdict.Change e))
+    go None is = never-none own (refusal w e) is
+    go (Some f) is = tt
+
+fine-read : {A : Type 0} (w : State) (p : ℕ) (own : Refusal) (blank : A) (o : Option A) (d : A → Deed)
+    → ((x : A) → o ≡ Some x → HasParts (d x)) → IsFine w (does_read w p own blank o d)
+fine-read w p own blank None d is = fine-refused w p own (d blank)
+fine-read w p own blank (Some x) d is = fine-does w p None (d x) (is x refl)
+
+fine-found : {A : Type 0} (w : State) (r : Result A Refusal) (f : A → Verdict) → ((x : A) → IsFine w (f x))
+    → IsFine w (on_found r f)
 fine-found w (Ok x) f is = is x
 fine-found w (Err g) f is = tt
 
@@ -100,12 +128,20 @@ fine-if w false u v x y = y
 names-are : (text : List ℕ) (names : List (List ℕ)) → names_in text ≡ Some names → AreNames names
 names-are text names is = are_names text names ((names_law text names).0 is)
 
-speech-is : (text said : List ℕ) → (if is_speech text then Some text else None) ≡ Some said → IsTrue (is_speech said)
-speech-is text said is = go (is_speech text) refl is
-  where
-    go : (b : Bool) → is_speech text ≡ b → (if b then Some text else None) ≡ Some said → IsTrue (is_speech said)
-    go true here e = let same : text ≡ said = cc in subst (λ (s : List ℕ). IsTrue (is_speech s)) same here
-    go false other e = absurd (let bad : ◌≡◌ {A = Option (List ℕ)} None (Some said) = e in cc)
+true-of : (b : Bool) → not b ≡ false → b ≡ true
+true-of true e = refl
+true-of false e = absurd (true≢false e)
+
+-- what is no speech is refused
+says-speech : (w : State) (p : ℕ) (text : List ℕ)
+    → refusal w (record { actor = p; deed = deed.Say text }) ≡ None → IsTrue (is_speech text)
+says-speech w p text legal =
+    true-of (is_speech text) ((refusals_law w (record { actor = p; deed = deed.Say text })).1.0 legal BadName)
+
+emotes-speech : (w : State) (p : ℕ) (text : List ℕ)
+    → refusal w (record { actor = p; deed = deed.Emote text }) ≡ None → IsTrue (is_speech text)
+emotes-speech w p text legal =
+    true-of (is_speech text) ((refusals_law w (record { actor = p; deed = deed.Emote text })).1.0 legal BadName)
 
 -- ---- keys
 abbrev AreNumbers : Result (Tree ℕ) Miss → Type 0
@@ -133,43 +169,53 @@ numbers-join op (Ok a) (Ok b) h i = (h, i)
 numbers-join op (Ok a) (Err e) h i = tt
 numbers-join op (Err e) s h i = tt
 
-numbers-resolved : (meaning : List ℕ → Result ℕ Miss) → ((o : List ℕ) → IsNumber (meaning o)) → (t : Tree (List ℕ)) → AreNumbers (resolved meaning t)
+numbers-resolved : (meaning : List ℕ → Result ℕ Miss) → ((o : List ℕ) → IsNumber (meaning o)) → (t : Tree (List ℕ))
+    → AreNumbers (resolved meaning t)
 numbers-resolved meaning is (Has o) = numbers-has (meaning o) (is o)
 numbers-resolved meaning is (Asks o) = numbers-asks (meaning o) (is o)
 numbers-resolved meaning is (Not k) = numbers-not (resolved meaning k) (numbers-resolved meaning is k)
-numbers-resolved meaning is (Join op a b) = numbers-join op (resolved meaning a) (resolved meaning b) (numbers-resolved meaning is a) (numbers-resolved meaning is b)
+numbers-resolved meaning is (Join op a b) =
+    numbers-join op (resolved meaning a) (resolved meaning b) (numbers-resolved meaning is a)
+    (numbers-resolved meaning is b)
 
-existing-number : (w : State) → IsSound w → (n : ℕ) → IsNumber (if exists w n then Ok n else Err MissNoSuch)
-existing-number w sound n = elim (cases_Bool (exists w n)) [
-  | inl t ↦ subst IsNumber (sym (cond-true (exists w n) (Ok n) (Err MissNoSuch) t)) (number_of_object w n sound t)
-  | inr f ↦ subst IsNumber (sym (cond-false (exists w n) (Ok n) (Err MissNoSuch) f)) tt
+abbrev as_miss : Result ℕ Refusal → Result ℕ Miss
+as_miss r = result_map_both (λ n. n) (λ f. MissNoSuch) r
+
+existing-number : (w : State) → IsSound w → (r : Result ℕ Refusal) → IsNumber (as_miss (of_kind (exists w) r))
+existing-number w sound (Err f) = tt
+existing-number w sound (Ok n) = elim (cases_Bool (exists w n)) [
+  | inl t ↦
+      subst (λ r. IsNumber (as_miss r)) (sym (cond-true (exists w n) (Ok n) (Err WrongKind) t))
+      (number_of_object w n sound t)
+  | inr f ↦ subst (λ r. IsNumber (as_miss r)) (sym (cond-false (exists w n) (Ok n) (Err WrongKind) f)) tt
 ]
 
-named-number : (w : State) → IsSound w → (r : Result ℕ Match) → IsNumber (named_by_key w r)
-named-number w sound (Ok n) = existing-number w sound n
-named-number w sound (Err MeansNothing) = tt
-named-number w sound (Err MeansNoSuch) = tt
-named-number w sound (Err MeansSeveral) = tt
-
 near-number : (w : State) → IsSound w → (p : ℕ) (o : List ℕ) → IsNumber (near_named w p o)
-near-number w sound p o = named-number w sound (local_match w p o)
+near-number w sound p o = existing-number w sound (found NoSuch (local_match w p o))
 
 key-is : (w : State) → IsSound w → (p : ℕ) (text : List ℕ) (k : Tree ℕ) → key_meant w p text ≡ Some k → IsKey k
 key-is w sound p text k is = go (key_in text) refl is
   where
-    found-key : (t : Tree (List ℕ)) → key_in text ≡ Some t → (r : Result (Tree ℕ) Miss) → resolved (near_named w p) t ≡ r → result_ok r ≡ Some k → IsKey k
+    found-key : (t : Tree (List ℕ)) → key_in text ≡ Some t → (r : Result (Tree ℕ) Miss)
+        → resolved (near_named w p) t ≡ r → result_ok r ≡ Some k → IsKey k
     found-key t read (Err miss) at e = absurd (let bad : ◌≡◌ {A = Option (Tree ℕ)} None (Some k) = e in cc)
     found-key t read (Ok found) at e =
         let same : found ≡ k = cc in
-        let numbers : AreNumbers (Ok found) = subst AreNumbers at (numbers-resolved (near_named w p) (near-number w sound p) t) in
+        let numbers : AreNumbers (Ok found) =
+        subst AreNumbers at (numbers-resolved (near_named w p) (near-number w sound p) t) in
         subst IsKey same (resolved_key (near_named w p) t found at ((key_law text t).0 read).1 numbers)
 
-    go : (o : Option (Tree (List ℕ))) → key_in text ≡ o → option_and_then (λ t. result_ok (resolved (near_named w p) t)) o ≡ Some k → IsKey k
+    go : (o : Option (Tree (List ℕ))) → key_in text ≡ o
+        → option_and_then (λ t. result_ok (resolved (near_named w p) t)) o ≡ Some k → IsKey k
     go None read e = absurd (let bad : ◌≡◌ {A = Option (Tree ℕ)} None (Some k) = e in cc)
     go (Some t) read e = found-key t read (resolved (near_named w p) t) refl e
 
 -- ---- digging
-two-are : (a b : Option (List (List ℕ))) → ((ns : List (List ℕ)) → a ≡ Some ns → AreNames ns) → ((ns : List (List ℕ)) → b ≡ Some ns → AreNames ns)
+abbrev two_doors : Option (List (List ℕ)) → Option (List (List ℕ)) → Option Doors
+two_doors a b = option_map (λ names. record { out = names.0; back = Some names.1 }) (option_zip a b)
+
+two-are : (a b : Option (List (List ℕ))) → ((ns : List (List ℕ)) → a ≡ Some ns → AreNames ns)
+    → ((ns : List (List ℕ)) → b ≡ Some ns → AreNames ns)
     → (d : Doors) → two_doors a b ≡ Some d → AreDoors (Some d)
 two-are (Some out) (Some back) x y d e =
     let same : ◌≡◌ {A = Doors} (record { out = out; back = Some back }) d = cc in
@@ -177,7 +223,8 @@ two-are (Some out) (Some back) x y d e =
 two-are (Some out) None x y d e = absurd (let bad : ◌≡◌ {A = Option Doors} None (Some d) = e in cc)
 two-are None b x y d e = absurd (let bad : ◌≡◌ {A = Option Doors} None (Some d) = e in cc)
 
-out-are : (a : Option (List (List ℕ))) → ((ns : List (List ℕ)) → a ≡ Some ns → AreNames ns) → (d : Doors) → option_map (λ out. record { out = out; back = None }) a ≡ Some d → AreDoors (Some d)
+out-are : (a : Option (List (List ℕ))) → ((ns : List (List ℕ)) → a ≡ Some ns → AreNames ns) → (d : Doors)
+    → option_map (λ out. record { out = out; back = None }) a ≡ Some d → AreDoors (Some d)
 out-are (Some out) x d e =
     let same : ◌≡◌ {A = Doors} (record { out = out; back = None }) d = cc in
     subst (λ (z : Doors). AreDoors (Some z)) same (x out refl, tt)
@@ -188,39 +235,53 @@ doors-are text d e =
     let two : Option Doors = two_doors (names_in (before_first is_bar text)) (names_in (after_first is_bar text)) in
     let one : Option Doors = option_map (λ out. record { out = out; back = None }) (names_in text) in
     elim (cases_Bool (has_bar text)) [
-      | inl t ↦ two-are (names_in (before_first is_bar text)) (names_in (after_first is_bar text)) (λ ns at. names-are (before_first is_bar text) ns at) (λ ns at. names-are (after_first is_bar text) ns at) d (sym (cond-true (has_bar text) two one t) ∙ e)
-      | inr f ↦ out-are (names_in text) (λ ns at. names-are text ns at) d (sym (cond-false (has_bar text) two one f) ∙ e)
+      | inl t ↦ two-are (names_in (before_first is_bar text)) (names_in (after_first is_bar text))
+          (λ ns at. names-are (before_first is_bar text) ns at) (λ ns at. names-are (after_first is_bar text) ns at) d
+          (sym (cond-true (has_bar text) two one t) ∙ e)
+      | inr f ↦ out-are (names_in text) (λ ns at. names-are text ns at) d
+          (sym (cond-false (has_bar text) two one f) ∙ e)
     ]
 
 target-is : (text : List ℕ) (t : Target) → target_in text ≡ Some t → IsTarget t
 target-is text t e = go (object_number text) (names_in text) (λ ns at. names-are text ns at) e
   where
-    go : (o : Option ℕ) (a : Option (List (List ℕ))) → ((ns : List (List ℕ)) → a ≡ Some ns → AreNames ns) → option_map_or (λ n. Some (Old n)) o (option_map New a) ≡ Some t → IsTarget t
+    go : (o : Option ℕ) (a : Option (List (List ℕ))) → ((ns : List (List ℕ)) → a ≡ Some ns → AreNames ns)
+        → option_map_or (λ n. Some (Old n)) o (option_map New a) ≡ Some t → IsTarget t
     go (Some n) a x at = let same : Old n ≡ t = cc in subst IsTarget same tt
     go None (Some ns) x at = let same : New ns ≡ t = cc in subst IsTarget same (x ns refl)
     go None None x at = absurd (let bad : ◌≡◌ {A = Option Target} None (Some t) = at in cc)
 
-fine-between : (w : State) (p : ℕ) (d : Option Doors) (t : Option Target) → ((x : Doors) → d ≡ Some x → AreDoors (Some x)) → ((x : Target) → t ≡ Some x → IsTarget x) → IsFine w (dig_between w p d t)
-fine-between w p None None x y = tt
-fine-between w p None (Some target) x y = tt
-fine-between w p (Some doors) None x y = tt
-fine-between w p (Some doors) (Some target) x y = fine-does w p None (deed.Dig target (Some doors)) (y target refl, x doors refl)
+fine-between : (w : State) (p : ℕ) (d : Option Doors) (t : Option Target)
+    → ((x : Doors) → d ≡ Some x → AreDoors (Some x)) → ((x : Target) → t ≡ Some x → IsTarget x)
+    → IsFine w (dig_between w p d t)
+fine-between w p None None x y = fine-refused w p BadName (deed.Dig (New []) (Some (record { out = []; back = None })))
+fine-between w p None (Some target) x y =
+    fine-refused w p BadName (deed.Dig target (Some (record { out = []; back = None })))
+fine-between w p (Some doors) None x y = fine-refused w p BadName (deed.Dig (New []) (Some doors))
+fine-between w p (Some doors) (Some target) x y =
+    fine-does w p None (deed.Dig target (Some doors)) (y target refl, x doors refl)
 
 fine-dig_room : (w : State) (p : ℕ) (text : List ℕ) → IsFine w (dig_room w p text)
-fine-dig_room w p text = fine-read w p (no_player w p) BadName (names_in text) (λ names. deed.Dig (New names) None) (λ names is. (names-are text names is, tt))
+fine-dig_room w p text =
+    fine-read w p BadName [] (names_in text) (λ names. deed.Dig (New names) None)
+    (λ names is. (names-are text names is, tt))
 
-fine-dig : (w : State) (p : ℕ) (l : Line) → IsFine w (dig_line w p l)
+fine-dig : (w : State) (p : ℕ) (l : Line) → IsFine w (command w p l verb.Dig)
 fine-dig w p l =
-    fine-if w (is_none l.prep) (on_found (text_behind l) (dig_room w p)) (shaped (is_pair To l && not (has_empty_side l.direct)) (dig_exits w p l.direct l.indirect))
+    let fits = is_pair To l && not (has_empty_side l.direct) in
+    fine-if w (is_none l.prep) (on_found (text_behind l) (dig_room w p))
+    (shaped fits (dig_exits w p l.direct l.indirect))
     (fine-found w (text_behind l) (dig_room w p) (fine-dig_room w p))
-    (fine-shaped w (is_pair To l && not (has_empty_side l.direct)) (dig_exits w p l.direct l.indirect)
+    (fine-shaped w fits (dig_exits w p l.direct l.indirect)
     (fine-between w p (doors_in l.direct) (target_in l.indirect) (doors-are l.direct) (target-is l.indirect)))
 
 -- ---- players
 fine-connecting : (w : State) (name : List ℕ) → IsName name → IsFine w (connecting w name)
 fine-connecting w name is = go (named_player w name)
   where
-    go : (o : Option ℕ) → IsFine w (option_map_or verdict.Become o (outcome w None (record { actor = w.next; deed = deed.Player name })))
+    go : (o : Option ℕ)
+        → IsFine w (option_map_or verdict.Become o
+        (outcome w None (record { actor = w.next; deed = deed.Player name })))
     go (Some n) = tt
     go None = fine-outcome w None (record { actor = w.next; deed = deed.Player name }) is
 
@@ -232,59 +293,76 @@ fine-connect w text = go (name_in text) refl
     go (Some name) is = let h = (name_law text name).0 is in fine-connecting w name (subst IsName (sym h.0) h.1)
 
 fine-connect_line : (w : State) (l : Line) → IsFine w (connect_line w l)
-fine-connect_line w l = fine-shaped w (not (is_empty (first_of l))) (connect w (first_of l)) (fine-connect w (first_of l))
+fine-connect_line w l =
+    fine-shaped w (not (is_empty (first_of l))) (connect w (first_of l)) (fine-connect w (first_of l))
 
-fine-walk : (w : State) (p : ℕ) (r : Result ℕ Match) → IsFine w (walk w p r)
-fine-walk w p (Ok x) = fine-does w p None (deed.Walk x) tt
-fine-walk w p (Err MeansSeveral) = tt
-fine-walk w p (Err MeansNoSuch) = tt
-fine-walk w p (Err MeansNothing) = tt
+fine-walk : (w : State) (p : ℕ) (r : Result ℕ Refusal) → IsFine w (on_found r (λ x. does w p None (deed.Walk x)))
+fine-walk w p r =
+    fine-found w r (λ x. does w p None (deed.Walk x)) (λ x. fine-does w p None (deed.Walk x) tt)
 
 -- ---- the table
-fine-object : (w : State) (p : ℕ) (l : Line) (v : Verb) → ((x : ℕ) → IsFine w (of_object w p v x)) → IsFine w (object_line w p l v)
-fine-object w p l v is = fine-found w (object_behind w p l) (of_object w p v) is
+fine-object : (w : State) (p : ℕ) (l : Line) (meaning : ℕ → Verdict) → ((x : ℕ) → IsFine w (meaning x))
+    → IsFine w (on_found (object_named w p (all_of l)) meaning)
+fine-object w p l meaning is = fine-found w (object_named w p (all_of l)) meaning is
 
-fine-move : (w : State) (p : ℕ) (prep : _) (l : Line) (own : ℕ × ℕ → Option Refusal) → IsFine w (on_found (objects_round prep w p l) (λ o. does w p (own o) (deed.Move o.0 o.1)))
-fine-move w p prep l own = fine-found w (objects_round prep w p l) (λ o. does w p (own o) (deed.Move o.0 o.1)) (λ o. fine-does w p (own o) (deed.Move o.0 o.1) tt)
-
-fine-talk : (w : State) (p : ℕ) (text : List ℕ) (d : List ℕ → Deed) → ((said : List ℕ) → IsTrue (is_speech said) → HasParts (d said)) → IsFine w (talk w p d text)
-fine-talk w p text d is = fine-read w p (no_player w p) BadName (if is_speech text then Some text else None) d (λ said e. is said (speech-is text said e))
+fine-move : (w : State) (p : ℕ) (prep : _) (l : Line) (own : ℕ × ℕ → Option Refusal)
+    → IsFine w (on_found (objects_round prep w p l) (λ o. does w p (own o) (deed.Move o.0 o.1)))
+fine-move w p prep l own =
+    fine-found w (objects_round prep w p l) (λ o. does w p (own o) (deed.Move o.0 o.1))
+    (λ o. fine-does w p (own o) (deed.Move o.0 o.1) tt)
 
 fine-command : (w : State) → IsSound w → (p : ℕ) (l : Line) (v : Verb) → IsFine w (command w p l v)
 fine-command w sound p l verb.Connect = fine-connect_line w l
 fine-command w sound p l verb.Look =
-    fine-if w (is_bare l) (verdict.Ask (query.View Look)) (on_found (object_named w p (looked_text l)) (λ x. verdict.Ask (query.View (LookAt x)))) tt
-    (fine-found w (object_named w p (looked_text l)) (λ x. verdict.Ask (query.View (LookAt x))) (λ x. tt))
-fine-command w sound p l verb.Inventory = fine-shaped w (is_bare l) (verdict.Ask (query.View Inventory)) tt
-fine-command w sound p l verb.Go = fine-object w p l verb.Go (λ x. fine-does w p None (deed.Walk x) tt)
-fine-command w sound p l verb.Take = fine-object w p l verb.Take (λ x. fine-does w p None (deed.Move x p) tt)
-fine-command w sound p l verb.Drop = fine-object w p l verb.Drop (λ x. fine-does w p (refused_if (not (within w x p)) NotHere) (deed.Move x (room_of w p)) tt)
-fine-command w sound p l verb.Put = fine-move w p In l (λ o. kind_then_here (not (is_thing w o.1)) (not (in_reach w p o.1)))
-fine-command w sound p l verb.Give = fine-move w p To l (λ o. kind_then_here (not (is_player w o.1)) (not (within w o.0 p) || not (shares_room w p o.1)))
-fine-command w sound p l verb.Say = fine-talk w p l.rest deed.Say (λ said is. is)
-fine-command w sound p l verb.Emote = fine-talk w p l.rest deed.Emote (λ said is. is)
+    let object = object_named w p (joined (looked_at l.args)) in
+    fine-if w (is_empty l.args) (verdict.Ask (query.View Look))
+    (on_found object (λ x. verdict.Ask (query.View (LookAt x)))) tt
+    (fine-found w object (λ x. verdict.Ask (query.View (LookAt x))) (λ x. tt))
+fine-command w sound p l verb.Inventory = fine-shaped w (is_empty l.args) (verdict.Ask (query.View Inventory)) tt
+fine-command w sound p l verb.Go =
+    fine-object w p l (λ x. does w p None (deed.Walk x)) (λ x. fine-does w p None (deed.Walk x) tt)
+fine-command w sound p l verb.Take =
+    fine-object w p l (λ x. does w p None (deed.Move x p)) (λ x. fine-does w p None (deed.Move x p) tt)
+fine-command w sound p l verb.Drop =
+    fine-object w p l (drop_down w p)
+    (λ x. fine-does w p (refused_if (not (within w x p)) NotHere) (deed.Move x (unwrap_or (place_of w p) 0)) tt)
+fine-command w sound p l verb.Put =
+    fine-move w p In l (λ o. kind_then_here (not (is_thing w o.1)) (not (in_reach w p o.1)))
+fine-command w sound p l verb.Give =
+    fine-move w p To l (λ o. kind_then_here (not (is_player w o.1)) (not (within w o.0 p) || not (shares_room w p o.1)))
+fine-command w sound p l verb.Say =
+    fine-legal w None (record { actor = p; deed = deed.Say l.rest }) (says-speech w p l.rest)
+fine-command w sound p l verb.Emote =
+    fine-legal w None (record { actor = p; deed = deed.Emote l.rest }) (emotes-speech w p l.rest)
 fine-command w sound p l verb.Dig = fine-dig w p l
 fine-command w sound p l verb.Create =
     fine-found w (text_behind l) (create w p)
-    (λ text. fine-read w p (no_player w p) BadName (names_in text) deed.Make (λ names is. names-are text names is))
+    (λ text. fine-read w p BadName [] (names_in text) deed.Make (λ names is. names-are text names is))
 fine-command w sound p l verb.Lock =
     fine-found w (object_before With w p l) (λ x. lock w p x l.indirect)
-    (λ x. fine-read w p (not_his w p x (is_player w x)) BadKey (key_meant w p l.indirect) (deed.Lock x) (λ k is. key-is w sound p l.indirect k is))
-fine-command w sound p l verb.Unlock = fine-object w p l verb.Unlock (λ x. fine-does w p None (deed.Unlock x) tt)
-fine-command w sound p l verb.Key = fine-object w p l verb.Key (λ x. tt)
+    (λ x. fine-read w p BadKey (Has 0) (key_meant w p l.indirect) (deed.Lock x)
+    (λ k is. key-is w sound p l.indirect k is))
+fine-command w sound p l verb.Unlock =
+    fine-object w p l (λ x. does w p None (deed.Unlock x)) (λ x. fine-does w p None (deed.Unlock x) tt)
+fine-command w sound p l verb.Key = fine-object w p l (λ x. verdict.Ask (query.View (KeyOf x))) (λ x. tt)
 fine-command w sound p l verb.Cost =
     fine-found w (object_before Is w p l) (λ x. cost w p x l.indirect)
-    (λ x. fine-read w p (not_his w p x (not (is_exit w x))) BadCost (number_in l.indirect) (deed.Cost x) (λ n is. tt))
+    (λ x. fine-read w p BadCost 0 (number_in l.indirect) (deed.Cost x) (λ n is. tt))
 fine-command w sound p l verb.Rename =
     fine-found w (object_before To w p l) (λ x. rename w p x l.indirect)
-    (λ x. fine-read w p (not_his w p x false) BadName (names_in l.indirect) (deed.Rename x) (λ names is. names-are l.indirect names is))
-fine-command w sound p l verb.Recycle = fine-object w p l verb.Recycle (λ x. fine-does w p None (deed.Recycle x) tt)
-fine-command w sound p l verb.Route = fine-found w (route_line w p l) (λ j. verdict.Ask (query.Journey j)) (λ j. tt)
-fine-command w sound p l verb.Meet = fine-found w (meet_line w p l) (λ j. verdict.Ask (query.Journey j)) (λ j. tt)
-fine-command w sound p l verb.Proof = fine-found w (journey_line w p (parsed l.rest)) (λ j. verdict.Ask (query.Proof j)) (λ j. tt)
-fine-command w sound p l verb.Version = fine-shaped w (is_bare l) (verdict.Ask (query.View Version)) tt
-fine-command w sound p l verb.History = fine-shaped w (is_bare l) (verdict.Ask query.History) tt
-fine-command w sound p l verb.Quit = fine-shaped w (is_bare l) (verdict.Ask (query.View Quit)) tt
+    (λ x. fine-read w p BadName [] (names_in l.indirect) (deed.Rename x) (λ names is. names-are l.indirect names is))
+fine-command w sound p l verb.Recycle =
+    fine-object w p l (λ x. does w p None (deed.Recycle x)) (λ x. fine-does w p None (deed.Recycle x) tt)
+fine-command w sound p l verb.Route =
+    fine-found w (journey_of w p l (Some verb.Route)) (λ j. verdict.Ask (query.Journey j)) (λ j. tt)
+fine-command w sound p l verb.Meet =
+    fine-found w (journey_of w p l (Some verb.Meet)) (λ j. verdict.Ask (query.Journey j)) (λ j. tt)
+fine-command w sound p l verb.Proof =
+    let line = parsed l.rest in
+    fine-found w (journey_of w p line (verb_named line.verb)) (λ j. verdict.Ask (query.Proof j)) (λ j. tt)
+fine-command w sound p l verb.Version = fine-shaped w (is_empty l.args) (verdict.Ask (query.View Version)) tt
+fine-command w sound p l verb.History = fine-shaped w (is_empty l.args) (verdict.Ask query.History) tt
+fine-command w sound p l verb.Quit = fine-shaped w (is_empty l.args) (verdict.Ask (query.View Quit)) tt
 
 fine-guest : (w : State) (l : Line) (o : Option Verb) → IsFine w (guest w l o)
 fine-guest w l None = tt
@@ -311,14 +389,18 @@ fine-guest w l (Some verb.Meet) = tt
 fine-guest w l (Some verb.Proof) = tt
 fine-guest w l (Some verb.Version) = tt
 fine-guest w l (Some verb.History) = tt
-fine-guest w l (Some verb.Quit) = fine-shaped w (is_bare l) (verdict.Ask (query.View Quit)) tt
+fine-guest w l (Some verb.Quit) = fine-shaped w (is_empty l.args) (verdict.Ask (query.View Quit)) tt
 
 fine-decision : (w : State) → IsSound w → (player : Option ℕ) (l : Line) → IsFine w (decision w player l)
+unfolding decision
 fine-decision w sound None l = fine-guest w l (verb_named l.verb)
 fine-decision w sound (Some p) l = go (verb_named l.verb)
   where
     go : (o : Option Verb) → IsFine w (option_map_or (command w p l) o (other_line w p l))
-    go None = fine-walk w p (sole_like Equal w (whole_of l) (option_map_or (leaving_of w) (place_of w p) []))
+    go None =
+        fine-walk w p
+        (found NotUnderstood
+        (sole_like Equal w (joined (l.verb ∷ l.args)) (option_map_or (leaving_of w) (place_of w p) [])))
     go (Some v) = fine-command w sound p l v
 
 pub are_made : AreMade

@@ -3,6 +3,10 @@ pub mod Searching
 pub mod Finding
 pub mod Bounds
 pub mod Least
+pub mod Ordered
+pub mod Barred
+pub mod Verbs
+pub mod Ranging
 pub mod Parties
 pub mod Parts
 pub mod Sides

@@ -13,21 +13,29 @@ empty_side fresh [] = fresh
 empty_side fresh (c ∷ cs) = if is_bar c then fresh || empty_side true cs else empty_side false cs
 
 -- whether the first side is empty makes no difference once something stands in it
-begun : (x c : ℕ) (sides : List (List ℕ)) → list_any is_empty (onto_first x (onto_first c sides)) ≡ list_any is_empty (onto_first c sides)
+begun : (x c : ℕ) (sides : List (List ℕ))
+    → list_any is_empty (onto_first x (onto_first c sides)) ≡ list_any is_empty (onto_first c sides)
 begun x c [] = refl
 begun x c (side ∷ sides) = refl
 
 -- what is left of a text, at the beginning of a side, and within a side
-pub sides_of : (text : List ℕ) → (empty_side true text ≡ has_empty_side text) × ((x : ℕ) → empty_side false text ≡ list_any is_empty (onto_first x (slice_split is_bar text)))
+pub sides_of : (text : List ℕ)
+    → (empty_side true text ≡ has_empty_side text)
+    × ((x : ℕ) → empty_side false text ≡ list_any is_empty (onto_first x (slice_split is_bar text)))
 sides_of [] = (refl, λ x. refl)
 sides_of (c ∷ cs) =
-    let sides : Bool → List (List ℕ) = λ b. cond b ([] ∷ slice_split is_bar cs) (onto_first c (slice_split is_bar cs)) in
+    let sides : Bool → List (List ℕ) =
+    λ b. cond b ([] ∷ slice_split is_bar cs) (onto_first c (slice_split is_bar cs)) in
     bool_cases (is_bar c)
     (λ yes. (
-      ap (λ b. if b then true || empty_side true cs else empty_side false cs) yes ∙ sym (ap (λ b. list_any is_empty (sides b)) yes),
-      λ x. ap (λ b. if b then false || empty_side true cs else empty_side false cs) yes ∙ (sides_of cs).0 ∙ sym (ap (λ b. list_any is_empty (onto_first x (sides b))) yes),
+      ap (λ b. if b then true || empty_side true cs else empty_side false cs) yes
+          ∙ sym (ap (λ b. list_any is_empty (sides b)) yes),
+      λ x. ap (λ b. if b then false || empty_side true cs else empty_side false cs) yes ∙ (sides_of cs).0
+          ∙ sym (ap (λ b. list_any is_empty (onto_first x (sides b))) yes),
     ))
     (λ no. (
-      ap (λ b. if b then true || empty_side true cs else empty_side false cs) no ∙ (sides_of cs).1 c ∙ sym (ap (λ b. list_any is_empty (sides b)) no),
-      λ x. ap (λ b. if b then false || empty_side true cs else empty_side false cs) no ∙ (sides_of cs).1 c ∙ sym (ap (λ b. list_any is_empty (onto_first x (sides b))) no ∙ begun x c (slice_split is_bar cs)),
+      ap (λ b. if b then true || empty_side true cs else empty_side false cs) no ∙ (sides_of cs).1 c
+          ∙ sym (ap (λ b. list_any is_empty (sides b)) no),
+      λ x. ap (λ b. if b then false || empty_side true cs else empty_side false cs) no ∙ (sides_of cs).1 c
+          ∙ sym (ap (λ b. list_any is_empty (onto_first x (sides b))) no ∙ begun x c (slice_split is_bar cs)),
     ))

@@ -1,45 +1,39 @@
 -- What each command means to a player, of the objects and texts that its line gives.
-use Rattle.std.specs.Prelude.{ℕ, not, ◌||◌, List, length, nat_eq, nat_lt, Bool, false, Option, Some, None, unwrap_or, Result, Ok, Err, if◌then◌else◌}
-use Rattle.std.specs.Option.{option_map, option_map_or, option_and_then}
-use Rattle.std.specs.Result.{result_ok}
+use Rattle.std.specs.Prelude.{ℕ, not, ◌||◌, List, [], length, nat_eq, nat_lt, Bool, Option, Some, None, is_none}
+use Rattle.std.specs.Prelude.{unwrap_or}
+use Rattle.std.specs.Prelude.{Result, if◌then◌else◌}
+use Rattle.std.specs.Option.{option_map, option_map_or, option_and_then, option_zip}
+use Rattle.std.specs.Result.{result_ok, result_map_both}
 use Rattle.std.specs.List.{position_or_len, before_first, after_first}
-use Rattle.mud_key.specs.Tree.{Tree}
+use Rattle.mud_key.specs.Tree.{Tree, Has}
 use Rattle.mud_key.specs.Reading.{names_in, name_in, key_in}
 use Rattle.mud_key.specs.Namer.{resolved}
 use Rattle.mud_key.specs.declared.namer.Miss.{Miss}
-use Rattle.mud_key.specs.declared.namer.Miss.TheVariants.{NoSuch as MissNoSuch, Ambiguous as MissSeveral}
-use Rattle.mud_world.specs.declared.change.Deed.{Deed}
-use Rattle.mud_world.specs.declared.change.Deed.TheVariants.{Dig, Make, Lock, Move, Walk, Cost, Player, Rename}
+use Rattle.mud_key.specs.declared.namer.Miss.TheVariants.{NoSuch as MissNoSuch}
+use Rattle.mud_world.specs.declared.change.Deed.TheVariants.{Dig, Make, Lock, Move, Cost, Player, Rename}
 use Rattle.mud_world.specs.declared.change.Target.{Target}
 use Rattle.mud_world.specs.declared.change.Target.TheVariants.{New, Old}
 use Rattle.mud_world.specs.declared.change.Doors.{Doors}
 use Rattle.mud_world.specs.declared.refusal.Refusal.{Refusal}
-use Rattle.mud_world.specs.declared.refusal.Refusal.TheVariants.{NotUnderstood, Ambiguous, WrongKind, NotHere, BadName, BadKey, BadCost}
+use Rattle.mud_world.specs.declared.refusal.Refusal.TheVariants.{NoSuch, WrongKind, NotHere, BadName, BadKey, BadCost}
 use Rattle.mud_world.specs.Refusals.{lesser, refused_if}
-use Rattle.mud_world.specs.Speech.{is_speech}
-use Rattle.mud_world.specs.State.{State, exists, is_exit, is_thing, is_player, place_of, within, named_player}
+use Rattle.mud_world.specs.State.{State, exists, is_thing, is_player, place_of, within, named_player}
 use Rattle.mud_world.specs.Conditions.{shares_room}
 use Rattle.mud_world.specs.Reach.{in_reach}
-use Rattle.mud_rules.specs.declared.matching.Match.{Match}
-use Rattle.mud_rules.specs.declared.matching.Match.TheVariants.{Ambiguous as MeansSeveral}
 use Rattle.mud_rules.specs.declared.verdict.Verdict.{Verdict}
 use Rattle.mud_rules.specs.declared.verdict.Verdict.TheVariants.{Become, Refused}
 use Rattle.mud_rules.specs.Matching.{number_in, object_number, local_match}
-use Rattle.mud_rules.specs.Outcome.{outcome, does, does_read, no_player, no_room, not_his}
+use Rattle.mud_rules.specs.Outcome.{outcome, does, does_read, found, of_kind}
 
 -- ---- moving; what the change asks itself is not said again
-
--- the room that a player stands in
-abbrev pub room_of : State → ℕ → ℕ
-room_of w p = unwrap_or (place_of w p) 0
 
 -- two refusals of numbers 4 and 5, by their conditions
 abbrev pub kind_then_here : Bool → Bool → Option Refusal
 kind_then_here kind here = lesser (refused_if kind WrongKind) (refused_if here NotHere)
 
--- drop X: what he carries, at any depth
+-- drop X: what he carries, at any depth, to his room
 abbrev pub drop_down : State → ℕ → ℕ → Verdict
-drop_down w p x = does w p (refused_if (not (within w x p)) NotHere) (Move x (room_of w p))
+drop_down w p x = does w p (refused_if (not (within w x p)) NotHere) (Move x (unwrap_or (place_of w p) 0))
 
 -- put X in Y: into a thing in his reach
 abbrev pub put : State → ℕ → ℕ × ℕ → Verdict
@@ -52,41 +46,26 @@ give w p o =
     (kind_then_here (not (is_player w o.1)) (not (within w o.0 p) || not (shares_room w p o.1)))
     (Move o.0 o.1)
 
--- the exit of his room that has the name, where the line is no command
-abbrev pub walk : State → ℕ → Result ℕ Match → Verdict
-walk w p (Ok x) = does w p None (Walk x)
-walk w p (Err MeansSeveral) = Refused Ambiguous
-walk w p (Err other) = Refused NotUnderstood
-
 -- ---- texts that say what is done
-
--- say, emote: p does this with the text, where it can be said
-abbrev pub talk : State → ℕ → (List ℕ → Deed) → List ℕ → Verdict
-talk w p deed text = does_read w p (no_player w p) BadName (if is_speech text then Some text else None) deed
 
 -- @create NAMES
 abbrev pub create : State → ℕ → List ℕ → Verdict
-create w p text = does_read w p (no_player w p) BadName (names_in text) Make
+create w p text = does_read w p BadName [] (names_in text) Make
 
 -- @rename X to NAMES
 abbrev pub rename : State → ℕ → ℕ → List ℕ → Verdict
-rename w p x text = does_read w p (not_his w p x false) BadName (names_in text) (Rename x)
+rename w p x text = does_read w p BadName [] (names_in text) (Rename x)
 
 -- @cost X is N, N being 1 to 9 digits
 abbrev pub cost : State → ℕ → ℕ → List ℕ → Verdict
-cost w p x text = does_read w p (not_his w p x (not (is_exit w x))) BadCost (number_in text) (Cost x)
+cost w p x text = does_read w p BadCost 0 (number_in text) (Cost x)
 
 -- ---- keys
 
--- what was found as a key wants it: an object that exists
-abbrev pub named_by_key : State → Result ℕ Match → Result ℕ Miss
-named_by_key w (Ok n) = if exists w n then Ok n else Err MissNoSuch
-named_by_key w (Err MeansSeveral) = Err MissSeveral
-named_by_key w (Err other) = Err MissNoSuch
-
--- the object that a name in a key text means to a player
+-- the object that a name in a key text means to a player, if it exists; why it means none makes no difference to a line
 abbrev pub near_named : State → ℕ → List ℕ → Result ℕ Miss
-near_named w p text = named_by_key w (local_match w p text)
+near_named w p name =
+    result_map_both (λ n. n) (λ f. MissNoSuch) (of_kind (exists w) (found NoSuch (local_match w p name)))
 
 -- the key that a text means to a player, where it is a key text and each of its names means an object
 abbrev pub key_meant : State → ℕ → List ℕ → Option (Tree ℕ)
@@ -94,13 +73,13 @@ key_meant w p text = option_and_then (λ key. result_ok (resolved (near_named w 
 
 -- @lock X with K
 abbrev pub lock : State → ℕ → ℕ → List ℕ → Verdict
-lock w p x text = does_read w p (not_his w p x (is_player w x)) BadKey (key_meant w p text) (Lock x)
+lock w p x text = does_read w p BadKey (Has 0) (key_meant w p text) (Lock x)
 
 -- ---- digging
 
 -- @dig NAMES: a room without exits
 abbrev pub dig_room : State → ℕ → List ℕ → Verdict
-dig_room w p text = does_read w p (no_player w p) BadName (names_in text) (λ names. Dig (New names) None)
+dig_room w p text = does_read w p BadName [] (names_in text) (λ names. Dig (New names) None)
 
 abbrev pub is_bar : ℕ → Bool
 is_bar c = nat_eq c 124
@@ -108,26 +87,23 @@ is_bar c = nat_eq c 124
 abbrev pub has_bar : List ℕ → Bool
 has_bar text = nat_lt (position_or_len is_bar text) (length text)
 
--- an exit of these names, and one back
-abbrev pub two_doors : Option (List (List ℕ)) → Option (List (List ℕ)) → Option Doors
-two_doors (Some out) (Some back) = Some (record { out = out; back = Some back })
-two_doors out back = None
-
--- `NAMES` or `NAMES|NAMES`: a name has no bar, so there is no second one
+-- an exit `NAMES`, or with one back `NAMES|NAMES`: a name has no bar, so there is no second one
 abbrev pub doors_in : List ℕ → Option Doors
 doors_in text =
-    if has_bar text then two_doors (names_in (before_first is_bar text)) (names_in (after_first is_bar text))
+    if has_bar text then
+    option_map (λ names. record { out = names.0; back = Some names.1 })
+    (option_zip (names_in (before_first is_bar text)) (names_in (after_first is_bar text)))
     else option_map (λ out. record { out = out; back = None }) (names_in text)
 
 -- `#n` is an old room, all else the names of a new one
 abbrev pub target_in : List ℕ → Option Target
 target_in text = option_map_or (λ n. Some (Old n)) (object_number text) (option_map New (names_in text))
 
--- exits to a room, where both can be read
+-- exits to a room; blanks take the place of what can't be read, as in `does_read`
 abbrev pub dig_between : State → ℕ → Option Doors → Option Target → Verdict
-dig_between w p doors None = Refused (unwrap_or (no_player w p) BadName)
-dig_between w p None (Some target) = Refused (unwrap_or (no_room w p target) BadName)
-dig_between w p (Some doors) (Some target) = does w p None (Dig target (Some doors))
+dig_between w p doors target =
+    does w p (refused_if (is_none doors || is_none target) BadName)
+    (Dig (unwrap_or target (New [])) (Some (unwrap_or doors (record { out = []; back = None }))))
 
 -- @dig N to T
 abbrev pub dig_exits : State → ℕ → List ℕ → List ℕ → Verdict

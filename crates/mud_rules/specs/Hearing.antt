@@ -1,16 +1,15 @@
 -- What a player hears of the changes of others, as bytes.
-use Rattle.std.specs.Prelude.{ℕ, Bool, false, nat_eq, List, ◌++◌, codes, Option, Some, None, if◌then◌else◌}
-use Rattle.std.specs.Option.{option_map_or}
+use Rattle.std.specs.Prelude.{ℕ, nat_eq, false, List, ◌++◌, codes, Option, Some, None, if◌then◌else◌}
+use Rattle.std.specs.Option.{option_map_or, option_or}
 use Rattle.mud_world.specs.declared.change.Change.{Change}
 use Rattle.mud_world.specs.declared.change.Deed.{Deed}
 use Rattle.mud_world.specs.declared.change.Deed.TheVariants.{Move, Walk, Player, Say, Emote}
 use Rattle.mud_world.specs.State.{State, place_of, is_number, is_thing, destination_of}
-use Rattle.mud_world.specs.Conditions.{shares_room}
 use Rattle.mud_rules.specs.Listing.{first_name}
 
--- player p is in room r
-abbrev pub stands_in : State → ℕ → Option ℕ → Bool
-stands_in w p r = option_map_or (λ room. is_number room (place_of w p)) r false
+-- the line, where player p is in that room
+abbrev pub heard_in : State → ℕ → Option ℕ → List ℕ → Option (List ℕ)
+heard_in w p room line = if option_map_or (λ r. is_number r (place_of w p)) room false then Some line else None
 
 -- A does something with T
 abbrev pub sentence : State → ℕ → List ℕ → ℕ → List ℕ → List ℕ
@@ -25,26 +24,16 @@ moved_line w p actor thing to =
     else (if nat_eq to p then sentence w actor (codes " gives ") thing (codes " to you.")
     else sentence w actor (codes " gives ") thing (codes " to " ++ first_name w to ++ codes ".")))
 
-abbrev pub arrival_line : List ℕ → List ℕ
-arrival_line name = name ++ codes " arrives."
-
--- in the room that the actor leaves, or else in the one that he comes to
-abbrev pub walked_line : State → ℕ → ℕ → ℕ → Option (List ℕ)
-walked_line w p actor exit =
-    if shares_room w actor p then Some (sentence w actor (codes " leaves by ") exit (codes "."))
-    else if stands_in w p (destination_of w exit) then Some (arrival_line (first_name w actor))
-    else None
-
--- the line is heard in the actor's room
-abbrev pub beside : State → ℕ → ℕ → List ℕ → Option (List ℕ)
-beside w p actor line = if shares_room w actor p then Some line else None
-
+-- a walk is heard in the room that the actor leaves, or else in the one that he comes to; a new player comes to #0
 abbrev pub heard_deed : State → ℕ → ℕ → Deed → Option (List ℕ)
-heard_deed w p actor (Say text) = beside w p actor (first_name w actor ++ codes " says, \"" ++ text ++ codes "\"")
-heard_deed w p actor (Emote text) = beside w p actor (first_name w actor ++ codes " " ++ text)
-heard_deed w p actor (Move thing to) = beside w p actor (moved_line w p actor thing to)
-heard_deed w p actor (Walk exit) = walked_line w p actor exit
-heard_deed w p actor (Player name) = if stands_in w p (Some 0) then Some (arrival_line name) else None
+heard_deed w p actor (Say text) =
+    heard_in w p (place_of w actor) (first_name w actor ++ codes " says, \"" ++ text ++ codes "\"")
+heard_deed w p actor (Emote text) = heard_in w p (place_of w actor) (first_name w actor ++ codes " " ++ text)
+heard_deed w p actor (Move thing to) = heard_in w p (place_of w actor) (moved_line w p actor thing to)
+heard_deed w p actor (Walk exit) =
+    option_or (heard_in w p (place_of w actor) (sentence w actor (codes " leaves by ") exit (codes ".")))
+    (heard_in w p (destination_of w exit) (first_name w actor ++ codes " arrives."))
+heard_deed w p actor (Player name) = heard_in w p (Some 0) (name ++ codes " arrives.")
 heard_deed w p actor deed = None
 
 -- the line that player p is told of another's change, w being the world before it

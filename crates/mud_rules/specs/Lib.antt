@@ -10,3 +10,4 @@ pub mod Listing
 pub mod Replies
 pub mod Answers
 pub mod Hearing
+pub mod Steps

@@ -1,13 +1,12 @@
 -- Names and lists of objects in texts, as bytes.
-use Rattle.std.specs.Prelude.{ℕ, List, [], ◌∷◌, ◌++◌, codes, decimal}
+use Rattle.std.specs.Prelude.{ℕ, List, [], ◌∷◌, ◌++◌, get_or, codes, decimal}
 use Rattle.std.specs.Option.{option_map_or}
 use Rattle.std.specs.List.{join_by}
 use Rattle.mud_world.specs.State.{State, record_at}
-use Rattle.mud_rules.specs.Matching.{first_text}
 
--- the name that is shown
+-- the name that is shown: the first
 abbrev pub first_name : State → ℕ → List ℕ
-first_name w n = option_map_or (λ r. first_text r.names) (record_at w n) []
+first_name w n = option_map_or (λ r. get_or r.names 0 []) (record_at w n) []
 
 -- NAME #n
 abbrev pub entry_text : State → ℕ → List ℕ

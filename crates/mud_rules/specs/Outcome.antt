@@ -1,19 +1,20 @@
 -- How the refusals of a line come together.
-use Rattle.std.specs.Prelude.{◌≡◌, ℕ, nat_lt, Bool, true, false, not, ◌||◌, Option, Some, None, unwrap_or, Result, Ok, Err, IsTrue, if◌then◌else◌}
+use Rattle.std.specs.Prelude.{◌≡◌, ℕ, nat_eq, nat_lt, Bool, true, false, ◌||◌, List, [], ◌∷◌, find}
+use Rattle.std.specs.Prelude.{Option, Some, None, is_none, unwrap_or, Result, Ok, Err, IsTrue, if◌then◌else◌}
 use Rattle.std.specs.Option.{option_map_or}
 use Rattle.std.specs.List.{All}
 use Rattle.mud_world.specs.declared.change.Change.{Change}
 use Rattle.mud_world.specs.declared.change.Deed.{Deed}
 use Rattle.mud_world.specs.declared.refusal.Refusal.{Refusal}
-use Rattle.mud_world.specs.declared.refusal.Refusal.TheVariants.{NotUnderstood, NoSuch as NoObject, Ambiguous as Several, WrongKind, Denied}
-use Rattle.mud_world.specs.declared.change.Target.{Target}
-use Rattle.mud_world.specs.declared.change.Target.TheVariants.{New, Old}
-use Rattle.mud_world.specs.Refusals.{number, lesser}
-use Rattle.mud_world.specs.State.{State, exists, is_room, is_player}
-use Rattle.mud_world.specs.Conditions.{owns}
-use Rattle.mud_world.specs.Legal.{refusal, is_arrival}
+use Rattle.mud_world.specs.declared.refusal.Refusal.TheVariants.{NotUnderstood, NoSuch, Ambiguous, WrongKind, NotHere}
+use Rattle.mud_world.specs.declared.refusal.Refusal.TheVariants.{Denied, BadName, NameTaken, BadKey, KeyNesting}
+use Rattle.mud_world.specs.declared.refusal.Refusal.TheVariants.{BadCost, RecursiveMove, LockedExit, LockedRoom}
+use Rattle.mud_world.specs.declared.refusal.Refusal.TheVariants.{LockedThing, InUse, WorldFull, PartyBad}
+use Rattle.mud_world.specs.Refusals.{number, refused_if}
+use Rattle.mud_world.specs.State.{State, is_room, is_player}
+use Rattle.mud_world.specs.Legal.{refusal, fails, is_arrival}
 use Rattle.mud_rules.specs.declared.matching.Match.{Match}
-use Rattle.mud_rules.specs.declared.matching.Match.TheVariants.{Ambiguous}
+use Rattle.mud_rules.specs.declared.matching.Match.TheVariants.{Ambiguous as MeansSeveral}
 use Rattle.mud_rules.specs.declared.verdict.Journey.{Journey}
 use Rattle.mud_rules.specs.declared.verdict.Journey.TheVariants.{Route, Meet}
 use Rattle.mud_rules.specs.declared.verdict.Query.{Query}
@@ -24,21 +25,42 @@ use Rattle.mud_rules.specs.Party.{IsParty}
 
 -- ---- a change and its refusals
 
--- the change, or the least refusal: the command's own, or that of the change
-abbrev pub outcome : State → Option Refusal → Change → Verdict
-outcome w own e = option_map_or Refused (lesser own (refusal w e)) (Changes e)
+-- all refusals, by rising number
+abbrev pub all_refusals : List Refusal
+all_refusals =
+    NotUnderstood ∷ NoSuch ∷ Ambiguous ∷ WrongKind ∷ NotHere ∷ Denied ∷ BadName ∷ NameTaken ∷ BadKey ∷ KeyNesting
+    ∷ BadCost ∷ RecursiveMove ∷ LockedExit ∷ LockedRoom ∷ LockedThing ∷ InUse ∷ WorldFull ∷ PartyBad ∷ []
+
+-- there is a refusal here, and it is f
+abbrev pub refuses : Option Refusal → Refusal → Bool
+refuses own f = option_map_or (λ g. nat_eq (number g) (number f)) own false
+
+-- a command's own test and the conditions of its change are one list: the line is refused by the first refusal, by
+-- rising number, that is the command's own or whose condition holds of the change; where none is, it is the change
+unfoldable pub outcome : State → Option Refusal → Change → Verdict
+outcome w own e = option_map_or Refused (find (λ f. refuses own f || fails w e f) all_refusals) (Changes e)
 
 -- the same for what player p does
 abbrev pub does : State → ℕ → Option Refusal → Deed → Verdict
 does w p own deed = outcome w own (record { actor = p; deed = deed })
 
+-- the same for what he does by a text that is read. Where it can't be read, the command's own refusal says so, and
+-- `blank` takes its place: whatever does, the verdict is the same (law `whatever_is_read`)
+abbrev pub does_read : {A : Type 0} → State → ℕ → Refusal → A → Option A → (A → Deed) → Verdict
+does_read w p own blank read deed = does w p (refused_if (is_none read) own) (deed (unwrap_or read blank))
+
 -- ---- what a line finds, or its refusal
 
--- the object that was found, or the refusal of a text that means none
-abbrev pub found : Result ℕ Match → Result ℕ Refusal
-found (Ok x) = Ok x
-found (Err Ambiguous) = Err Several
-found (Err other) = Err NoObject
+-- the object that was found; of several one has to be meant, and for none there is this refusal
+abbrev pub found : Refusal → Result ℕ Match → Result ℕ Refusal
+found none (Ok x) = Ok x
+found none (Err MeansSeveral) = Err Ambiguous
+found none (Err other) = Err none
+
+-- the object that was found, where it is of the kind that is wanted
+abbrev pub of_kind : (ℕ → Bool) → Result ℕ Refusal → Result ℕ Refusal
+of_kind wanted (Ok n) = if wanted n then Ok n else Err WrongKind
+of_kind wanted (Err f) = Err f
 
 -- two objects, where both were found; of two refusals the one of lower number
 abbrev pub both : Result ℕ Refusal → Result ℕ Refusal → Result (ℕ × ℕ) Refusal
@@ -56,37 +78,6 @@ on_found (Err f) meaning = Refused f
 abbrev pub shaped : Bool → Verdict → Verdict
 shaped fits v = if fits then v else Refused NotUnderstood
 
--- ---- what is done with a text that is read
-
--- p does what a text says; where it can't be read, the line is refused by what bars him already, or by its own
--- refusal
-abbrev pub does_read : {A : Type 0} → State → ℕ → Option Refusal → Refusal → Option A → (A → Deed) → Verdict
-does_read w p bar own (Some x) deed = does w p None (deed x)
-does_read w p bar own None deed = Refused (unwrap_or bar own)
-
--- what bars p whatever he does: he is no player of the world
-abbrev pub no_player : State → ℕ → Option Refusal
-no_player w p =
-    if not (exists w p) then Some NoObject
-    else if not (is_player w p) then Some WrongKind
-    else None
-
--- what bars p from digging there: he is no player, or an old room is none
-abbrev pub no_room : State → ℕ → Target → Option Refusal
-no_room w p (New names) = no_player w p
-no_room w p (Old room) =
-    if not (exists w p) || not (exists w room) then Some NoObject
-    else if not (is_player w p) || not (is_room w room) then Some WrongKind
-    else None
-
--- what bars p from a change of object x: he is no player, there is none, it is of the wrong kind, it is another's
-abbrev pub not_his : State → ℕ → ℕ → Bool → Option Refusal
-not_his w p x wrong_kind =
-    if not (exists w p) || not (exists w x) then Some NoObject
-    else if not (is_player w p) || wrong_kind then Some WrongKind
-    else if not (owns w p x) then Some Denied
-    else None
-
 -- ---- what is true of all that a line comes to
 
 -- the player is the actor; of a new player the actor is the next number
@@ -101,10 +92,9 @@ IsJourney w (Meet party) = All (λ p. IsTrue (is_player w p)) party × IsParty p
 
 -- what is true of every question
 abbrev pub IsQuestion : State → Query → Type 0
-IsQuestion w (query.View view) = Unit {0}
 IsQuestion w (query.Journey journey) = IsJourney w journey
 IsQuestion w (query.Proof journey) = IsJourney w journey
-IsQuestion w query.History = Unit {0}
+IsQuestion w other = Unit {0}
 
 -- a change that a line comes to is legal, and its actor is the one who typed the line; who sits down is a player of
 -- the world; of a question see above

@@ -1,16 +1,20 @@
 -- What is said of a line that is accepted or refused, as bytes.
-use Rattle.std.specs.Prelude.{ℕ, ◌+◌, nat_eq, List, [], ◌++◌, codes, decimal, Option, Some, None, unwrap_or, if◌then◌else◌}
+use Rattle.std.specs.Prelude.{ℕ, ◌+◌, nat_eq, List, [], ◌++◌, codes, decimal, Option, Some, None, unwrap_or}
+use Rattle.std.specs.Prelude.{if◌then◌else◌}
 use Rattle.std.specs.Option.{option_map_or}
-use Rattle.mud_key.specs.Tree.{Tree}
 use Rattle.mud_key.specs.Printed.{printed, by_text}
 use Rattle.mud_world.specs.declared.change.Change.{Change}
 use Rattle.mud_world.specs.declared.change.Deed.{Deed}
-use Rattle.mud_world.specs.declared.change.Deed.TheVariants.{Dig, Make, Lock, Unlock, Move, Walk, Cost, Player, Rename, Recycle, Say, Emote}
+use Rattle.mud_world.specs.declared.change.Deed.TheVariants.{Dig, Make, Lock, Unlock, Move, Walk, Cost, Player, Rename}
+use Rattle.mud_world.specs.declared.change.Deed.TheVariants.{Recycle, Say, Emote}
 use Rattle.mud_world.specs.declared.change.Target.{Target}
 use Rattle.mud_world.specs.declared.change.Target.TheVariants.{New, Old}
 use Rattle.mud_world.specs.declared.change.Doors.{Doors}
 use Rattle.mud_world.specs.declared.refusal.Refusal.{Refusal}
-use Rattle.mud_world.specs.declared.refusal.Refusal.TheVariants.{NotUnderstood, NoSuch, Ambiguous, WrongKind, NotHere, Denied, BadName, NameTaken, BadKey, KeyNesting, BadCost, RecursiveMove, LockedExit, LockedRoom, LockedThing, InUse, WorldFull, PartyBad}
+use Rattle.mud_world.specs.declared.refusal.Refusal.TheVariants.{NotUnderstood, NoSuch, Ambiguous, WrongKind, NotHere}
+use Rattle.mud_world.specs.declared.refusal.Refusal.TheVariants.{Denied, BadName, NameTaken, BadKey, KeyNesting}
+use Rattle.mud_world.specs.declared.refusal.Refusal.TheVariants.{BadCost, RecursiveMove, LockedExit, LockedRoom}
+use Rattle.mud_world.specs.declared.refusal.Refusal.TheVariants.{LockedThing, InUse, WorldFull, PartyBad}
 use Rattle.mud_world.specs.State.{State, place_of, is_number, is_thing, destination_of}
 
 -- ---- refusals
@@ -41,10 +45,6 @@ refusal_text PartyBad = codes "That party is not allowed."
 abbrev pub welcome_text : ℕ → List ℕ
 welcome_text player = codes "welcome #" ++ decimal player
 
--- KEY, as it is printed
-abbrev pub key_text : Tree ℕ → List ℕ
-key_text key = printed (by_text key)
-
 -- the exit n, and the exit back, if there is one
 abbrev pub exits_text : ℕ → Doors → List ℕ
 exits_text n doors =
@@ -71,7 +71,7 @@ abbrev pub deed_text : State → ℕ → Deed → List ℕ
 deed_text w actor (Dig target doors) = codes "dug " ++ dug_text w.next target doors
 deed_text w actor (Make names) = codes "made #" ++ decimal w.next
 deed_text w actor (Player name) = welcome_text actor
-deed_text w actor (Lock object key) = codes "locked #" ++ decimal object ++ codes " with " ++ key_text key
+deed_text w actor (Lock object key) = codes "locked #" ++ decimal object ++ codes " with " ++ printed (by_text key)
 deed_text w actor (Unlock object) = codes "unlocked #" ++ decimal object
 deed_text w actor (Move thing to) = move_text w actor thing to
 deed_text w actor (Walk exit) =

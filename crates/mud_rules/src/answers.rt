@@ -1,10 +1,10 @@
 //! What is shown of a world.
 
-ghost use Rattle.std.specs.Prelude.{◌≡◌, ◌++◌, not, codes, filter, IfOk, OnOk, string_bytes};
-ghost use Rattle.mud_world.specs.State.{is_number, key_of};
+ghost use Rattle.std.specs.Prelude.{◌≡◌, ◌++◌, [], Some, not, codes, filter, IfOk, OnOk, string_bytes};
 ghost use Rattle.std.specs.Option.{option_map_or};
-ghost use Rattle.mud_rules.specs.Replies.{key_text};
-ghost use Rattle.mud_rules.specs.Answers.{kind_text, look_text, room_text, inventory_text, key_of_text, show_text};
+ghost use Rattle.mud_key.specs.Printed.{printed, by_text};
+ghost use Rattle.mud_world.specs.State.{is_number, key_of, place_of};
+ghost use Rattle.mud_rules.specs.Answers.{kind_text, look_text, inventory_text, key_of_text, show_text};
 
 use crate::View;
 use crate::listing::{push_entry, push_listed, push_listed_under};
@@ -96,7 +96,8 @@ fn others_of(alloc: Global, numbers: &[u32], player: Option<u32>) -> Result<Vec<
 
 // The room that a player is in.
 fn room_text(alloc: Global, world: &World, player: u32) -> Result<String, AllocError>
-    ensures { IfOk result (λ text. string_bytes text ≡ room_text world.now player) }
+    ensures { IfOk result (λ text. string_bytes text
+        ≡ option_map_or (look_text world.now (Some player)) (place_of world.now player) []) }
 {
     match world.place(player) {
         Some(room) => look_text(alloc, world, Some(player), room),
@@ -134,7 +135,7 @@ fn push_key_of(
 ) -> Result<(), AllocError>
     ensures { OnOk result (string_bytes text.new
         ≡ string_bytes text.old
-        ++ option_map_or key_text (key_of world.now number) (codes "nothing")) }
+        ++ option_map_or (λ key. printed (by_text key)) (key_of world.now number) (codes "nothing")) }
 {
     let Some(record) = world.get(number) else {
         return text.push_str("nothing");

@@ -9,6 +9,7 @@ use crate::matching::number_in;
 use crate::outcome::{does, not_his, unread};
 use mud_world::{Deed, Refusal, World};
 
+#[tactic(auto, using(crate::proofs::Barred::cost_barred))]
 pub(crate) fn cost(world: &World, player: u32, exit: u32, text: &str) -> Verdict
     ensures decision { result ≡ cost world.now player exit text.now }
     ensures lawful { IsLawful world.now (Some player) result }

@@ -2,8 +2,8 @@
 
 ghost use Rattle.std.specs.Prelude.{◌≡◌, Some, IfOk};
 ghost use Rattle.mud_rules.specs.Outcome.{IsLawful};
-ghost use Rattle.mud_rules.specs.Commands.{doors_in, target_in, dig_room, dig_between, dig_exits};
 ghost use Rattle.mud_rules.specs.Shapes.{has_empty_side};
+ghost use Rattle.mud_rules.specs.Commands.{doors_in, target_in, dig_room, dig_between, dig_exits};
 
 use crate::Verdict;
 use crate::matching::object_number;
@@ -12,6 +12,7 @@ use crate::outcome::{does, no_player, no_room, unread};
 use mud_world::{Deed, Doors, Refusal, Target, World};
 use std::alloc::{AllocError, Global};
 
+#[tactic(auto, using(crate::proofs::Barred::room_barred))]
 pub(crate) fn dig_room(
     alloc: Global,
     world: &World,
@@ -78,6 +79,7 @@ pub(crate) fn dig_exits(
     Ok(dig_between(world, player, doors, target))
 }
 
+#[tactic(auto, using(crate::proofs::Barred::room_barred, crate::proofs::Barred::exits_barred))]
 fn dig_between(world: &World, player: u32, doors: Option<Doors>, target: Option<Target>) -> Verdict
     ensures decision { result ≡ dig_between world.now player doors target }
     ensures lawful { IsLawful world.now (Some player) result }

@@ -3,7 +3,7 @@
 ghost use Rattle.std.specs.Prelude.{◌≡◌, IfOk, string_bytes};
 ghost use Rattle.std.specs.Result.{result_map_both};
 ghost use Rattle.mud_words.specs.Line.{line_of};
-ghost use Rattle.mud_rules.specs.Shapes.{text_behind, object_named, object_behind, object_before, objects_round};
+ghost use Rattle.mud_rules.specs.Shapes.{all_of, text_behind, object_named, object_before, objects_round};
 
 use crate::matching::local_match;
 use crate::outcome::{both, found};
@@ -46,7 +46,8 @@ pub(crate) fn object_behind(
     player: u32,
     parsed: &Parsed,
 ) -> Result<Result<u32, Refusal>, AllocError>
-    ensures { IfOk result (λ object. object ≡ object_behind world.now player (line_of parsed.now)) }
+    ensures { IfOk result (λ object. object
+        ≡ object_named world.now player (all_of (line_of parsed.now))) }
 {
     let text = all_of(alloc, parsed)?;
     Ok(object_named(world, player, &text))

@@ -1,8 +1,10 @@
 //! What a player hears of the changes of others.
 
-ghost use Rattle.std.specs.Prelude.{◌≡◌, ◌++◌, Some, None, IfOk, codes, string_bytes, if◌then◌else◌};
-ghost use Rattle.std.specs.Option.{option_map};
-ghost use Rattle.mud_rules.specs.Hearing.{stands_in, beside, moved_line, arrival_line, walked_line, heard_deed, heard_line};
+ghost use Rattle.std.specs.Prelude.{◌≡◌, ◌++◌, Some, IfOk, codes, false, string_bytes};
+ghost use Rattle.std.specs.Option.{option_map, option_map_or};
+ghost use Rattle.mud_world.specs.State.{is_number, place_of, destination_of};
+ghost use Rattle.mud_world.specs.declared.change.Deed.TheVariants as deed;
+ghost use Rattle.mud_rules.specs.Hearing.{heard_in, moved_line, heard_deed, heard_line};
 ghost use Rattle.mud_rules.specs.Listing.{first_name};
 
 use crate::listing::first_name;
@@ -85,8 +87,7 @@ fn heard_say(
     text: &str,
 ) -> Result<Option<String>, AllocError>
     ensures { IfOk result (λ line. option_map string_bytes line
-        ≡ beside world.now player actor (first_name world.now actor ++ codes " says, \""
-        ++ text.now ++ codes "\"")) }
+        ≡ heard_deed world.now player actor (deed.Say text.now)) }
 {
     if together(world, actor, player) {
         let line = said(alloc, first_name(world, actor), " says, \"", text, "\"")?;
@@ -104,7 +105,7 @@ fn heard_emote(
     text: &str,
 ) -> Result<Option<String>, AllocError>
     ensures { IfOk result (λ line. option_map string_bytes line
-        ≡ beside world.now player actor (first_name world.now actor ++ codes " " ++ text.now)) }
+        ≡ heard_deed world.now player actor (deed.Emote text.now)) }
 {
     if together(world, actor, player) {
         let who = first_name(world, actor);
@@ -124,7 +125,7 @@ fn heard_move(
     to: u32,
 ) -> Result<Option<String>, AllocError>
     ensures { IfOk result (λ line. option_map string_bytes line
-        ≡ beside world.now player actor (moved_line world.now player actor thing to)) }
+        ≡ heard_deed world.now player actor (deed.Move thing to)) }
 {
     if together(world, actor, player) {
         let line = moved_line(alloc, world, player, actor, thing, to)?;
@@ -167,7 +168,7 @@ fn walked_line(
     exit: u32,
 ) -> Result<Option<String>, AllocError>
     ensures { IfOk result (λ line. option_map string_bytes line
-        ≡ walked_line world.now player actor exit) }
+        ≡ heard_deed world.now player actor (deed.Walk exit)) }
 {
     let who = first_name(world, actor);
     if together(world, actor, player) {
@@ -187,7 +188,7 @@ fn walked_line(
 }
 
 fn stands_in(world: &World, player: u32, room: Option<u32>) -> bool
-    ensures { result ≡ stands_in world.now player room }
+    ensures { result ≡ option_map_or (λ r. is_number r (place_of world.now player)) room false }
 {
     match room {
         Some(room) => world.is_in(player, room),
@@ -196,7 +197,7 @@ fn stands_in(world: &World, player: u32, room: Option<u32>) -> bool
 }
 
 fn arrival_line(alloc: Global, name: &str) -> Result<String, AllocError>
-    ensures { IfOk result (λ line. string_bytes line ≡ arrival_line name.now) }
+    ensures { IfOk result (λ line. string_bytes line ≡ name.now ++ codes " arrives.") }
 {
     format!(in alloc; "{name} arrives.")
 }
@@ -209,7 +210,7 @@ fn heard_arrival(
     name: &str,
 ) -> Result<Option<String>, AllocError>
     ensures { IfOk result (λ line. option_map string_bytes line
-        ≡ (if stands_in world.now player (Some 0) then Some (arrival_line name.now) else None)) }
+        ≡ heard_in world.now player (Some 0) (name.now ++ codes " arrives.")) }
 {
     if stands_in(world, player, Some(0)) {
         let line = arrival_line(alloc, name)?;

@@ -1,10 +1,13 @@
 //! Routes and meetings.
 
-ghost use Rattle.std.specs.Prelude.{◌≡◌, IfOk, IsTrue};
+ghost use Rattle.std.specs.Prelude.{◌≡◌, map, IfOk, IsTrue};
+ghost use Rattle.mud_key.specs.Parts.{parts_of};
 ghost use Rattle.mud_world.specs.State.{is_room};
+ghost use Rattle.mud_rules.specs.Matching.{room_match};
 ghost use Rattle.mud_rules.specs.Party.{all_distinct, is_party};
-ghost use Rattle.mud_rules.specs.Outcome.{IsJourney};
-ghost use Rattle.mud_rules.specs.Journeys.{room_meant, route, player_meant, players_meant, members, least_refusal, unfit, meeting, meet};
+ghost use Rattle.mud_rules.specs.Outcome.{found as found_one, of_kind, IsJourney};
+ghost use Rattle.mud_rules.specs.Journeys.{route, player_meant, members, meeting, meet};
+ghost use Rattle.mud_rules.specs.Steps.{least_refusal, unfit};
 
 use crate::matching::{player_match, room_match};
 use crate::outcome::found;
@@ -15,7 +18,8 @@ use std::alloc::{AllocError, Global};
 
 // The room that a text means.
 fn room_meant(world: &World, player: u32, text: &str) -> Result<u32, Refusal>
-    ensures decision { result ≡ room_meant world.now player text.now }
+    ensures decision { result
+        ≡ of_kind (is_room world.now) (found_one Refusal.NoSuch (room_match world.now player text.now)) }
     ensures room { IfOk result (λ room. IsTrue (is_room world.now room)) }
 {
     match found(room_match(world, player, text)) {
@@ -49,7 +53,8 @@ fn players_meant(
     player: u32,
     text: &str,
 ) -> Result<Vec<Result<u32, Refusal>>, AllocError>
-    ensures { IfOk result (λ found. found.items ≡ players_meant world.now player text.now) }
+    ensures { IfOk result (λ found. found.items
+        ≡ map (player_meant world.now player) (parts_of text.now)) }
 {
     let parts = parts(alloc, text)?;
     let mut found = Vec::new(alloc);

@@ -6,13 +6,13 @@ ghost use Rattle.mud_rules.specs.Outcome.{IsLawful};
 ghost use Rattle.mud_rules.specs.Commands.{near_named, key_meant, lock};
 
 use crate::Verdict;
-use crate::matching::{Match, local_match};
+use crate::matching::local_match;
 use crate::outcome::{does, not_his, unread};
 use mud_key::{Key, KeyFault, Miss, Namer, read, resolve};
 use mud_world::{Deed, Refusal, World};
 use std::alloc::{AllocError, Global};
 
-// Where the names of a key text are looked up: near a player.
+// Where the names of a key text are looked up: near a player. Why one means no object makes no difference to a line.
 #[derive(Clone, Copy)]
 struct Near<'a> {
     world: &'a World,
@@ -25,8 +25,7 @@ impl Namer for Near<'_> {
     fn name(&self, text: &str) -> Result<u32, Miss> {
         match local_match(self.world, self.player, text) {
             Ok(number) => existing(self.world, number),
-            Err(Match::Nothing | Match::NoSuch) => Err(Miss::NoSuch),
-            Err(Match::Ambiguous) => Err(Miss::Ambiguous),
+            Err(_) => Err(Miss::NoSuch),
         }
     }
 }
@@ -65,6 +64,7 @@ fn key_meant(
     }
 }
 
+#[tactic(auto, using(crate::proofs::Barred::key_barred))]
 pub(crate) fn lock(
     alloc: Global,
     world: &World,

@@ -1,24 +1,19 @@
 //! What is known of the definitions alone.
 
-ghost use Rattle.mud_rules.specs.Laws.{IsOneList, IsOneListOfMeetings, IsBarredWhateverIsRead, AreMade};
+ghost use Rattle.mud_rules.specs.Laws.{IsOneList, IsAlikeWhateverIsRead, AreMade};
 ghost use Rattle.std.specs.Prelude.{ℕ};
 ghost use Rattle.mud_world.specs.State.{State};
 
 /// A command's own tests and the conditions of its change are one list of refusals, tried by
-/// rising number.
+/// rising number: what it gives is the lesser of the command's own refusal and that of the change.
 pub fn one_list()
     ensures { IsOneList }
-{}
-
-/// The refusals of the parts of a meeting, and that of its party, are one list too.
-pub fn one_list_of_meetings()
-    ensures { IsOneListOfMeetings }
 {}
 
 /// Where a text of a line can't be read, the line is refused as it would be whatever the text were
 /// read as: by a lower condition of its change, or else for the text.
 pub fn whatever_is_read()
-    ensures { (w : State) (p : ℕ) → IsBarredWhateverIsRead w p }
+    ensures { (w : State) (p : ℕ) → IsAlikeWhateverIsRead w p }
 {}
 
 /// In a sound world a change that a line comes to is legal, and its names, keys and texts are such.

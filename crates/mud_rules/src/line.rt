@@ -9,9 +9,10 @@ use crate::matching::{Likeness, Match, sole_like};
 use crate::moving::walk;
 use crate::outcome::{asked_journey, asked_proof, shaped};
 use crate::rows::{
-    connect_line, create_line, dig_line, look_line, meet_line, pair_line, proof_line, route_line,
+    connect_line, create_line, dig_line, look_line, meet_line, object_line, pair_line, proof_line,
+    route_line,
 };
-use crate::shapes::{is_bare, whole_of};
+use crate::shapes::whole_of;
 use crate::talking::{emote, say};
 use crate::verb::Verb;
 use crate::{Query, Verdict, View};
@@ -25,10 +26,19 @@ use std::alloc::{AllocError, Global};
 pub fn is_question(parsed: &Parsed) -> bool
     ensures { result ≡ is_question (line_of parsed.now) }
 {
-    match Verb::named(&parsed.verb) {
-        Some(verb) => verb.asks(),
-        None => false,
-    }
+    let verb = parsed.verb.as_str();
+    verb.eq_ignore_ascii_case("look")
+        || verb.eq_ignore_ascii_case("l")
+        || verb.eq_ignore_ascii_case("inventory")
+        || verb.eq_ignore_ascii_case("inv")
+        || verb.eq_ignore_ascii_case("i")
+        || verb.eq_ignore_ascii_case("@key")
+        || verb.eq_ignore_ascii_case("route")
+        || verb.eq_ignore_ascii_case("meet")
+        || verb.eq_ignore_ascii_case("proof")
+        || verb.eq_ignore_ascii_case("@version")
+        || verb.eq_ignore_ascii_case("@history")
+        || verb.eq_ignore_ascii_case("quit")
 }
 
 /// What a line asks for in a world: a change that is legal there, a question, a player to become,
@@ -38,6 +48,7 @@ pub fn is_question(parsed: &Parsed) -> bool
 ///
 /// A given player is to be one of that world; the line of any other number is decided too, by the
 /// same table. The one error is want of memory.
+#[tactic(auto, unfolding(crate::specs::Table::decision))]
 pub fn decide(
     alloc: Global,
     world: &World,
@@ -67,10 +78,10 @@ fn command(
     ensures lawful { IfOk result (IsLawful world.now (Some player)) }
 {
     match verb {
-        Verb::Inventory => Ok(shaped(is_bare(parsed), Query::View(View::Inventory))),
-        Verb::Version => Ok(shaped(is_bare(parsed), Query::View(View::Version))),
-        Verb::History => Ok(shaped(is_bare(parsed), Query::History)),
-        Verb::Quit => Ok(shaped(is_bare(parsed), Query::View(View::Quit))),
+        Verb::Inventory => Ok(shaped(parsed.args.is_empty(), Query::View(View::Inventory))),
+        Verb::Version => Ok(shaped(parsed.args.is_empty(), Query::View(View::Version))),
+        Verb::History => Ok(shaped(parsed.args.is_empty(), Query::History)),
+        Verb::Quit => Ok(shaped(parsed.args.is_empty(), Query::View(View::Quit))),
         Verb::Look => look_line(alloc, world, player, parsed),
         Verb::Connect => connect_line(alloc, world, parsed),
         Verb::Say => say(alloc, world, player, &parsed.rest),
@@ -80,7 +91,11 @@ fn command(
         Verb::Route => Ok(asked_journey(route_line(world, player, parsed))),
         Verb::Meet => Ok(asked_journey(meet_line(alloc, world, player, parsed)?)),
         Verb::Proof => Ok(asked_proof(proof_line(alloc, world, player, parsed)?)),
-        _ => pair_line(alloc, world, player, parsed, verb),
+        Verb::Put | Verb::Give | Verb::Lock | Verb::Cost | Verb::Rename => pair_line(
+            alloc, world, player, parsed, verb,
+        ),
+        Verb::Go | Verb::Take | Verb::Drop => object_line(alloc, world, player, parsed, verb),
+        Verb::Unlock | Verb::Key | Verb::Recycle => object_line(alloc, world, player, parsed, verb),
     }
 }
 
@@ -113,7 +128,7 @@ fn guest(
 {
     match verb {
         Some(Verb::Connect) => connect_line(alloc, world, parsed),
-        Some(Verb::Quit) => Ok(shaped(is_bare(parsed), Query::View(View::Quit))),
+        Some(Verb::Quit) => Ok(shaped(parsed.args.is_empty(), Query::View(View::Quit))),
         _ => Ok(Verdict::Refused(Refusal::NotUnderstood)),
     }
 }

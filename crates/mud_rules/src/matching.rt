@@ -1,9 +1,11 @@
 //! Which object a text means.
 
-ghost use Rattle.std.specs.Prelude.{◌≡◌, ◌&&◌, ℕ, ◌+◌, ◌<◌, ◌≤◌, filter, length, map, string_bytes};
-ghost use Rattle.std.specs.List.{list_any};
-ghost use Rattle.mud_rules.specs.Matching.{is_like, is_named, sole_like, joined, digits_value, number_in, object_number, existing, candidates, direct_match, local_match, is_sort, all_of_sort, room_match, player_match};
-ghost use Rattle.mud_world.specs.State.{place_of};
+ghost use Rattle.std.specs.Prelude.{◌≡◌, ◌&&◌, ◌<◌, filter, length, map, string_bytes, Result, if◌then◌else◌};
+ghost use Rattle.std.specs.List.{list_any, range_with_len};
+ghost use Rattle.mud_rules.specs.Matching.{is_like, is_named, sole_like, digits_value, number_in, object_number};
+ghost use Rattle.mud_rules.specs.Matching.{candidates, local_match, room_match, player_match};
+ghost use Rattle.mud_rules.specs.Steps.{direct_match, together, is_sort};
+ghost use Rattle.mud_world.specs.State.{exists, place_of};
 
 use mud_world::World;
 
@@ -101,7 +103,7 @@ fn direct_match(world: &World, player: u32, text: &str) -> Option<Result<u32, Ma
 }
 
 fn existing(world: &World, number: u32) -> Result<u32, Match>
-    ensures { result ≡ existing world.now number }
+    ensures { result ≡ (if exists world.now number then Result.Ok number else Result.Err Match.NoSuch) }
 {
     if world.exists(number) {
         Ok(number)
@@ -127,7 +129,7 @@ fn sole_near(
     };
     let lying = sole_like(world, world.contents(room), text, likeness);
     let leaving = sole_like(world, world.leaving(room), text, likeness);
-    joined(own, joined(lying, leaving))
+    together(own, together(lying, leaving))
 }
 
 pub(crate) fn sole_like(
@@ -141,19 +143,20 @@ pub(crate) fn sole_like(
     let mut found = Err(Match::NoSuch);
     for number in numbers {
         if is_named(world, *number, text, likeness) {
-            found = joined(found, Ok(*number));
+            found = together(found, Ok(*number));
         }
     }
     found
 }
 
 fn sole_of_sort(world: &World, sort: Sort, text: &str, likeness: Likeness) -> Result<u32, Match>
-    ensures { result ≡ sole_like likeness world.now text.now (all_of_sort sort world.now) }
+    ensures { result ≡ sole_like likeness world.now text.now
+        (filter (is_sort sort world.now) (range_with_len 0 world.now.next)) }
 {
     let mut found = Err(Match::NoSuch);
     for number in 0..world.next_number() {
         if is_candidate(world, sort, number, text, likeness) {
-            found = joined(found, Ok(number));
+            found = together(found, Ok(number));
         }
     }
     found
@@ -176,8 +179,8 @@ fn is_sort(world: &World, sort: Sort, number: u32) -> bool
 }
 
 // What two lists of candidates give together.
-fn joined(first: Result<u32, Match>, second: Result<u32, Match>) -> Result<u32, Match>
-    ensures { result ≡ joined first second }
+fn together(first: Result<u32, Match>, second: Result<u32, Match>) -> Result<u32, Match>
+    ensures { result ≡ together first second }
 {
     match (first, second) {
         (Err(Match::NoSuch), _) => second,

@@ -1,21 +1,15 @@
 //! Moving things, and walking.
 
-ghost use Rattle.std.specs.Prelude.{◌≡◌, Some};
+ghost use Rattle.std.specs.Prelude.{◌≡◌, Some, None};
 ghost use Rattle.mud_world.specs.Conditions.{shares_room};
-ghost use Rattle.mud_rules.specs.Outcome.{IsLawful};
-ghost use Rattle.mud_rules.specs.Commands.{room_of, drop_down, put, give, walk};
+ghost use Rattle.mud_world.specs.declared.change.Deed.TheVariants as deed;
+ghost use Rattle.mud_rules.specs.Outcome.{found as found_one, on_found, does, IsLawful};
+ghost use Rattle.mud_rules.specs.Commands.{drop_down, put, give};
 
 use crate::Verdict;
 use crate::matching::Match;
 use crate::outcome::{does, kind_then_here};
 use mud_world::{Deed, Refusal, World, refused_if};
-
-// The room that a player stands in.
-fn room_of(world: &World, player: u32) -> u32
-    ensures { result ≡ room_of world.now player }
-{
-    world.place(player).unwrap_or(0)
-}
 
 // Whether two players stand in one room.
 pub(crate) fn together(world: &World, one: u32, other: u32) -> bool
@@ -32,7 +26,7 @@ pub(crate) fn drop_down(world: &World, player: u32, thing: u32) -> Verdict
     ensures lawful { IsLawful world.now (Some player) result }
 {
     let own = refused_if(!world.holds(player, thing), Refusal::NotHere);
-    let to = room_of(world, player);
+    let to = world.place(player).unwrap_or(0);
     does(world, player, own, Deed::Move { thing, to })
 }
 
@@ -57,7 +51,8 @@ pub(crate) fn give(world: &World, player: u32, objects: (u32, u32)) -> Verdict
 
 // A walk by the exit that was found, where the line is no command.
 pub(crate) fn walk(world: &World, player: u32, found: Result<u32, Match>) -> Verdict
-    ensures decision { result ≡ walk world.now player found }
+    ensures decision { result
+        ≡ on_found (found_one Refusal.NotUnderstood found) (λ x. does world.now player None (deed.Walk x)) }
     ensures lawful { IsLawful world.now (Some player) result }
 {
     match found {

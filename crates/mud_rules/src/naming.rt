@@ -33,6 +33,7 @@ fn name_in(alloc: Global, text: &str) -> Result<Option<Name>, AllocError>
     }
 }
 
+#[tactic(auto, using(crate::proofs::Barred::names_barred))]
 pub(crate) fn create(
     alloc: Global,
     world: &World,
@@ -48,6 +49,7 @@ pub(crate) fn create(
     }
 }
 
+#[tactic(auto, using(crate::proofs::Barred::renaming_barred))]
 pub(crate) fn rename(
     alloc: Global,
     world: &World,

@@ -4,7 +4,9 @@ ghost use Rattle.std.specs.Prelude.{◌≡◌, ℕ, nat_lt, false, Option, Some,
 ghost use Rattle.mud_world.specs.State.{State};
 ghost use Rattle.mud_world.specs.Legal.{refusal, is_arrival};
 ghost use Rattle.mud_world.specs.Refusals.{number, refused_if};
-ghost use Rattle.mud_rules.specs.Outcome.{IsActor, IsLawful, IsQuestion, IsJourney, outcome, does, found, on_found, both, shaped, no_player, no_room, not_his};
+ghost use Rattle.mud_rules.specs.Outcome.{outcome, does, found, on_found, both, shaped};
+ghost use Rattle.mud_rules.specs.Outcome.{IsActor, IsLawful, IsQuestion, IsJourney};
+ghost use Rattle.mud_rules.specs.Steps.{no_player, no_room, not_his};
 ghost use Rattle.mud_rules.specs.Commands.{kind_then_here};
 
 use crate::matching::Match;
@@ -60,7 +62,7 @@ pub(crate) fn kind_then_here(kind: bool, here: bool) -> Option<Refusal>
 
 // The object that was found, or the refusal of a text that means none.
 pub(crate) fn found(answer: Result<u32, Match>) -> Result<u32, Refusal>
-    ensures { result ≡ found answer }
+    ensures { result ≡ found Refusal.NoSuch answer }
 {
     match answer {
         Ok(object) => Ok(object),

@@ -1,8 +1,10 @@
 //! What is said of a line that is accepted or refused.
 
 ghost use Rattle.std.specs.Prelude.{◌≡◌, ◌++◌, ◌<◌, ◌^◌, IfOk, codes, decimal, unwrap_or, string_bytes};
+ghost use Rattle.mud_key.specs.Printed.{printed, by_text};
 ghost use Rattle.mud_world.specs.State.{destination_of};
-ghost use Rattle.mud_rules.specs.Replies.{refusal_text, welcome_text, key_text, exits_text, dug_text, move_text, deed_text, reply_text};
+ghost use Rattle.mud_rules.specs.Replies.{refusal_text, welcome_text, exits_text, dug_text, move_text, deed_text};
+ghost use Rattle.mud_rules.specs.Replies.{reply_text};
 
 use mud_key::{Key, print};
 use mud_world::{Change, Deed, Doors, Refusal, Target, World};
@@ -145,7 +147,7 @@ fn make_text(alloc: Global, world: &World) -> Result<String, AllocError>
 
 fn lock_text(alloc: Global, object: u32, key: &Key) -> Result<String, AllocError>
     ensures { IfOk result (λ text. string_bytes text
-        ≡ codes "locked #" ++ decimal object ++ codes " with " ++ key_text key.now) }
+        ≡ codes "locked #" ++ decimal object ++ codes " with " ++ printed (by_text key.now)) }
 {
     let mut text = format!(in alloc; "locked #{object} with ")?;
     text.push_str(&print(alloc, key)?)?;

@@ -6,7 +6,8 @@ ghost use Rattle.mud_words.specs.Parse.{parsed as parsed_line};
 ghost use Rattle.mud_rules.specs.Outcome.{IsLawful, IsJourney, on_found};
 ghost use Rattle.mud_rules.specs.Commands.{dig_room};
 ghost use Rattle.mud_rules.specs.Shapes.{text_behind};
-ghost use Rattle.mud_rules.specs.Table.{command, pair_line, object_line, of_object, connect_line, look_line, dig_line, route_line, meet_line, journey_line};
+ghost use Rattle.mud_rules.specs.Table.{command, connect_line, journey_of, verb_named};
+ghost use Rattle.mud_rules.specs.Steps.{pair_line, object_line, of_object};
 
 use crate::building::cost;
 use crate::digging::{dig_exits, dig_room, has_empty_side};
@@ -16,7 +17,7 @@ use crate::keys::lock;
 use crate::moving::{drop_down, give, put};
 use crate::naming::{connect, create, rename};
 use crate::outcome::{does, on_found};
-use crate::shapes::{all_of, first_of, is_aimed, is_bare, is_pair, looked_text};
+use crate::shapes::{all_of, first_of, is_aimed, is_pair, joined, looked_at};
 use crate::verb::Verb;
 use crate::{Journey, Query, Verdict, View};
 use mud_words::Prep::{In, Is, To, With};
@@ -46,13 +47,14 @@ pub(crate) fn look_line(
     player: u32,
     parsed: &Parsed,
 ) -> Result<Verdict, AllocError>
-    ensures decision { IfOk result (λ v. v ≡ look_line world.now player (line_of parsed.now)) }
+    ensures decision { IfOk result (λ v. v
+        ≡ command world.now player (line_of parsed.now) Verb.Look) }
     ensures lawful { IfOk result (IsLawful world.now (Some player)) }
 {
-    if is_bare(parsed) {
+    if parsed.args.is_empty() {
         return Ok(Verdict::Ask(Query::View(View::Look)));
     }
-    let text = looked_text(alloc, parsed)?;
+    let text = joined(alloc, looked_at(&parsed.args))?;
     let found = object_named(world, player, &text);
     on_found!(found, x => Ok(Verdict::Ask(Query::View(View::LookAt(x)))))
 }
@@ -63,7 +65,8 @@ fn dig_room_line(
     player: u32,
     parsed: &Parsed,
 ) -> Result<Verdict, AllocError>
-    ensures decision { IfOk result (λ v. v ≡ on_found (text_behind (line_of parsed.now)) (dig_room world.now player)) }
+    ensures decision { IfOk result (λ v. v
+        ≡ on_found (text_behind (line_of parsed.now)) (dig_room world.now player)) }
     ensures lawful { IfOk result (IsLawful world.now (Some player)) }
 {
     on_found!(text_behind(alloc, parsed)?, text => dig_room(alloc, world, player, &text))
@@ -75,7 +78,8 @@ pub(crate) fn dig_line(
     player: u32,
     parsed: &Parsed,
 ) -> Result<Verdict, AllocError>
-    ensures decision { IfOk result (λ v. v ≡ dig_line world.now player (line_of parsed.now)) }
+    ensures decision { IfOk result (λ v. v
+        ≡ command world.now player (line_of parsed.now) Verb.Dig) }
     ensures lawful { IfOk result (IsLawful world.now (Some player)) }
 {
     if parsed.prep.is_none() {
@@ -128,7 +132,7 @@ pub(crate) fn pair_line(
 }
 
 // A verb with an object behind it.
-fn object_line(
+pub(crate) fn object_line(
     alloc: Global,
     world: &World,
     player: u32,
@@ -166,7 +170,7 @@ fn of_object(world: &World, player: u32, verb: Verb, object: u32) -> Verdict
 }
 
 pub(crate) fn route_line(world: &World, player: u32, parsed: &Parsed) -> Result<Journey, Refusal>
-    ensures decision { result ≡ route_line world.now player (line_of parsed.now) }
+    ensures decision { result ≡ journey_of world.now player (line_of parsed.now) (Some Verb.Route) }
     ensures lawful { IfOk result (IsJourney world.now) }
 {
     if is_aimed(To, parsed) {
@@ -183,7 +187,7 @@ pub(crate) fn meet_line(
     parsed: &Parsed,
 ) -> Result<Result<Journey, Refusal>, AllocError>
     ensures decision { IfOk result (λ journey. journey
-        ≡ meet_line world.now player (line_of parsed.now)) }
+        ≡ journey_of world.now player (line_of parsed.now) (Some Verb.Meet)) }
     ensures lawful { IfOk result (λ journey. IfOk journey (IsJourney world.now)) }
 {
     let text = all_of(alloc, parsed)?;
@@ -202,7 +206,7 @@ fn journey_line(
     parsed: &Parsed,
 ) -> Result<Result<Journey, Refusal>, AllocError>
     ensures decision { IfOk result (λ journey. journey
-        ≡ journey_line world.now player (line_of parsed.now)) }
+        ≡ journey_of world.now player (line_of parsed.now) (verb_named (line_of parsed.now).verb)) }
     ensures lawful { IfOk result (λ journey. IfOk journey (IsJourney world.now)) }
 {
     match Verb::named(&parsed.verb) {
@@ -220,7 +224,8 @@ pub(crate) fn proof_line(
     parsed: &Parsed,
 ) -> Result<Result<Journey, Refusal>, AllocError>
     ensures decision { IfOk result (λ journey. journey
-        ≡ journey_line world.now player (parsed_line (line_of parsed.now).rest)) }
+        ≡ journey_of world.now player (parsed_line (line_of parsed.now).rest)
+        (verb_named (parsed_line (line_of parsed.now).rest).verb)) }
     ensures lawful { IfOk result (λ journey. IfOk journey (IsJourney world.now)) }
 {
     let line = parse(alloc, &parsed.rest)?;

@@ -1,21 +1,21 @@
 //! Talking.
 
-ghost use Rattle.std.specs.Prelude.{◌≡◌, Some, IfOk};
-ghost use Rattle.mud_rules.specs.Outcome.{IsLawful};
-ghost use Rattle.mud_rules.specs.Commands.{talk};
+ghost use Rattle.std.specs.Prelude.{◌≡◌, Some, None, IfOk};
+ghost use Rattle.mud_rules.specs.Outcome.{IsLawful, does};
 
 use crate::Verdict;
 use crate::outcome::{does, no_player, unread};
 use mud_world::{Deed, Refusal, Speech, World};
 use std::alloc::{AllocError, Global};
 
+#[tactic(auto, using(crate::proofs::Barred::saying_barred))]
 pub(crate) fn say(
     alloc: Global,
     world: &World,
     player: u32,
     text: &str,
 ) -> Result<Verdict, AllocError>
-    ensures decision { IfOk result (λ v. v ≡ talk world.now player Deed.Say text.now) }
+    ensures decision { IfOk result (λ v. v ≡ does world.now player None (Deed.Say text.now)) }
     ensures lawful { IfOk result (IsLawful world.now (Some player)) }
 {
     match Speech::read(alloc, text)? {
@@ -24,13 +24,14 @@ pub(crate) fn say(
     }
 }
 
+#[tactic(auto, using(crate::proofs::Barred::emoting_barred))]
 pub(crate) fn emote(
     alloc: Global,
     world: &World,
     player: u32,
     text: &str,
 ) -> Result<Verdict, AllocError>
-    ensures decision { IfOk result (λ v. v ≡ talk world.now player Deed.Emote text.now) }
+    ensures decision { IfOk result (λ v. v ≡ does world.now player None (Deed.Emote text.now)) }
     ensures lawful { IfOk result (IsLawful world.now (Some player)) }
 {
     match Speech::read(alloc, text)? {

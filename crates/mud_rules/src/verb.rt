@@ -1,7 +1,8 @@
 //! The verbs of the table of commands.
 
 ghost use Rattle.std.specs.Prelude.{◌≡◌};
-ghost use Rattle.mud_rules.specs.Table.{is_called, verb_named, asks};
+ghost use Rattle.mud_rules.specs.Table.{verb_named};
+ghost use Rattle.mud_rules.specs.Steps.{is_called};
 
 /// A verb of the table.
 #[derive(Clone, Copy)]
@@ -92,17 +93,6 @@ impl Verb {
             Verb::Version => text.eq_ignore_ascii_case("@version"),
             Verb::History => text.eq_ignore_ascii_case("@history"),
             Verb::Quit => text.eq_ignore_ascii_case("quit"),
-        }
-    }
-
-    /// Whether it is the verb of a question.
-    pub(crate) fn asks(self) -> bool
-        ensures { result ≡ asks self }
-    {
-        match self {
-            Verb::Look | Verb::Inventory | Verb::Key | Verb::Version | Verb::Quit => true,
-            Verb::Route | Verb::Meet | Verb::Proof | Verb::History => true,
-            _ => false,
         }
     }
 

@@ -4,4 +4,5 @@ use Rattle.mud_rules.specs.Journeys.{player_meant}
 use Rattle.mud_rules.proofs.journeys.players_meant.Given as goal
 
 abbrev pub invariant-loop-part : goal.invariant-loop-part
-invariant-loop-part l = l.found.items ≡ map (player_meant l.world l.player) (map string_bytes (take l.part-index l.part-items))
+invariant-loop-part l =
+    l.found.items ≡ map (player_meant l.world l.player) (map string_bytes (take l.part-index l.part-items))

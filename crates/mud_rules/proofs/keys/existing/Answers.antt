@@ -3,4 +3,5 @@ use Rattle.mud_rules.proofs.Bounds.{number_of_object}
 use Rattle.mud_rules.proofs.keys.existing.Goals as goal
 
 pub returns-then-exists-clause-number : goal.returns-then-exists-clause-number
-returns-then-exists-clause-number c = number_of_object c.args.world.now c.args.number c.next_number-next.ensures.sound (sym c.if-exists.ensures)
+returns-then-exists-clause-number c =
+    number_of_object c.args.world.now c.args.number c.next_number-next.ensures.sound (sym c.if-exists.ensures)

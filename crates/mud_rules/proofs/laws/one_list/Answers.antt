@@ -1,54 +1,6 @@
-use Rattle.std.proofs.Common.{◌≡◌, ℕ, Bool, false, cond, List, [], ◌∷◌, ◌++◌, Some, refl, sym, ◌∙◌, ap}
-use Rattle.std.specs.Prelude.{find}
-use Rattle.std.specs.Option.{option_map_or}
-use Rattle.mud_world.specs.declared.change.Change.{Change}
-use Rattle.mud_world.specs.declared.change.Deed.{Deed}
-use Rattle.mud_world.specs.declared.change.Deed.TheVariants.{Dig, Make, Lock, Unlock, Move, Walk, Cost, Player, Rename, Recycle, Say, Emote}
-use Rattle.mud_world.specs.declared.refusal.Refusal.{Refusal}
-use Rattle.mud_world.specs.declared.refusal.Refusal.TheVariants.{NotUnderstood, NoSuch, Ambiguous, WrongKind, NotHere, Denied, BadName, NameTaken, BadKey, KeyNesting, BadCost, RecursiveMove, LockedExit, LockedRoom, LockedThing, InUse, WorldFull, PartyBad}
-use Rattle.mud_world.specs.Refusals.{lesser}
-use Rattle.mud_world.specs.State.{State}
-use Rattle.mud_world.specs.Legal.{fails, refusal, refusals}
-use Rattle.mud_rules.specs.declared.verdict.Verdict.TheVariants.{Change as Changes, Refused}
-use Rattle.mud_rules.specs.Laws.{all_refusals}
-use Rattle.mud_rules.proofs.Least.{lesser_first, find-append_miss}
+use Rattle.std.proofs.Common.{sym}
+use Rattle.mud_rules.proofs.Ordered.{outcome_is}
 use Rattle.mud_rules.proofs.laws.one_list.Goals as goal
 
--- three refusals are of lines alone
-of_lines : (w : State) (p : ℕ) (deed : Deed) → let e : Change = record { actor = p; deed = deed } in
-    (fails w e NotUnderstood ≡ false) × ((fails w e Ambiguous ≡ false) × (fails w e PartyBad ≡ false))
-of_lines w p (Dig target doors) = (refl, (refl, refl))
-of_lines w p (Make names) = (refl, (refl, refl))
-of_lines w p (Lock object key) = (refl, (refl, refl))
-of_lines w p (Unlock object) = (refl, (refl, refl))
-of_lines w p (Move thing to) = (refl, (refl, refl))
-of_lines w p (Walk exit) = (refl, (refl, refl))
-of_lines w p (Cost exit cost) = (refl, (refl, refl))
-of_lines w p (Player name) = (refl, (refl, refl))
-of_lines w p (Rename object names) = (refl, (refl, refl))
-of_lines w p (Recycle object) = (refl, (refl, refl))
-of_lines w p (Say text) = (refl, (refl, refl))
-of_lines w p (Emote text) = (refl, (refl, refl))
-
-abbrev changes_alone : List Refusal
-changes_alone =
-    WrongKind ∷ NotHere ∷ Denied ∷ BadName ∷ NameTaken ∷ BadKey ∷ KeyNesting ∷ BadCost ∷ RecursiveMove
-    ∷ LockedExit ∷ LockedRoom ∷ LockedThing ∷ InUse ∷ WorldFull ∷ []
-
--- so they may stand in the list
-all_or_some : (p : Refusal → Bool) → p NotUnderstood ≡ false → p Ambiguous ≡ false → p PartyBad ≡ false → find p refusals ≡ find p all_refusals
-all_or_some p one three eighteen =
-    sym (ap (λ b. cond b (Some NotUnderstood) (find p (NoSuch ∷ Ambiguous ∷ changes_alone ++ PartyBad ∷ []))) one
-    ∙ ap (λ b. cond (p NoSuch) (Some NoSuch) (cond b (Some Ambiguous) (find p (changes_alone ++ PartyBad ∷ [])))) three
-    ∙ ap (λ r. cond (p NoSuch) (Some NoSuch) r) (find-append_miss p changes_alone PartyBad eighteen))
-
-first_of_all : (w : State) (e : Change) → refusal w e ≡ find (fails w e) all_refusals
-unfolding refusal
-first_of_all w e =
-    let none = of_lines w e.actor e.deed in
-    all_or_some (fails w e) none.0 none.1.0 none.1.1
-
 pub returns : goal.returns
-returns c = λ w own e.
-    ap (λ r. option_map_or Refused (lesser own r) (Changes e)) (first_of_all w e)
-    ∙ ap (λ r. option_map_or Refused r (Changes e)) (lesser_first own (fails w e))
+returns c = λ w own e. sym (outcome_is w own e)

@@ -1,128 +1,13 @@
-use Rattle.std.proofs.Common.{◌≡◌, ℕ, Bool, true, false, List, [], ◌∷◌, ◌++◌, Option, Some, None, refl, ◌∙◌, ap}
-use Rattle.std.specs.Prelude.{find, not, ◌||◌, unwrap_or, if◌then◌else◌}
-use Rattle.std.specs.Option.{option_map_or}
-use Rattle.mud_world.specs.declared.change.Change.{Change}
-use Rattle.mud_world.specs.declared.change.Deed.{Deed}
-use Rattle.mud_world.specs.declared.change.Deed.TheVariants.{Dig, Make, Lock, Cost, Rename, Say, Emote}
-use Rattle.mud_world.specs.declared.change.Target.{Target}
-use Rattle.mud_world.specs.declared.change.Target.TheVariants.{New, Old}
-use Rattle.mud_world.specs.declared.change.Doors.{Doors}
-use Rattle.mud_world.specs.declared.refusal.Refusal.{Refusal}
-use Rattle.mud_world.specs.declared.refusal.Refusal.TheVariants.{NoSuch, WrongKind, NotHere, Denied, BadName, NameTaken, BadKey, KeyNesting, BadCost, RecursiveMove, LockedExit, LockedRoom, LockedThing, InUse, WorldFull}
-use Rattle.mud_world.specs.Refusals.{lesser}
-use Rattle.mud_world.specs.State.{State, exists, is_room, is_exit, is_player}
-use Rattle.mud_world.specs.Conditions.{owns}
-use Rattle.mud_world.specs.Legal.{fails, refusal}
-use Rattle.mud_rules.specs.declared.verdict.Verdict.TheVariants.{Change as Changes, Refused}
-use Rattle.mud_rules.specs.Outcome.{no_player, no_room}
-use Rattle.mud_rules.specs.Laws.{IsBarredAlike}
-use Rattle.mud_rules.proofs.Least.{Agree, lesser-agree}
+use Rattle.std.proofs.Common.{◌∙◌, sym}
+use Rattle.mud_rules.proofs.Barred.{names_barred, renaming_barred, room_barred, exits_barred, key_barred, cost_barred}
 use Rattle.mud_rules.proofs.laws.whatever_is_read.Goals as goal
-
-abbrev before_name : List Refusal
-before_name = NoSuch ∷ WrongKind ∷ NotHere ∷ Denied ∷ []
-
-abbrev before_key : List Refusal
-before_key = NoSuch ∷ WrongKind ∷ NotHere ∷ Denied ∷ BadName ∷ NameTaken ∷ []
-
-abbrev before_cost : List Refusal
-before_cost = NoSuch ∷ WrongKind ∷ NotHere ∷ Denied ∷ BadName ∷ NameTaken ∷ BadKey ∷ KeyNesting ∷ []
-
-abbrev done : ℕ → Deed → Change
-done p deed = record { actor = p; deed = deed }
-
--- what is tested before the texts
-abbrev tests : Bool → Bool → Bool → Refusal → Bool
-tests none wrong denied NoSuch = none
-tests none wrong denied WrongKind = wrong
-tests none wrong denied Denied = denied
-tests none wrong denied f = false
-
-abbrev bar : Bool → Bool → Bool → Option Refusal
-bar none wrong denied = if none then Some NoSuch else if wrong then Some WrongKind else if denied then Some Denied else None
-
-or_false : (b : Bool) → (b || false) ≡ b
-or_false true = refl
-or_false false = refl
-
-abbrev behind_name : List Refusal
-behind_name = BadName ∷ NameTaken ∷ BadKey ∷ KeyNesting ∷ BadCost ∷ RecursiveMove ∷ LockedExit ∷ LockedRoom ∷ LockedThing ∷ InUse ∷ WorldFull ∷ []
-
-abbrev behind_key : List Refusal
-behind_key = BadKey ∷ KeyNesting ∷ BadCost ∷ RecursiveMove ∷ LockedExit ∷ LockedRoom ∷ LockedThing ∷ InUse ∷ WorldFull ∷ []
-
-abbrev behind_cost : List Refusal
-behind_cost = BadCost ∷ RecursiveMove ∷ LockedExit ∷ LockedRoom ∷ LockedThing ∷ InUse ∷ WorldFull ∷ []
-
--- the first of the tests is what bars
-name_least : (e : Change) (none wrong denied : Bool) → option_map_or Refused (lesser (Some BadName) (find (tests none wrong denied) (before_name ++ behind_name))) (Changes e) ≡ Refused (unwrap_or (bar none wrong denied) BadName)
-name_least e true wrong denied = refl
-name_least e false true denied = refl
-name_least e false false true = refl
-name_least e false false false = refl
-
-key_least : (e : Change) (none wrong denied : Bool) → option_map_or Refused (lesser (Some BadKey) (find (tests none wrong denied) (before_key ++ behind_key))) (Changes e) ≡ Refused (unwrap_or (bar none wrong denied) BadKey)
-key_least e true wrong denied = refl
-key_least e false true denied = refl
-key_least e false false true = refl
-key_least e false false false = refl
-
-cost_least : (e : Change) (none wrong denied : Bool) → option_map_or Refused (lesser (Some BadCost) (find (tests none wrong denied) (before_cost ++ behind_cost))) (Changes e) ≡ Refused (unwrap_or (bar none wrong denied) BadCost)
-cost_least e true wrong denied = refl
-cost_least e false true denied = refl
-cost_least e false false true = refl
-cost_least e false false false = refl
-
-by_name : (w : State) (p : ℕ) (deed : Deed) (none wrong denied : Bool) → Agree (fails w (done p deed)) (tests none wrong denied) before_name → IsBarredAlike w p (bar none wrong denied) BadName deed
-unfolding refusal
-by_name w p deed none wrong denied same =
-    ap (λ r. option_map_or Refused r (Changes (done p deed)))
-    (lesser-agree BadName (fails w (done p deed)) (tests none wrong denied) before_name behind_name same refl)
-    ∙ name_least (done p deed) none wrong denied
-
-by_key : (w : State) (p : ℕ) (deed : Deed) (none wrong denied : Bool) → Agree (fails w (done p deed)) (tests none wrong denied) before_key → IsBarredAlike w p (bar none wrong denied) BadKey deed
-unfolding refusal
-by_key w p deed none wrong denied same =
-    ap (λ r. option_map_or Refused r (Changes (done p deed)))
-    (lesser-agree BadKey (fails w (done p deed)) (tests none wrong denied) before_key behind_key same refl)
-    ∙ key_least (done p deed) none wrong denied
-
-by_cost : (w : State) (p : ℕ) (deed : Deed) (none wrong denied : Bool) → Agree (fails w (done p deed)) (tests none wrong denied) before_cost → IsBarredAlike w p (bar none wrong denied) BadCost deed
-unfolding refusal
-by_cost w p deed none wrong denied same =
-    ap (λ r. option_map_or Refused r (Changes (done p deed)))
-    (lesser-agree BadCost (fails w (done p deed)) (tests none wrong denied) before_cost behind_cost same refl)
-    ∙ cost_least (done p deed) none wrong denied
-
--- a deed that only a player of the world is asked for
-abbrev IsFree : State → ℕ → Deed → Type 0
-IsFree w p deed = Agree (fails w (done p deed)) (tests (not (exists w p) || false) (not (is_player w p) || false) false) before_name
-
-by_player : (w : State) (p : ℕ) (deed : Deed) → IsFree w p deed → IsBarredAlike w p (no_player w p) BadName deed
-by_player w p deed free =
-    by_name w p deed (not (exists w p) || false) (not (is_player w p) || false) false free
-    ∙ ap (λ b. Refused (unwrap_or (bar b (not (is_player w p) || false) false) BadName)) (or_false (not (exists w p)))
-    ∙ ap (λ b. Refused (unwrap_or (bar (not (exists w p)) b false) BadName)) (or_false (not (is_player w p)))
-
-exits_alike : (w : State) (p : ℕ) (target : Target) (doors : Doors) → IsBarredAlike w p (no_room w p target) BadName (Dig target (Some doors))
-exits_alike w p (New names) doors = by_player w p (Dig (New names) (Some doors)) (refl, (refl, (refl, (refl, tt))))
-exits_alike w p (Old room) doors =
-    by_name w p (Dig (Old room) (Some doors)) (not (exists w p) || not (exists w room)) (not (is_player w p) || not (is_room w room)) false
-    (refl, (ap (λ b. not (is_player w p) || b) (or_false (not (is_room w room))), (refl, (refl, tt))))
 
 pub returns : goal.returns
 returns c = λ w p. record {
-  names = λ names. by_player w p (Make names) (refl, (refl, (refl, (refl, tt))));
-  renaming = λ x names.
-      by_name w p (Rename x names) (not (exists w p) || not (exists w x)) (not (is_player w p) || false) (not (owns w p x)) (refl, (refl, (refl, (refl, tt))));
-  room = λ names. by_player w p (Dig (New names) None) (refl, (refl, (refl, (refl, tt))));
-  exits = exits_alike w p;
-  saying = λ text. by_player w p (Say text) (refl, (refl, (refl, (refl, tt))));
-  emoting = λ text. by_player w p (Emote text) (refl, (refl, (refl, (refl, tt))));
-  key = λ x key.
-      by_key w p (Lock x key) (not (exists w p) || not (exists w x)) (not (is_player w p) || is_player w x) (not (owns w p x))
-      (refl, (refl, (refl, (refl, (refl, (refl, tt))))));
-  cost = λ x n.
-      by_cost w p (Cost x n) (not (exists w p) || not (exists w x)) (not (is_player w p) || not (is_exit w x)) (not (owns w p x))
-      (refl, (refl, (refl, (refl, (refl, (refl, (refl, (refl, tt))))))));
+  names = λ x y. sym (names_barred w p x) ∙ names_barred w p y;
+  renaming = λ o x y. sym (renaming_barred w p o x) ∙ renaming_barred w p o y;
+  room = λ doors x y. sym (room_barred w p x doors) ∙ room_barred w p y doors;
+  exits = λ target x y. sym (exits_barred w p target x) ∙ exits_barred w p target y;
+  key = λ o x y. sym (key_barred w p o x) ∙ key_barred w p o y;
+  cost = λ o x y. sym (cost_barred w p o x) ∙ cost_barred w p o y;
 }

@@ -9,14 +9,18 @@ loop-name-init c = list_any-map (is_like c.args.likeness c.args.text.now) string
 
 pub returns-then-is_like : goal.returns-then-is_like
 returns-then-is_like c =
-    sym (any_here (λ name. is_like c.args.likeness c.args.text.now (string_bytes name)) c.args.names.now c.loop-name.name-index c.name-item.result c.loop-name-test.true
+    sym (any_here
+    (λ name. is_like c.args.likeness c.args.text.now
+    (string_bytes name)) c.args.names.now c.loop-name.name-index c.name-item.result c.loop-name-test.true
     (ap (λ name. is_like c.args.likeness c.args.text.now (string_bytes name)) (sym c.name-item.is)
     ∙ ap (is_like c.args.likeness c.args.text.now) (sym c.deref.ensures) ∙ sym c.if-is_like.ensures))
     ∙ c.loop-name.invariant
 
 pub loop-name-preserved : goal.loop-name-preserved
 loop-name-preserved c =
-    sym (any_past (λ name. is_like c.args.likeness c.args.text.now (string_bytes name)) c.args.names.now c.loop-name.name-index c.name-item.result c.loop-name-test.true
+    sym (any_past
+    (λ name. is_like c.args.likeness c.args.text.now
+    (string_bytes name)) c.args.names.now c.loop-name.name-index c.name-item.result c.loop-name-test.true
     (ap (λ name. is_like c.args.likeness c.args.text.now (string_bytes name)) (sym c.name-item.is)
     ∙ ap (is_like c.args.likeness c.args.text.now) (sym c.deref.ensures) ∙ sym c.if-is_like.ensures))
     ∙ c.loop-name.invariant

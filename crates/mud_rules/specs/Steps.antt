@@ -1,0 +1,152 @@
+-- Steps of the code. Cited by private clauses alone: what they come to, Matching, Outcome, Journeys and Table say.
+use Rattle.std.specs.Prelude.{ℕ, Bool, not, ◌||◌, List, [], ◌∷◌, codes, Option, Some, None}
+use Rattle.std.specs.Prelude.{ok_or, Result, Ok, Err, if◌then◌else◌}
+use Rattle.std.specs.Option.{option_map_or}
+use Rattle.std.specs.List.{list_any}
+use Rattle.std.specs.Str.{str_eq_ignore_ascii_case}
+use Rattle.mud_words.specs.declared.Prep.TheVariants.{With, To, In, Is}
+use Rattle.mud_words.specs.Line.{Line}
+use Rattle.mud_world.specs.declared.change.Deed.TheVariants.{Move, Walk, Unlock, Recycle}
+use Rattle.mud_world.specs.declared.change.Target.{Target}
+use Rattle.mud_world.specs.declared.change.Target.TheVariants.{New, Old}
+use Rattle.mud_world.specs.declared.refusal.Refusal.{Refusal}
+use Rattle.mud_world.specs.declared.refusal.Refusal.TheVariants.{NotUnderstood, NoSuch as NoObject, WrongKind, Denied}
+use Rattle.mud_world.specs.declared.refusal.Refusal.TheVariants.{PartyBad}
+use Rattle.mud_world.specs.Refusals.{lesser, refused_if}
+use Rattle.mud_world.specs.State.{State, exists, is_room, is_player, place_of}
+use Rattle.mud_world.specs.Conditions.{owns}
+use Rattle.mud_rules.specs.declared.matching.Match.{Match}
+use Rattle.mud_rules.specs.declared.matching.Match.TheVariants.{Nothing, NoSuch, Ambiguous}
+use Rattle.mud_rules.specs.declared.matching.Sort.{Sort}
+use Rattle.mud_rules.specs.declared.matching.Sort.TheVariants.{Rooms, Players}
+use Rattle.mud_rules.specs.declared.verb.Verb.{Verb}
+use Rattle.mud_rules.specs.declared.verb.Verb.TheVariants as verb
+use Rattle.mud_rules.specs.declared.verdict.View.TheVariants.{KeyOf}
+use Rattle.mud_rules.specs.declared.verdict.Query.TheVariants as query
+use Rattle.mud_rules.specs.declared.verdict.Verdict.{Verdict}
+use Rattle.mud_rules.specs.declared.verdict.Verdict.TheVariants.{Ask, Refused}
+use Rattle.mud_rules.specs.Matching.{is_empty, object_number}
+use Rattle.mud_rules.specs.Party.{is_party}
+use Rattle.mud_rules.specs.Outcome.{does, on_found}
+use Rattle.mud_rules.specs.Commands.{drop_down, put, give, lock, cost, rename}
+use Rattle.mud_rules.specs.Shapes.{all_of, object_named, object_before, objects_round}
+
+-- ---- matching
+
+-- what a text means whatever the candidates are
+abbrev pub direct_match : State → ℕ → List ℕ → Option (Result ℕ Match)
+direct_match w player text =
+    if is_empty text then Some (Err Nothing)
+    else option_map_or (λ n. Some (if exists w n then Ok n else Err NoSuch)) (object_number text) (
+    if str_eq_ignore_ascii_case text (codes "me") then Some (Ok player)
+    else if str_eq_ignore_ascii_case text (codes "here") then Some (ok_or (place_of w player) NoSuch)
+    else None)
+
+-- what two lists of candidates give together
+abbrev pub together : Result ℕ Match → Result ℕ Match → Result ℕ Match
+together (Err NoSuch) second = second
+together first (Err NoSuch) = first
+together first second = Err Ambiguous
+
+abbrev pub is_sort : Sort → State → ℕ → Bool
+is_sort Rooms w n = is_room w n
+is_sort Players w n = is_player w n
+
+-- ---- what bars a player from a change, before a text of it is looked at
+
+-- he is no player of the world
+abbrev pub no_player : State → ℕ → Option Refusal
+no_player w p =
+    if not (exists w p) then Some NoObject
+    else if not (is_player w p) then Some WrongKind
+    else None
+
+-- he is no player, or an old room is none
+abbrev pub no_room : State → ℕ → Target → Option Refusal
+no_room w p (New names) = no_player w p
+no_room w p (Old room) =
+    if not (exists w p) || not (exists w room) then Some NoObject
+    else if not (is_player w p) || not (is_room w room) then Some WrongKind
+    else None
+
+-- he is no player, there is no object x, it is of the wrong kind, it is another's
+abbrev pub not_his : State → ℕ → ℕ → Bool → Option Refusal
+not_his w p x wrong_kind =
+    if not (exists w p) || not (exists w x) then Some NoObject
+    else if not (is_player w p) || wrong_kind then Some WrongKind
+    else if not (owns w p x) then Some Denied
+    else None
+
+-- ---- meetings
+
+-- the refusal of those who are no party
+abbrev pub unfit : List ℕ → Option Refusal
+unfit party = refused_if (not (is_party party)) PartyBad
+
+-- of all parts the least refusal
+abbrev pub least_refusal : List (Result ℕ Refusal) → Option Refusal
+least_refusal [] = None
+least_refusal (Ok n ∷ parts) = least_refusal parts
+least_refusal (Err f ∷ parts) = lesser (Some f) (least_refusal parts)
+
+-- ---- verbs
+
+abbrev pub words_of : Verb → List (List ℕ)
+words_of verb.Connect = codes "connect" ∷ []
+words_of verb.Look = codes "look" ∷ codes "l" ∷ []
+words_of verb.Inventory = codes "inventory" ∷ codes "inv" ∷ codes "i" ∷ []
+words_of verb.Go = codes "go" ∷ []
+words_of verb.Take = codes "take" ∷ codes "get" ∷ []
+words_of verb.Drop = codes "drop" ∷ []
+words_of verb.Put = codes "put" ∷ []
+words_of verb.Give = codes "give" ∷ []
+words_of verb.Say = codes "say" ∷ []
+words_of verb.Emote = codes "emote" ∷ []
+words_of verb.Dig = codes "@dig" ∷ []
+words_of verb.Create = codes "@create" ∷ []
+words_of verb.Lock = codes "@lock" ∷ []
+words_of verb.Unlock = codes "@unlock" ∷ []
+words_of verb.Key = codes "@key" ∷ []
+words_of verb.Cost = codes "@cost" ∷ []
+words_of verb.Rename = codes "@rename" ∷ []
+words_of verb.Recycle = codes "@recycle" ∷ []
+words_of verb.Route = codes "route" ∷ []
+words_of verb.Meet = codes "meet" ∷ []
+words_of verb.Proof = codes "proof" ∷ []
+words_of verb.Version = codes "@version" ∷ []
+words_of verb.History = codes "@history" ∷ []
+words_of verb.Quit = codes "quit" ∷ []
+
+abbrev pub each_verb : List Verb
+each_verb =
+    verb.Connect ∷ verb.Look ∷ verb.Inventory ∷ verb.Go ∷ verb.Take ∷ verb.Drop ∷ verb.Put ∷ verb.Give ∷ verb.Say
+    ∷ verb.Emote ∷ verb.Dig ∷ verb.Create ∷ verb.Lock ∷ verb.Unlock ∷ verb.Key ∷ verb.Cost ∷ verb.Rename
+    ∷ verb.Recycle ∷ verb.Route ∷ verb.Meet ∷ verb.Proof ∷ verb.Version ∷ verb.History ∷ verb.Quit ∷ []
+
+abbrev pub is_called : List ℕ → Verb → Bool
+is_called text verb = list_any (str_eq_ignore_ascii_case text) (words_of verb)
+
+-- ---- the table
+
+-- what is done with the object behind a verb
+abbrev pub of_object : State → ℕ → Verb → ℕ → Verdict
+of_object w p verb.Key x = Ask (query.View (KeyOf x))
+of_object w p verb.Go x = does w p None (Walk x)
+of_object w p verb.Take x = does w p None (Move x p)
+of_object w p verb.Drop x = drop_down w p x
+of_object w p verb.Unlock x = does w p None (Unlock x)
+of_object w p verb.Recycle x = does w p None (Recycle x)
+of_object w p other x = Refused NotUnderstood
+
+-- a verb with an object behind it
+abbrev pub object_line : State → ℕ → Line → Verb → Verdict
+object_line w p l v = on_found (object_named w p (all_of l)) (of_object w p v)
+
+-- a verb with two objects, or an object and a text, round a preposition; any other verb has an object behind it
+abbrev pub pair_line : State → ℕ → Line → Verb → Verdict
+pair_line w p l verb.Put = on_found (objects_round In w p l) (put w p)
+pair_line w p l verb.Give = on_found (objects_round To w p l) (give w p)
+pair_line w p l verb.Lock = on_found (object_before With w p l) (λ x. lock w p x l.indirect)
+pair_line w p l verb.Cost = on_found (object_before Is w p l) (λ x. cost w p x l.indirect)
+pair_line w p l verb.Rename = on_found (object_before To w p l) (λ x. rename w p x l.indirect)
+pair_line w p l other = object_line w p l other

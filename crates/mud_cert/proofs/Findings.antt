@@ -1,5 +1,6 @@
 -- Of two texts one thing at most is found.
-use Rattle.std.proofs.Common.{◌≡◌, ℕ, ◌<◌, ◌≤◌, List, [], ◌∷◌, length, take, Option, Some, None, inl, inr, refl, sym, ◌∙◌, ap, subst, arith}
+use Rattle.std.proofs.Common.{◌≡◌, ℕ, ◌<◌, ◌≤◌, List, [], ◌∷◌, length, take, Option, Some, None, inl, inr, refl, sym}
+use Rattle.std.proofs.Common.{◌∙◌, ap, subst, arith}
 use Rattle.mud_world.specs.State.{State}
 use Rattle.mud_world.specs.Sound.{IsSound}
 use Rattle.mud_world.specs.Legal.{refusal}
@@ -15,13 +16,15 @@ use Rattle.mud_chron.specs.Entry.{Accepted as Entry}
 use Rattle.mud_chron.specs.Laws.{SpellsOne, HasOneFault, FaultsAreNoTexts}
 use Rattle.mud_chron.specs.Replay.{changes_of, IsFirstIllegal}
 use Rattle.mud_cert.specs.declared.finding.Finding.TheVariants.{Accepted, NoVersion, Doubted, BadHistory, BadProof}
-use Rattle.mud_cert.specs.Certificate.{Certificate}
+use Rattle.mud_cert.specs.declared.finding.Finding.{Finding}
+use Rattle.mud_cert.specs.Certificate.{Certificate, IsCertificate}
 use Rattle.mud_cert.specs.Doubts.{IsFirstDoubt}
 use Rattle.mud_cert.specs.Valid.{IsValid}
 use Rattle.mud_cert.proofs.First.{one-first, doubted-invalid}
 use Rattle.mud_cert.specs.Faults.{IsBadLine}
-use Rattle.mud_cert.specs.TextLaws.{OneCertificate, OneBadLine, NoBadLine}
-use Rattle.mud_cert.specs.Finding.{without_returns, world_at, IsHistory, IsUnfit, AreTexts, HasBadProof}
+use Rattle.mud_cert.specs.Text.{cert_text}
+use Rattle.mud_cert.specs.TextLaws.{OneCertificate, OneBadLine}
+use Rattle.mud_cert.specs.Finding.{without_returns, world_at, IsHistory, IsUnfit, IsTried, IsFinding}
 use Rattle.mud_cert.specs.FindingLaws.{FindsOne}
 use Rattle.mud_cert.proofs.Legality.{none-illegal, first-once}
 
@@ -32,41 +35,32 @@ pub record TextLaws : Type 0 where
   pub no_fault : FaultsAreNoTexts
   pub one_certificate : OneCertificate
   pub one_bad_line : OneBadLine
-  pub no_bad_line : NoBadLine
 
 -- what is unfit is no history
-not-unfit : TextLaws → (text : List ℕ) (fault : ChronFault) (entries : List Entry) → IsUnfit text fault → IsHistory text entries → ⊥
+not-unfit : TextLaws → (text : List ℕ) (fault : ChronFault) (entries : List Entry)
+    → IsUnfit text fault → IsHistory text entries → ⊥
 not-unfit laws text fault entries (inl has) is = laws.no_fault text fault entries has is.spells
-not-unfit laws text fault entries (inr (n, _, bad)) is =
-    let same = laws.one_history text bad.entries entries bad.spells is.spells in
-    none-illegal (changes_of entries) n is.legal (subst (λ es. IsFirstIllegal (changes_of es) n) same bad.illegal)
+not-unfit laws text fault entries (inr (n, _, (others, spells, illegal))) is =
+    let same = laws.one_history text others entries spells is.spells in
+    none-illegal (changes_of entries) n is.legal (subst (λ es. IsFirstIllegal (changes_of es) n) same illegal)
 
 -- a history's text has one fault
-one-unfit : TextLaws → (text : List ℕ) (fault other : ChronFault) → IsUnfit text fault → IsUnfit text other → fault ≡ other
+one-unfit : TextLaws → (text : List ℕ) (fault other : ChronFault) → IsUnfit text fault
+    → IsUnfit text other → fault ≡ other
 one-unfit laws text fault other (inl has) (inl owns) = laws.one_fault text fault other has owns
-one-unfit laws text fault other (inl has) (inr (n, _, bad)) = absurd (laws.no_fault text fault bad.entries has bad.spells)
-one-unfit laws text fault other (inr (m, _, bad)) (inl owns) = absurd (laws.no_fault text other bad.entries owns bad.spells)
-one-unfit laws text fault other (inr (m, e, bad)) (inr (n, f, ill)) =
-    let same = laws.one_history text bad.entries ill.entries bad.spells ill.spells in
-    let first = subst (λ es. IsFirstIllegal (changes_of es) m) same bad.illegal in
-    e ∙ ap BadChange (first-once (changes_of ill.entries) m n first ill.illegal) ∙ sym f
-
--- a text with a bad line is no certificate's
-not-bad : TextLaws → (history proof : List ℕ) (n : ℕ) (entries : List Entry) (c : Certificate) → HasBadProof history proof n → AreTexts history proof entries c → ⊥
-not-bad laws history proof n entries c bad texts =
-    laws.no_bad_line c n texts.certificate (subst (λ text. IsBadLine text n) texts.proof_is bad.bad)
+one-unfit laws text fault other (inl has) (inr (n, _, (entries, spells, _))) =
+    absurd (laws.no_fault text fault entries has spells)
+one-unfit laws text fault other (inr (m, _, (entries, spells, _))) (inl owns) =
+    absurd (laws.no_fault text other entries owns spells)
+one-unfit laws text fault other (inr (m, e, (entries, spells, bad))) (inr (n, f, (others, spelled, ill))) =
+    let same = laws.one_history text entries others spells spelled in
+    let first = subst (λ es. IsFirstIllegal (changes_of es) m) same bad in
+    e ∙ ap BadChange (first-once (changes_of others) m n first ill) ∙ sym f
 
 -- the entries and the certificate of two texts
 record AreSame (entries others : List Entry) (c d : Certificate) : Type 0 where
   pub entries_same : entries ≡ others
   pub cert_same : c ≡ d
-
-one-texts : TextLaws → (history proof : List ℕ) (entries others : List Entry) (c d : Certificate)
-    → AreTexts history proof entries c → AreTexts history proof others d → AreSame entries others c d
-one-texts laws history proof entries others c d is are = record {
-  entries_same = laws.one_history (without_returns history) entries others is.history_is.spells are.history_is.spells;
-  cert_same = laws.one_certificate c d is.certificate are.certificate (sym is.proof_is ∙ are.proof_is);
-}
 
 -- a version above the entries is not among them
 not-above : (entries others : List Entry) (c d : Certificate) (version : ℕ) → AreSame entries others c d
@@ -88,55 +82,96 @@ from-sound w (e ∷ es) sound = from-sound (stepped w e) es (step-sound w e (ref
 at-sound : (entries : List Entry) (version : ℕ) → IsSound (world_at entries version)
 at-sound entries version = from-sound opening_state (changes_of (take version entries)) opening-sound
 
--- what is first of the same certificate in the same world
-moved : (entries others : List Entry) (c d : Certificate) (P : State → Certificate → Type 0) → AreSame entries others c d
+-- what is so of a certificate in its world is so of the same one in the same world
+moved : (entries others : List Entry) (c d : Certificate)
+    (P : State → Certificate → Type 0) → AreSame entries others c d
     → P (world_at others d.version) d → P (world_at entries c.version) c
 moved entries others c d P same p =
     subst (λ (es : List Entry). P (world_at es c.version) c) (sym same.entries_same)
     (subst (λ (x : Certificate). P (world_at others x.version) x) (sym same.cert_same) p)
 
+-- of a certificate behind these entries one thing is found
+one-tried : (entries others : List Entry) (c d : Certificate) (finding other : Finding)
+    → AreSame entries others c d → IsCertificate c
+    → IsTried entries c finding → IsTried others d other → finding ≡ other
+one-tried entries others c d (NoVersion v) (NoVersion u) same is a b =
+    ap NoVersion (a.0 ∙ ap (λ (x : Certificate). x.version) same.cert_same ∙ sym b.0)
+one-tried entries others c d (NoVersion v) (Doubted e) same is a b =
+    absurd (not-above entries others c d v same a.0 a.1 b.0)
+one-tried entries others c d (NoVersion v) Accepted same is a b =
+    absurd (not-above entries others c d v same a.0 a.1 b.0)
+one-tried entries others c d (Doubted f) (NoVersion u) same is a b =
+    absurd (not-above others entries d c u (back same) b.0 b.1 a.0)
+  where
+    back : AreSame entries others c d → AreSame others entries d c
+    back same = record { entries_same = sym same.entries_same; cert_same = sym same.cert_same }
+one-tried entries others c d (Doubted f) (Doubted e) same is a b =
+    let first : IsFirstDoubt (world_at entries c.version) c e =
+    moved entries others c d (λ w x. IsFirstDoubt w x e) same b.1 in
+    ap Doubted (one-first (world_at entries c.version) (at-sound entries c.version) c is f e a.1 first)
+one-tried entries others c d (Doubted f) Accepted same is a b =
+    let valid = moved entries others c d IsValid same b.1 in
+    absurd (doubted-invalid (world_at entries c.version) (at-sound entries c.version) c is f a.1 valid)
+one-tried entries others c d Accepted (NoVersion u) same is a b =
+    absurd (not-above others entries d c u (back same) b.0 b.1 a.0)
+  where
+    back : AreSame entries others c d → AreSame others entries d c
+    back same = record { entries_same = sym same.entries_same; cert_same = sym same.cert_same }
+one-tried entries others c d Accepted (Doubted e) same is a b =
+    let first : IsFirstDoubt (world_at entries c.version) c e =
+    moved entries others c d (λ w x. IsFirstDoubt w x e) same b.1 in
+    absurd (doubted-invalid (world_at entries c.version) (at-sound entries c.version) c is e first a.1)
+one-tried entries others c d Accepted Accepted same is a b = refl
+one-tried entries others c d (BadHistory f) other same is a b = absurd a
+one-tried entries others c d (BadProof n) other same is a b = absurd a
+one-tried entries others c d (NoVersion v) (BadHistory f) same is a b = absurd b
+one-tried entries others c d (NoVersion v) (BadProof n) same is a b = absurd b
+one-tried entries others c d (Doubted e) (BadHistory f) same is a b = absurd b
+one-tried entries others c d (Doubted e) (BadProof n) same is a b = absurd b
+one-tried entries others c d Accepted (BadHistory f) same is a b = absurd b
+one-tried entries others c d Accepted (BadProof n) same is a b = absurd b
+
+-- what is read behind a history: a bad line, or a certificate of which this is found
+data Reading (entries : List Entry) (proof : List ℕ) (finding : Finding) : Type 0 where
+  Bad : (n : ℕ) → IsBadLine proof n → finding ≡ BadProof n → Reading entries proof finding
+  Read : (c : Certificate) → IsCertificate c → proof ≡ cert_text c → IsTried entries c finding
+      → Reading entries proof finding
+
+-- what is found of two texts: an unfit history, or a history and what is read behind it
+data Sorted (history proof : List ℕ) (finding : Finding) : Type 0 where
+  Unfit : (f : ChronFault) → IsUnfit (without_returns history) f → finding ≡ BadHistory f → Sorted history proof finding
+  Fit : (entries : List Entry) → IsHistory (without_returns history) entries
+      → Reading entries (without_returns proof) finding → Sorted history proof finding
+
+sorted : (history proof : List ℕ) (finding : Finding) → IsFinding history proof finding → Sorted history proof finding
+sorted history proof (BadHistory f) is = Unfit f is refl
+sorted history proof (BadProof n) (entries, spelled, bad) = Fit entries spelled (Bad n bad refl)
+sorted history proof (NoVersion v) (entries, spelled, (c, is, text, tried)) = Fit entries spelled (Read c is text tried)
+sorted history proof (Doubted d) (entries, spelled, (c, is, text, tried)) = Fit entries spelled (Read c is text tried)
+sorted history proof Accepted (entries, spelled, (c, is, text, tried)) = Fit entries spelled (Read c is text tried)
+
+one-read : TextLaws → (entries others : List Entry) (proof : List ℕ) (finding other : Finding) → entries ≡ others
+    → Reading entries proof finding → Reading others proof other → finding ≡ other
+one-read laws entries others proof finding other same (Bad n bad is) (Bad m worse also) =
+    is ∙ ap BadProof (laws.one_bad_line proof n m bad worse) ∙ sym also
+one-read laws entries others proof finding other same (Bad n bad is) (Read c cert text tried) =
+    absurd (bad.1 c cert text)
+one-read laws entries others proof finding other same (Read c cert text tried) (Bad n bad is) =
+    absurd (bad.1 c cert text)
+one-read laws entries others proof finding other same (Read c cert text tried) (Read d certs texts tries) =
+    let one : c ≡ d = laws.one_certificate c d cert certs (sym text ∙ texts) in
+    one-tried entries others c d finding other (record { entries_same = same; cert_same = one }) cert tried tries
+
 pub finds-one : TextLaws → FindsOne
-finds-one laws history proof (BadHistory f) (BadHistory g) a b = ap BadHistory (one-unfit laws (without_returns history) f g a b)
-finds-one laws history proof (BadHistory f) (BadProof n) a b = absurd (not-unfit laws (without_returns history) f b.entries a b.history_is)
-finds-one laws history proof (BadHistory f) (NoVersion v) a b = absurd (not-unfit laws (without_returns history) f b.entries a b.texts.history_is)
-finds-one laws history proof (BadHistory f) (Doubted d) a b = absurd (not-unfit laws (without_returns history) f b.entries a b.texts.history_is)
-finds-one laws history proof (BadHistory f) Accepted a b = absurd (not-unfit laws (without_returns history) f b.entries a b.texts.history_is)
-finds-one laws history proof (BadProof n) (BadHistory f) a b = absurd (not-unfit laws (without_returns history) f a.entries b a.history_is)
-finds-one laws history proof (BadProof n) (BadProof m) a b = ap BadProof (laws.one_bad_line (without_returns proof) n m a.bad b.bad)
-finds-one laws history proof (BadProof n) (NoVersion v) a b = absurd (not-bad laws history proof n b.entries b.cert a b.texts)
-finds-one laws history proof (BadProof n) (Doubted d) a b = absurd (not-bad laws history proof n b.entries b.cert a b.texts)
-finds-one laws history proof (BadProof n) Accepted a b = absurd (not-bad laws history proof n b.entries b.cert a b.texts)
-finds-one laws history proof (NoVersion v) (BadHistory f) a b = absurd (not-unfit laws (without_returns history) f a.entries b a.texts.history_is)
-finds-one laws history proof (NoVersion v) (BadProof n) a b = absurd (not-bad laws history proof n a.entries a.cert b a.texts)
-finds-one laws history proof (NoVersion v) (NoVersion u) a b =
-    let same = one-texts laws history proof a.entries b.entries a.cert b.cert a.texts b.texts in
-    ap NoVersion (a.version_is ∙ ap (λ (x : Certificate). x.version) same.cert_same ∙ sym b.version_is)
-finds-one laws history proof (NoVersion v) (Doubted d) a b =
-    let same = one-texts laws history proof a.entries b.entries a.cert b.cert a.texts b.texts in
-    absurd (not-above a.entries b.entries a.cert b.cert v same a.version_is a.above b.reached)
-finds-one laws history proof (NoVersion v) Accepted a b =
-    let same = one-texts laws history proof a.entries b.entries a.cert b.cert a.texts b.texts in
-    absurd (not-above a.entries b.entries a.cert b.cert v same a.version_is a.above b.reached)
-finds-one laws history proof (Doubted d) (BadHistory f) a b = absurd (not-unfit laws (without_returns history) f a.entries b a.texts.history_is)
-finds-one laws history proof (Doubted d) (BadProof n) a b = absurd (not-bad laws history proof n a.entries a.cert b a.texts)
-finds-one laws history proof (Doubted d) (NoVersion v) a b =
-    let same = one-texts laws history proof b.entries a.entries b.cert a.cert b.texts a.texts in
-    absurd (not-above b.entries a.entries b.cert a.cert v same b.version_is b.above a.reached)
-finds-one laws history proof (Doubted d) (Doubted e) a b =
-    let same = one-texts laws history proof a.entries b.entries a.cert b.cert a.texts b.texts in
-    let first : IsFirstDoubt (world_at a.entries a.cert.version) a.cert e = moved a.entries b.entries a.cert b.cert (λ w c. IsFirstDoubt w c e) same b.first in
-    ap Doubted (one-first (world_at a.entries a.cert.version) (at-sound a.entries a.cert.version) a.cert a.texts.certificate d e a.first first)
-finds-one laws history proof (Doubted d) Accepted a b =
-    let same = one-texts laws history proof a.entries b.entries a.cert b.cert a.texts b.texts in
-    let valid = moved a.entries b.entries a.cert b.cert IsValid same b.valid in
-    absurd (doubted-invalid (world_at a.entries a.cert.version) (at-sound a.entries a.cert.version) a.cert a.texts.certificate d a.first valid)
-finds-one laws history proof Accepted (BadHistory f) a b = absurd (not-unfit laws (without_returns history) f a.entries b a.texts.history_is)
-finds-one laws history proof Accepted (BadProof n) a b = absurd (not-bad laws history proof n a.entries a.cert b a.texts)
-finds-one laws history proof Accepted (NoVersion v) a b =
-    let same = one-texts laws history proof b.entries a.entries b.cert a.cert b.texts a.texts in
-    absurd (not-above b.entries a.entries b.cert a.cert v same b.version_is b.above a.reached)
-finds-one laws history proof Accepted (Doubted d) a b =
-    let same = one-texts laws history proof b.entries a.entries b.cert a.cert b.texts a.texts in
-    let valid = moved b.entries a.entries b.cert a.cert IsValid same a.valid in
-    absurd (doubted-invalid (world_at b.entries b.cert.version) (at-sound b.entries b.cert.version) b.cert b.texts.certificate d b.first valid)
-finds-one laws history proof Accepted Accepted a b = refl
+finds-one laws history proof finding other a b = go (sorted history proof finding a) (sorted history proof other b)
+  where
+    go : Sorted history proof finding → Sorted history proof other → finding ≡ other
+    go (Unfit f bad is) (Unfit g worse also) =
+        is ∙ ap BadHistory (one-unfit laws (without_returns history) f g bad worse) ∙ sym also
+    go (Unfit f bad is) (Fit entries spelled read) =
+        absurd (not-unfit laws (without_returns history) f entries bad spelled)
+    go (Fit entries spelled read) (Unfit f bad is) =
+        absurd (not-unfit laws (without_returns history) f entries bad spelled)
+    go (Fit entries spelled read) (Fit others also reads) =
+        one-read laws entries others (without_returns proof) finding other
+        (laws.one_history (without_returns history) entries others spelled.spells also.spells) read reads

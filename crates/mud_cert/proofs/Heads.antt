@@ -1,5 +1,6 @@
 -- The laws of the first lines, of a member's first line, and of conclusions.
-use Rattle.std.proofs.Common.{◌≡◌, ℕ, true, false, List, ◌++◌, Option, None, Some, refl, sym, ap, subst, ◌∙◌, append_assoc, inl, inr, ◌⊎◌}
+use Rattle.std.proofs.Common.{◌≡◌, ℕ, true, false, List, ◌++◌, Option, None, Some, refl, sym, ap, subst, ◌∙◌}
+use Rattle.std.proofs.Common.{append_assoc, inl, inr, ◌⊎◌}
 use Rattle.std.specs.Prelude.{codes, IfSome}
 use Rattle.std.specs.Fmt.{decimal}
 use Rattle.std.specs.Str.{bytes_eq}
@@ -9,28 +10,38 @@ use Rattle.mud_cert.specs.declared.cert.Form.TheVariants.{One, Two}
 use Rattle.mud_cert.specs.declared.cert.Conclusion.{Conclusion}
 use Rattle.mud_cert.specs.declared.cert.Conclusion.TheVariants.{Route, Meet}
 use Rattle.mud_cert.specs.Certificate.{IsNumber, IsAmount}
-use Rattle.mud_cert.specs.Text.{head_line, version_line, member_line, conclusion_line}
-use Rattle.mud_cert.specs.Reading.{◌>>=◌, after, number_at, object_at, whole, head_at, version_at, member_at, cost_at, way_at, route_at, meeting_at, conclusion_at, either}
+use Rattle.mud_cert.specs.Text.{head_line, conclusion_line}
+use Rattle.mud_cert.specs.Lines.{version_line, member_line}
+use Rattle.mud_cert.specs.Reading.{◌>>=◌, after, number_at, object_at, whole, head_at, version_at, member_at, cost_at}
+use Rattle.mud_cert.specs.Reading.{way_at, route_at, meeting_at, conclusion_at, either}
 use Rattle.mud_cert.proofs.Digits.{number-takes}
-use Rattle.mud_cert.proofs.Pieces.{bind_some, whole_some, joins, ends, says-true, after-front, after-takes, number-alone, object-takes, object-read, object-alone}
+use Rattle.mud_cert.proofs.Pieces.{bind_some, whole_some, joins, ends, says-true, after-front, after-takes}
+use Rattle.mud_cert.proofs.Pieces.{number-alone, object-takes, object-read, object-alone}
 
 -- ---- the first two lines
 
 pub head-takes : (line : List ℕ) (form : Form) → head_at line ≡ Some form → line ≡ head_line form
 unfolding head_at
-head-takes line form e = go (cases_Bool (bytes_eq line (codes "mud proof 1"))) (cases_Bool (bytes_eq line (codes "mud proof 2")))
+head-takes line form e =
+    go (cases_Bool (bytes_eq line (codes "mud proof 1"))) (cases_Bool (bytes_eq line (codes "mud proof 2")))
   where
-    go : (bytes_eq line (codes "mud proof 1") ≡ true) ⊎ (bytes_eq line (codes "mud proof 1") ≡ false) → (bytes_eq line (codes "mud proof 2") ≡ true) ⊎ (bytes_eq line (codes "mud proof 2") ≡ false) → line ≡ head_line form
+    go : (bytes_eq line (codes "mud proof 1") ≡ true) ⊎ (bytes_eq line (codes "mud proof 1") ≡ false)
+        → (bytes_eq line (codes "mud proof 2") ≡ true)
+        ⊎ (bytes_eq line (codes "mud proof 2") ≡ false) → line ≡ head_line form
     go (inl t) other =
         let at : Some One ≡ Some form = sym (cond-true (bytes_eq line (codes "mud proof 1")) (Some One) _ t) ∙ e in
         let is : One ≡ form = cc (at) in
         subst (λ (f : Form). line ≡ head_line f) is (says-true line (codes "mud proof 1") t)
     go (inr f) (inl t) =
-        let at : Some Two ≡ Some form = sym (cond-false (bytes_eq line (codes "mud proof 1")) (Some One) _ f ∙ cond-true (bytes_eq line (codes "mud proof 2")) (Some Two) None t) ∙ e in
+        let at : Some Two ≡ Some form = sym
+        (cond-false (bytes_eq line (codes "mud proof 1")) (Some One) _ f
+        ∙ cond-true (bytes_eq line (codes "mud proof 2")) (Some Two) None t) ∙ e in
         let is : Two ≡ form = cc (at) in
         subst (λ (f : Form). line ≡ head_line f) is (says-true line (codes "mud proof 2") t)
     go (inr f) (inr g) =
-        let at : None ≡ Some form = sym (cond-false (bytes_eq line (codes "mud proof 1")) (Some One) _ f ∙ cond-false (bytes_eq line (codes "mud proof 2")) (Some Two) None g) ∙ e in
+        let at : None ≡ Some form = sym
+        (cond-false (bytes_eq line (codes "mud proof 1")) (Some One) _ f
+        ∙ cond-false (bytes_eq line (codes "mud proof 2")) (Some Two) None g) ∙ e in
         absurd (cc)
 
 pub head-again : (form : Form) → head_at (head_line form) ≡ Some form
@@ -45,7 +56,9 @@ version-takes line v e =
     let b = bind_some (number_at a.0) (λ n. whole n) v a.2 in
     let t = number-takes a.0 b.0 b.1 in
     let w = whole_some b.0.0 b.0.1 v b.2 in
-    let all = ends line (codes "version " ++ decimal b.0.0) b.0.1 (joins line (codes "version ") a.0 (decimal b.0.0) b.0.1 (after-takes (codes "version ") line a.0 a.1) t.0) w.1 in
+    let all = ends line (codes "version " ++ decimal b.0.0) b.0.1
+    (joins line (codes "version ") a.0 (decimal b.0.0) b.0.1 (after-takes (codes "version ") line a.0 a.1) t.0)
+    w.1 in
     subst (λ (n : ℕ). (line ≡ version_line n) × IsAmount n) w.0 (all, t.1)
 
 pub version-again : (v : ℕ) → IsAmount v → version_at (version_line v) ≡ Some v
@@ -54,18 +67,26 @@ version-again v few = rw (after-front (codes "version ") (decimal v), number-alo
 
 -- ---- a member's first line
 
-pub member-takes : (line : List ℕ) (m : ℕ × ℕ) → member_at line ≡ Some m → (line ≡ member_line m.0 m.1) × IsNumber m.0 × IsNumber m.1
+pub member-takes : (line : List ℕ) (m : ℕ × ℕ) → member_at line ≡ Some m → (line ≡ member_line m.0 m.1)
+    × IsNumber m.0 × IsNumber m.1
 unfolding member_at
 member-takes line m e =
-    let a = bind_some (after (codes "member #") line) (λ rest. object_at rest >>= λ player. after (codes " from #") player.1 >>= λ behind. object_at behind >>= λ from. whole ((player.0, from.0), from.1)) m e in
-    let b = bind_some (object_at a.0) (λ player. after (codes " from #") player.1 >>= λ behind. object_at behind >>= λ from. whole ((player.0, from.0), from.1)) m a.2 in
-    let c = bind_some (after (codes " from #") b.0.1) (λ behind. object_at behind >>= λ from. whole ((b.0.0, from.0), from.1)) m b.2 in
+    let a = bind_some (after (codes "member #") line)
+    (λ rest. object_at rest >>= λ player. after (codes " from #") player.1 >>= λ behind. object_at behind >>=
+    λ from. whole ((player.0, from.0), from.1)) m e in
+    let b = bind_some (object_at a.0)
+    (λ player. after (codes " from #") player.1 >>= λ behind. object_at behind >>= λ from. whole
+    ((player.0, from.0), from.1)) m a.2 in
+    let c = bind_some (after (codes " from #") b.0.1)
+    (λ behind. object_at behind >>= λ from. whole ((b.0.0, from.0), from.1)) m b.2 in
     let d = bind_some (object_at c.0) (λ from. whole ((b.0.0, from.0), from.1)) m c.2 in
     let w = whole_some (b.0.0, d.0.0) d.0.1 m d.2 in
     let player = object-takes a.0 b.0 b.1 in
     let from = object-takes c.0 d.0 d.1 in
-    let j1 = joins line (codes "member #") a.0 (decimal b.0.0) b.0.1 (after-takes (codes "member #") line a.0 a.1) player.0 in
-    let j2 = joins line (codes "member #" ++ decimal b.0.0) b.0.1 (codes " from #") c.0 j1 (after-takes (codes " from #") b.0.1 c.0 c.1) in
+    let j1 = joins line (codes "member #") a.0 (decimal b.0.0) b.0.1
+    (after-takes (codes "member #") line a.0 a.1) player.0 in
+    let j2 = joins line (codes "member #" ++ decimal b.0.0) b.0.1 (codes " from #") c.0 j1
+    (after-takes (codes " from #") b.0.1 c.0 c.1) in
     let j3 = joins line (codes "member #" ++ decimal b.0.0 ++ codes " from #") c.0 (decimal d.0.0) d.0.1 j2 from.0 in
     subst (λ (x : ℕ × ℕ). (line ≡ member_line x.0 x.1) × IsNumber x.0 × IsNumber x.1) w.0
     (ends line (codes "member #" ++ decimal b.0.0 ++ codes " from #" ++ decimal d.0.0) d.0.1 j3 w.1, player.1, from.1)
@@ -76,11 +97,19 @@ four a b c d = simp append_assoc
 three : (a b c : List ℕ) → a ++ b ++ c ≡ a ++ (b ++ c)
 three a b c = append_assoc a b c
 
-pub member-again : (player from : ℕ) → IsNumber player → IsNumber from → member_at (member_line player from) ≡ Some (player, from)
+pub member-again : (player from : ℕ) → IsNumber player → IsNumber from
+    → member_at (member_line player from) ≡ Some (player, from)
 unfolding member_at whole
 member-again player from p f =
     ap member_at (four (codes "member #") (decimal player) (codes " from #") (decimal from))
-    ∙ rw (after-front (codes "member #") (decimal player ++ (codes " from #" ++ decimal from)), object-read player (codes " from #" ++ decimal from) p refl, after-front (codes " from #") (decimal from), object-alone from f) refl
+    ∙ rw (
+      after-front (codes "member #") (decimal player ++ (codes " from #" ++ decimal from)),
+      object-read player
+          (codes " from #" ++ decimal from) p refl,
+      after-front (codes " from #") (decimal from),
+      object-alone from f,
+    )
+    refl
 
 -- no conclusion is a member's first line
 pub member-not : (c : Conclusion) → member_at (conclusion_line c) ≡ None
@@ -104,7 +133,8 @@ cost-takes bytes n e =
     let b = bind_some (number_at a.0) (λ cost. whole cost) n a.2 in
     let t = number-takes a.0 b.0 b.1 in
     let w = whole_some b.0.0 b.0.1 n b.2 in
-    let all = ends bytes (codes " cost " ++ decimal b.0.0) b.0.1 (joins bytes (codes " cost ") a.0 (decimal b.0.0) b.0.1 (after-takes (codes " cost ") bytes a.0 a.1) t.0) w.1 in
+    let all = ends bytes (codes " cost " ++ decimal b.0.0) b.0.1
+    (joins bytes (codes " cost ") a.0 (decimal b.0.0) b.0.1 (after-takes (codes " cost ") bytes a.0 a.1) t.0) w.1 in
     subst (λ (k : ℕ). (bytes ≡ codes " cost " ++ decimal k) × IsAmount k) w.0 (all, t.1)
 
 cost-again : (n : ℕ) → IsAmount n → cost_at (codes " cost " ++ decimal n) ≡ Some n
@@ -122,17 +152,21 @@ way-line : (to : ℕ) (cost : Option ℕ) → codes "route #" ++ decimal to ++ w
 way-line to None = refl
 way-line to (Some cost) = sym (append_assoc (codes "route #" ++ decimal to) (codes " cost ") (decimal cost))
 
-way-takes : (to : ℕ) (bytes : List ℕ) (c : Conclusion) → way_at to bytes ≡ Some c → (cost : Option ℕ) × (c ≡ Route to cost) × (bytes ≡ way_text cost) × IfSome cost IsAmount
+way-takes : (to : ℕ) (bytes : List ℕ) (c : Conclusion) → way_at to bytes ≡ Some c → (cost : Option ℕ)
+    × (c ≡ Route to cost) × (bytes ≡ way_text cost) × IfSome cost IsAmount
 unfolding way_at
 way-takes to bytes c e = go (cases_Bool (bytes_eq bytes (codes " no way")))
   where
-    go : (bytes_eq bytes (codes " no way") ≡ true) ⊎ (bytes_eq bytes (codes " no way") ≡ false) → (cost : Option ℕ) × (c ≡ Route to cost) × (bytes ≡ way_text cost) × IfSome cost IsAmount
+    go : (bytes_eq bytes (codes " no way") ≡ true) ⊎ (bytes_eq bytes (codes " no way") ≡ false) → (cost : Option ℕ)
+        × (c ≡ Route to cost) × (bytes ≡ way_text cost) × IfSome cost IsAmount
     go (inl t) =
-        let at : Some (Route to None) ≡ Some c = sym (cond-true (bytes_eq bytes (codes " no way")) (Some (Route to None)) _ t) ∙ e in
+        let at : Some (Route to None) ≡ Some c =
+        sym (cond-true (bytes_eq bytes (codes " no way")) (Some (Route to None)) _ t) ∙ e in
         let is : c ≡ Route to None = cc (at) in
         (None, is, says-true bytes (codes " no way") t, tt)
     go (inr f) =
-        let at : (cost_at bytes >>= λ cost. Some (Route to (Some cost))) ≡ Some c = sym (cond-false (bytes_eq bytes (codes " no way")) (Some (Route to None)) _ f) ∙ e in
+        let at : (cost_at bytes >>= λ cost. Some (Route to (Some cost))) ≡ Some c =
+        sym (cond-false (bytes_eq bytes (codes " no way")) (Some (Route to None)) _ f) ∙ e in
         let a = bind_some (cost_at bytes) (λ cost. Some (Route to (Some cost))) c at in
         let t = cost-takes bytes a.0 a.1 in
         let is : c ≡ Route to (Some a.0) = cc (a.2) in
@@ -158,7 +192,8 @@ no-digit : (cost : Option ℕ) (to : ℕ) → IsNumber to → object_at (decimal
 no-digit None to low = object-read to (codes " no way") low refl
 no-digit (Some cost) to low = object-read to (codes " cost " ++ decimal cost) low refl
 
-route-again : (to : ℕ) (cost : Option ℕ) → IsNumber to → IfSome cost IsAmount → route_at (conclusion_line (Route to cost)) ≡ Some (Route to cost)
+route-again : (to : ℕ) (cost : Option ℕ) → IsNumber to → IfSome cost IsAmount
+    → route_at (conclusion_line (Route to cost)) ≡ Some (Route to cost)
 unfolding route_at
 route-again to cost low fits =
     ap route_at (sym (way-line to cost) ∙ three (codes "route #") (decimal to) (way_text cost))
@@ -167,8 +202,11 @@ route-again to cost low fits =
 meeting-takes : (line : List ℕ) (c : Conclusion) → meeting_at line ≡ Some c → Says line c
 unfolding meeting_at
 meeting-takes line c e =
-    let a = bind_some (after (codes "meet #") line) (λ rest. object_at rest >>= λ room. cost_at room.1 >>= λ cost. Some (Meet (Some (record { room = room.0; cost = cost })))) c e in
-    let b = bind_some (object_at a.0) (λ room. cost_at room.1 >>= λ cost. Some (Meet (Some (record { room = room.0; cost = cost })))) c a.2 in
+    let a = bind_some (after (codes "meet #") line)
+    (λ rest. object_at rest >>= λ room. cost_at room.1 >>= λ cost. Some
+    (Meet (Some (record { room = room.0; cost = cost })))) c e in
+    let b = bind_some (object_at a.0)
+    (λ room. cost_at room.1 >>= λ cost. Some (Meet (Some (record { room = room.0; cost = cost })))) c a.2 in
     let d = bind_some (cost_at b.0.1) (λ cost. Some (Meet (Some (record { room = b.0.0; cost = cost })))) c b.2 in
     let t = object-takes a.0 b.0 b.1 in
     let w = cost-takes b.0.1 d.0 d.1 in
@@ -177,18 +215,25 @@ meeting-takes line c e =
     let is : Meet (Some (record { room = b.0.0; cost = d.0 })) ≡ c = cc (d.2) in
     subst (Says line) is (all, (t.1, w.1))
 
-meeting-again : (room cost : ℕ) → IsNumber room → IsAmount cost → meeting_at (conclusion_line (Meet (Some (record { room = room; cost = cost })))) ≡ Some (Meet (Some (record { room = room; cost = cost })))
+meeting-again : (room cost : ℕ) → IsNumber room → IsAmount cost
+    → meeting_at (conclusion_line (Meet (Some (record { room = room; cost = cost })))) ≡ Some
+    (Meet (Some (record { room = room; cost = cost })))
 unfolding meeting_at
 meeting-again room cost low few =
     ap meeting_at (four (codes "meet #") (decimal room) (codes " cost ") (decimal cost))
-    ∙ rw (after-front (codes "meet #") (decimal room ++ (codes " cost " ++ decimal cost)), object-read room (codes " cost " ++ decimal cost) low refl, cost-again cost few) refl
+    ∙ rw (
+      after-front (codes "meet #") (decimal room ++ (codes " cost " ++ decimal cost)),
+      object-read room (codes " cost " ++ decimal cost) low refl,
+      cost-again cost few,
+    ) refl
 
 -- a meeting's line is no route's
 route-not : (rest : List ℕ) → route_at (codes "meet #" ++ rest) ≡ None
 unfolding route_at after
 route-not rest = refl
 
-pub conclusion-takes : (line : List ℕ) (c : Conclusion) → conclusion_at line ≡ Some c → (line ≡ conclusion_line c) × IsWithin c
+pub conclusion-takes : (line : List ℕ) (c : Conclusion) → conclusion_at line ≡ Some c
+    → (line ≡ conclusion_line c) × IsWithin c
 unfolding conclusion_at
 conclusion-takes line c e = go (cases_Bool (bytes_eq line (codes "meet none")))
   where
@@ -198,18 +243,26 @@ conclusion-takes line c e = go (cases_Bool (bytes_eq line (codes "meet none")))
 
     go : (bytes_eq line (codes "meet none") ≡ true) ⊎ (bytes_eq line (codes "meet none") ≡ false) → Says line c
     go (inl t) =
-        let at : Some (Meet None) ≡ Some c = sym (cond-true (bytes_eq line (codes "meet none")) (Some (Meet None)) _ t) ∙ e in
+        let at : Some (Meet None) ≡ Some c =
+        sym (cond-true (bytes_eq line (codes "meet none")) (Some (Meet None)) _ t) ∙ e in
         let is : Meet None ≡ c = cc (at) in
         subst (Says line) is (says-true line (codes "meet none") t, tt)
     go (inr f) =
-        from (route_at line) (meeting_at line) refl refl (sym (cond-false (bytes_eq line (codes "meet none")) (Some (Meet None)) _ f) ∙ e)
+        from (route_at line) (meeting_at line) refl refl
+        (sym (cond-false (bytes_eq line (codes "meet none")) (Some (Meet None)) _ f) ∙ e)
 
 pub conclusion-again : (c : Conclusion) → IsWithin c → conclusion_at (conclusion_line c) ≡ Some c
 unfolding conclusion_at
-conclusion-again (Route to (Some cost)) fits = ap (λ (o : Option Conclusion). either o (meeting_at (conclusion_line (Route to (Some cost))))) (route-again to (Some cost) fits.0 fits.1)
-conclusion-again (Route to None) fits = ap (λ (o : Option Conclusion). either o (meeting_at (conclusion_line (Route to None)))) (route-again to None fits.0 fits.1)
+conclusion-again (Route to (Some cost)) fits =
+    ap (λ (o : Option Conclusion). either o (meeting_at (conclusion_line (Route to (Some cost)))))
+    (route-again to (Some cost) fits.0 fits.1)
+conclusion-again (Route to None) fits =
+    ap (λ (o : Option Conclusion). either o (meeting_at (conclusion_line (Route to None))))
+    (route-again to None fits.0 fits.1)
 conclusion-again (Meet (Some m)) fits =
     let line : List ℕ = conclusion_line (Meet (Some m)) in
-    let not : route_at line ≡ None = ap route_at (four (codes "meet #") (decimal m.room) (codes " cost ") (decimal m.cost)) ∙ route-not (decimal m.room ++ (codes " cost " ++ decimal m.cost)) in
+    let not : route_at line ≡ None = ap route_at
+    (four (codes "meet #") (decimal m.room) (codes " cost ") (decimal m.cost))
+    ∙ route-not (decimal m.room ++ (codes " cost " ++ decimal m.cost)) in
     ap (λ (o : Option Conclusion). either o (meeting_at line)) not ∙ meeting-again m.room m.cost fits.0 fits.1
 conclusion-again (Meet None) fits = refl

@@ -13,14 +13,16 @@ stepped-legal : (w : State) (e : Change) → refusal w e ≡ None → stepped w 
 stepped-legal w e legal = ap (λ o. if is_none o then after w e else w) legal
 
 -- where all are legal, each is
-legal-at : (w : State) (before : List Change) (e : Change) (behind : List Change) → AreLegalFrom w (before ++ e ∷ behind) → refusal (world_from w before) e ≡ None
+legal-at : (w : State) (before : List Change) (e : Change) (behind : List Change)
+    → AreLegalFrom w (before ++ e ∷ behind) → refusal (world_from w before) e ≡ None
 legal-at w [] e behind legal = legal.0
 legal-at w (b ∷ before) e behind legal =
     ap (λ v. refusal (world_from v before) e) (stepped-legal w b legal.0) ∙ legal-at (after w b) before e behind legal.1
 
 -- where all are legal, none is the first that isn't
 pub none-illegal : (changes : List Change) (n : ℕ) → AreLegal changes → IsFirstIllegal changes n → ⊥
-none-illegal changes n legal first = first.illegal (legal-at opening_state first.before first.change first.behind (subst AreLegal first.parts legal))
+none-illegal changes n legal first =
+    first.illegal (legal-at opening_state first.before first.change first.behind (subst AreLegal first.parts legal))
 
 -- the first that isn't legal comes behind as many as are legal before it
 first-alone : (w : State) (before others : List Change) (e d : Change) (behind rest : List Change)

@@ -1,5 +1,7 @@
 -- Literal texts, numbers and pieces: what is read is what is spelled so, and what is spelled so is read.
-use Rattle.std.proofs.Common.{◌≡◌, ℕ, zero, suc, ◌<◌, ◌≤◌, true, false, cond, eqb, leb, List, [], ◌∷◌, ◌++◌, length, Option, None, Some, refl, sym, ap, subst, ◌∙◌, append_assoc, length-append, arith, inl, inr, ◌⊎◌, All}
+use Rattle.std.proofs.Common.{◌≡◌, ℕ, zero, suc, ◌<◌, ◌≤◌, true, false, cond, eqb, leb, List, [], ◌∷◌, ◌++◌, length}
+use Rattle.std.proofs.Common.{Option, None, Some, refl, sym, ap, subst, ◌∙◌, append_assoc, length-append, arith, inl}
+use Rattle.std.proofs.Common.{inr, ◌⊎◌, All}
 use Rattle.std.specs.Fmt.{decimal}
 use Rattle.std.specs.List.{flat_map}
 use Rattle.std.proofs.lemmas.Bool.{cases_Bool, cond-true, cond-false, eqb-true, eq-eqb, leb-true, le-leb}
@@ -14,7 +16,8 @@ use Rattle.mud_cert.proofs.Digits.{number-takes, number-again}
 -- ---- steps
 
 -- a step that found something
-pub bind_some : {A B : Type 0} (o : Option A) (f : A → Option B) (y : B) → (o >>= f) ≡ Some y → (x : A) × (o ≡ Some x) × (f x ≡ Some y)
+pub bind_some : {A B : Type 0} (o : Option A) (f : A → Option B) (y : B) → (o >>= f) ≡ Some y
+    → (x : A) × (o ≡ Some x) × (f x ≡ Some y)
 bind_some (Some x) f y e = (x, refl, e)
 bind_some None f y e = absurd cc
 
@@ -82,13 +85,15 @@ stops : (n : ℕ) (rest : List ℕ) → NoDigit rest → digits_on n rest ≡ (n
 stops n [] h = refl
 stops n (b ∷ bs) h = cond-false (is_digit b) _ _ h
 
-pub number-read : (n : ℕ) (rest : List ℕ) → n < 1000000000 → NoDigit rest → number_at (decimal n ++ rest) ≡ Some (n, rest)
+pub number-read : (n : ℕ) (rest : List ℕ) → n < 1000000000 → NoDigit rest
+    → number_at (decimal n ++ rest) ≡ Some (n, rest)
 number-read n rest few h = number-again n rest few (stops n rest h)
 
 pub number-alone : (n : ℕ) → n < 1000000000 → number_at (decimal n) ≡ Some (n, [])
 number-alone n few = ap number_at (sym (append-nil (decimal n))) ∙ number-read n [] few tt
 
-pub object-takes : (bytes : List ℕ) (q : ℕ × List ℕ) → object_at bytes ≡ Some q → (bytes ≡ decimal q.0 ++ q.1) × (q.0 ≤ 8191)
+pub object-takes : (bytes : List ℕ) (q : ℕ × List ℕ) → object_at bytes ≡ Some q
+    → (bytes ≡ decimal q.0 ++ q.1) × (q.0 ≤ 8191)
 unfolding object_at
 object-takes bytes q e =
     let b = bind_some (number_at bytes) (λ n. cond (leb n.0 8191) (Some n) None) q e in
@@ -98,7 +103,8 @@ object-takes bytes q e =
 
 pub object-read : (n : ℕ) (rest : List ℕ) → n ≤ 8191 → NoDigit rest → object_at (decimal n ++ rest) ≡ Some (n, rest)
 unfolding object_at
-object-read n rest low h = rw (number-read n rest (omega arith) h) (cond-true (leb n 8191) (Some (n, rest)) None (le-leb n 8191 low))
+object-read n rest low h =
+    rw (number-read n rest (omega arith) h) (cond-true (leb n 8191) (Some (n, rest)) None (le-leb n 8191 low))
 
 pub object-alone : (n : ℕ) → n ≤ 8191 → object_at (decimal n) ≡ Some (n, [])
 object-alone n low = ap object_at (sym (append-nil (decimal n))) ∙ object-read n [] low tt
@@ -106,12 +112,14 @@ object-alone n low = ap object_at (sym (append-nil (decimal n))) ∙ object-read
 -- ---- pieces
 
 -- a reader of one piece takes what its text says, and reads each text again
-pub record IsReader {A : Type 0} (piece_at : List ℕ → Option (A × List ℕ)) (text : A → List ℕ) (Fits : A → Type 0) : Type 0 where
+pub record IsReader {A : Type 0} (piece_at : List ℕ → Option (A × List ℕ)) (text : A → List ℕ)
+    (Fits : A → Type 0) : Type 0 where
   pub takes : (bytes : List ℕ) (x : A × List ℕ) → piece_at bytes ≡ Some x → (bytes ≡ text x.0 ++ x.1) × Fits x.0
   pub again : (x : A) (rest : List ℕ) → Fits x → NoDigit rest → piece_at (text x ++ rest) ≡ Some (x, rest)
   pub starts : (x : A) → (tail : List ℕ) × (text x ≡ 32 ∷ tail)
 
-pub pieces-take : {A : Type 0} (piece_at : List ℕ → Option (A × List ℕ)) (text : A → List ℕ) (Fits : A → Type 0) (reader : IsReader piece_at text Fits) (count : ℕ) (bytes : List ℕ) (xs : List A)
+pub pieces-take : {A : Type 0} (piece_at : List ℕ → Option (A × List ℕ)) (text : A → List ℕ) (Fits : A → Type 0)
+    (reader : IsReader piece_at text Fits) (count : ℕ) (bytes : List ℕ) (xs : List A)
     → pieces_at piece_at count bytes ≡ Some xs → (bytes ≡ flat_map text xs) × All Fits xs
 unfolding pieces_at
 pieces-take piece_at text Fits reader zero [] xs e =
@@ -131,13 +139,15 @@ pieces-take piece_at text Fits reader (suc count) (b ∷ bs) xs e =
     (one.0 ∙ ap (λ (r : List ℕ). text first.0.0 ++ r) more.0, All-cons Fits first.0.0 others.0 one.1 more.1)
 
 -- no piece begins with a digit
-pieces-stop : {A : Type 0} (piece_at : List ℕ → Option (A × List ℕ)) (text : A → List ℕ) (Fits : A → Type 0) (reader : IsReader piece_at text Fits) (xs : List A) → NoDigit (flat_map text xs)
+pieces-stop : {A : Type 0} (piece_at : List ℕ → Option (A × List ℕ)) (text : A → List ℕ) (Fits : A → Type 0)
+    (reader : IsReader piece_at text Fits) (xs : List A) → NoDigit (flat_map text xs)
 pieces-stop piece_at text Fits reader [] = tt
 pieces-stop piece_at text Fits reader (x ∷ xs) =
     let s = reader.starts x in
     subst (λ (t : List ℕ). NoDigit (t ++ flat_map text xs)) (sym s.1) refl
 
-pub pieces-again : {A : Type 0} (piece_at : List ℕ → Option (A × List ℕ)) (text : A → List ℕ) (Fits : A → Type 0) (reader : IsReader piece_at text Fits) (count : ℕ) (xs : List A)
+pub pieces-again : {A : Type 0} (piece_at : List ℕ → Option (A × List ℕ)) (text : A → List ℕ) (Fits : A → Type 0)
+    (reader : IsReader piece_at text Fits) (count : ℕ) (xs : List A)
     → All Fits xs → length (flat_map text xs) ≤ count → pieces_at piece_at count (flat_map text xs) ≡ Some xs
 unfolding pieces_at
 pieces-again piece_at text Fits reader zero [] fits room = refl
@@ -147,43 +157,56 @@ pieces-again piece_at text Fits reader zero (x ∷ xs) fits room =
     absurd (omega (arith, length-append (text x) (flat_map text xs), ap length s.1))
 pieces-again piece_at text Fits reader (suc count) (x ∷ xs) fits room =
     let s = reader.starts x in
-    let all : text x ++ flat_map text xs ≡ 32 ∷ (s.0 ++ flat_map text xs) = ap (λ (t : List ℕ). t ++ flat_map text xs) s.1 in
-    let one : piece_at (32 ∷ (s.0 ++ flat_map text xs)) ≡ Some (x, flat_map text xs) = ap piece_at (sym all) ∙ reader.again x (flat_map text xs) (All-head Fits x xs fits) (pieces-stop piece_at text Fits reader xs) in
-    let left : length (flat_map text xs) ≤ count = omega (arith, length-append (text x) (flat_map text xs), ap length s.1) in
+    let all : text x ++ flat_map text xs ≡ 32 ∷ (s.0 ++ flat_map text xs) =
+    ap (λ (t : List ℕ). t ++ flat_map text xs) s.1 in
+    let one : piece_at (32 ∷ (s.0 ++ flat_map text xs)) ≡ Some (x, flat_map text xs) = ap piece_at (sym all)
+    ∙ reader.again x (flat_map text xs) (All-head Fits x xs fits) (pieces-stop piece_at text Fits reader xs) in
+    let left : length (flat_map text xs) ≤ count =
+    omega (arith, length-append (text x) (flat_map text xs), ap length s.1) in
     let more = pieces-again piece_at text Fits reader count xs (All-tail Fits x xs fits) left in
     ap (pieces_at piece_at (suc count)) all ∙ rw (one, more) refl
 
 -- what was read before, and what is still to be read
-pub record IsUnder {A : Type 0} (piece_at : List ℕ → Option (A × List ℕ)) (front : List A) (rest : List ℕ) (total : Option (List A)) : Type 0 where
+pub record IsUnder {A : Type 0} (piece_at : List ℕ → Option (A × List ℕ)) (front : List A) (rest : List ℕ)
+    (total : Option (List A)) : Type 0 where
   pub count : ℕ
   pub room : length rest ≤ count
   pub same : (pieces_at piece_at count rest >>= λ xs. Some (front ++ xs)) ≡ total
 
-pub under-start : {A : Type 0} (piece_at : List ℕ → Option (A × List ℕ)) (bytes : List ℕ) → IsUnder piece_at [] bytes (pieces_at piece_at (length bytes) bytes)
-under-start {A = A} piece_at bytes = record { count = length bytes; room = omega arith; same = keeps (pieces_at piece_at (length bytes) bytes) }
+pub under-start : {A : Type 0} (piece_at : List ℕ → Option (A × List ℕ)) (bytes : List ℕ)
+    → IsUnder piece_at [] bytes (pieces_at piece_at (length bytes) bytes)
+under-start {A = A} piece_at bytes =
+    record { count = length bytes; room = omega arith; same = keeps (pieces_at piece_at (length bytes) bytes) }
   where
     keeps : (o : Option (List A)) → (o >>= λ xs. Some ([] ++ xs)) ≡ o
     keeps (Some xs) = refl
     keeps None = refl
 
 -- each piece makes the rest shorter
-pub shorter : {A : Type 0} (piece_at : List ℕ → Option (A × List ℕ)) (text : A → List ℕ) (Fits : A → Type 0) (reader : IsReader piece_at text Fits) (rest : List ℕ) (x : A) (behind : List ℕ)
+pub shorter : {A : Type 0} (piece_at : List ℕ → Option (A × List ℕ)) (text : A → List ℕ) (Fits : A → Type 0)
+    (reader : IsReader piece_at text Fits) (rest : List ℕ) (x : A) (behind : List ℕ)
     → piece_at rest ≡ Some (x, behind) → length behind < length rest
 shorter piece_at text Fits reader rest x behind e =
     let t = reader.takes rest (x, behind) e in
     let s = reader.starts x in
     omega (arith, length-append (text x) behind, ap length s.1, ap length t.0)
 
-regroup : {A : Type 0} (front : List A) (x : A) (o : Option (List A)) → ((o >>= λ xs. Some (x ∷ xs)) >>= λ xs. Some (front ++ xs)) ≡ (o >>= λ xs. Some ((front ++ x ∷ []) ++ xs))
+regroup : {A : Type 0} (front : List A) (x : A) (o : Option (List A))
+    → ((o >>= λ xs. Some (x ∷ xs)) >>= λ xs. Some (front ++ xs)) ≡ (o >>= λ xs. Some ((front ++ x ∷ []) ++ xs))
 regroup front x (Some xs) = ap Some (sym (append_assoc front (x ∷ []) xs))
 regroup front x None = refl
 
-pub under-more : {A : Type 0} (piece_at : List ℕ → Option (A × List ℕ)) (text : A → List ℕ) (Fits : A → Type 0) (reader : IsReader piece_at text Fits) (front : List A) (rest : List ℕ) (total : Option (List A)) (x : A) (behind : List ℕ)
-    → piece_at rest ≡ Some (x, behind) → IsUnder piece_at front rest total → IsUnder piece_at (front ++ x ∷ []) behind total
+pub under-more : {A : Type 0} (piece_at : List ℕ → Option (A × List ℕ)) (text : A → List ℕ) (Fits : A → Type 0)
+    (reader : IsReader piece_at text Fits) (front : List A) (rest : List ℕ)
+    (total : Option (List A)) (x : A) (behind : List ℕ)
+    → piece_at rest ≡ Some (x, behind) → IsUnder piece_at front rest total
+    → IsUnder piece_at (front ++ x ∷ []) behind total
 unfolding pieces_at
-under-more piece_at text Fits reader front rest total x behind e under = go rest under.count e under.room under.same (shorter piece_at text Fits reader rest x behind e)
+under-more piece_at text Fits reader front rest total x behind e under =
+    go rest under.count e under.room under.same (shorter piece_at text Fits reader rest x behind e)
   where
-    go : (r : List ℕ) (k : ℕ) → piece_at r ≡ Some (x, behind) → length r ≤ k → (pieces_at piece_at k r >>= λ xs. Some (front ++ xs)) ≡ total → length behind < length r
+    go : (r : List ℕ) (k : ℕ) → piece_at r ≡ Some (x, behind) → length r ≤ k
+        → (pieces_at piece_at k r >>= λ xs. Some (front ++ xs)) ≡ total → length behind < length r
         → IsUnder piece_at (front ++ x ∷ []) behind total
     go [] k f room same less = absurd (omega arith)
     go (b ∷ bs) zero f room same less = absurd (omega arith)
@@ -193,22 +216,27 @@ under-more piece_at text Fits reader front rest total x behind e under = go rest
       same = sym (regroup front x (pieces_at piece_at k behind)) ∙ sym (rw f refl) ∙ same;
     }
 
-pub under-fails : {A : Type 0} (piece_at : List ℕ → Option (A × List ℕ)) (front : List A) (rest : List ℕ) (total : Option (List A)) → piece_at rest ≡ None → 0 < length rest → IsUnder piece_at front rest total → total ≡ None
+pub under-fails : {A : Type 0} (piece_at : List ℕ → Option (A × List ℕ)) (front : List A) (rest : List ℕ)
+    (total : Option (List A)) → piece_at rest ≡ None → 0 < length rest
+    → IsUnder piece_at front rest total → total ≡ None
 unfolding pieces_at
 under-fails {A = A} piece_at front rest total e some under = go rest under.count e some under.room under.same
   where
-    go : (r : List ℕ) (k : ℕ) → piece_at r ≡ None → 0 < length r → length r ≤ k → (pieces_at piece_at k r >>= λ xs. Some (front ++ xs)) ≡ total → total ≡ None
+    go : (r : List ℕ) (k : ℕ) → piece_at r ≡ None → 0 < length r → length r ≤ k
+        → (pieces_at piece_at k r >>= λ xs. Some (front ++ xs)) ≡ total → total ≡ None
     go [] k f full room same = absurd (omega arith)
     go (b ∷ bs) zero f full room same = absurd (omega arith)
     go (b ∷ bs) (suc k) f full room same =
         let one : (pieces_at piece_at (suc k) (b ∷ bs) >>= λ xs. Some (front ++ xs)) ≡ None = rw f refl in
         sym same ∙ one
 
-pub under-done : {A : Type 0} (piece_at : List ℕ → Option (A × List ℕ)) (front : List A) (rest : List ℕ) (total : Option (List A)) → length rest ≡ 0 → IsUnder piece_at front rest total → total ≡ Some front
+pub under-done : {A : Type 0} (piece_at : List ℕ → Option (A × List ℕ)) (front : List A) (rest : List ℕ)
+    (total : Option (List A)) → length rest ≡ 0 → IsUnder piece_at front rest total → total ≡ Some front
 unfolding pieces_at
 under-done {A = A} piece_at front rest total e under = go rest under.count e under.same
   where
-    go : (r : List ℕ) (k : ℕ) → length r ≡ 0 → (pieces_at piece_at k r >>= λ xs. Some (front ++ xs)) ≡ total → total ≡ Some front
+    go : (r : List ℕ) (k : ℕ) → length r ≡ 0
+        → (pieces_at piece_at k r >>= λ xs. Some (front ++ xs)) ≡ total → total ≡ Some front
     go [] zero f same = sym same ∙ ap Some (append-nil front)
     go [] (suc k) f same = sym same ∙ ap Some (append-nil front)
     go (b ∷ bs) k f same = absurd (omega arith)

@@ -1,36 +1,50 @@
 -- What has been read of a text: the lines before the rest, and what they say.
-use Rattle.std.proofs.Common.{◌≡◌, ◌≢◌, ℕ, zero, suc, ◌+◌, ◌<◌, ◌≤◌, List, [], ◌∷◌, ◌++◌, length, take, drop, get_or, None, Some, refl, sym, ap, subst, ◌∙◌, append_assoc, length-append, arith, inl, inr, ◌⊎◌, All}
+use Rattle.std.proofs.Common.{◌≡◌, ◌≢◌, ℕ, zero, suc, ◌+◌, ◌<◌, ◌≤◌, List, [], ◌∷◌, ◌++◌, length, take, drop, get_or}
+use Rattle.std.proofs.Common.{None, Some, refl, sym, ap, subst, ◌∙◌, append_assoc, length-append, arith, inl, inr, ◌⊎◌}
+use Rattle.std.proofs.Common.{All}
 use Rattle.std.specs.Prelude.{codes}
 use Rattle.std.proofs.lemmas.Bool.{cases_order}
 use Rattle.std.proofs.lemmas.List.{append-nil}
 use Rattle.std.proofs.lemmas.List.Concat.{flat_map-append}
-use Rattle.std.proofs.lemmas.List.Elements.{All-nil, All-cons, All-head, All-tail, All-push}
+use Rattle.std.proofs.lemmas.List.Elements.{All-nil, All-cons, All-head, All-tail, All-push, All-take}
+use Rattle.std.proofs.Math.Seq.{take-append_seam}
+use Rattle.std.proofs.lemmas.List.{take-append-drop, length-take-le}
+use Rattle.mud_cert.specs.declared.fault.CertFault.TheVariants.{BadLine}
 use Rattle.mud_cert.specs.declared.stage.Stage.{Stage}
 use Rattle.mud_cert.specs.declared.stage.Stage.TheVariants.{Nothing, Headed, Open, Placed, Labelled, Concluded, Whole}
 use Rattle.mud_cert.specs.Certificate.{Certificate, IsCertificate}
-use Rattle.mud_cert.specs.Text.{ended, text_of, conclusion_line, opening_lines, cert_lines, cert_text}
+use Rattle.mud_cert.specs.Text.{text_of, conclusion_line, cert_lines, cert_text}
+use Rattle.mud_cert.specs.Lines.{opening_lines, ended}
 use Rattle.mud_cert.specs.Faults.{IsLine, Begins, IsBadLine}
-use Rattle.mud_cert.specs.TextLaws.{OneCertificate, OneBadLine, NoBadLine, EndsWithLf}
-use Rattle.mud_cert.specs.Reading.{after, head_at, version_at, member_at, labels_at, walk_at, route_at, meeting_at, conclusion_at}
+use Rattle.mud_cert.specs.TextLaws.{OneCertificate, OneBadLine, EndsWithLf}
+use Rattle.mud_cert.specs.Reading.{after, head_at, version_at, member_at, labels_at, walk_at, route_at, meeting_at}
+use Rattle.mud_cert.specs.Reading.{conclusion_at}
 use Rattle.mud_cert.specs.Stages.{lines_of, IsStage, conclude, join, next, run}
 use Rattle.mud_cert.proofs.Splitting.{cut, uncut, text-then, no-lines, split-longer, split-whole, cert-lines}
-use Rattle.mud_cert.proofs.Machine.{next-keeps, run-then, run-append, run-fails, run-none, cert-runs, stage-begins}
+use Rattle.mud_cert.proofs.Machine.{next-keeps, run-then, run-append, run-fails, run-none, cert-runs, Starts}
+use Rattle.mud_cert.proofs.Machine.{stage-begins}
 
 -- ---- the first LF
 
 -- at the first LF a line ends
-pub line-found : (bytes : List ℕ) (i : ℕ) → i < length bytes → get_or bytes i 0 ≡ 10 → ((k : ℕ) → k < i → get_or bytes k 0 ≡ 10 → ⊥) → IsLine (take i bytes) × (bytes ≡ take i bytes ++ 10 ∷ drop (i + 1) bytes)
+pub line-found : (bytes : List ℕ) (i : ℕ) → i < length bytes → get_or bytes i 0 ≡ 10
+    → ((k : ℕ) → k < i → get_or bytes k 0 ≡ 10 → ⊥) → IsLine (take i bytes)
+    × (bytes ≡ take i bytes ++ 10 ∷ drop (i + 1) bytes)
 line-found [] i lt at before = absurd (omega arith)
 line-found (b ∷ bs) zero lt at before = (All-nil (λ x. x ≢ 10), ap (λ (x : ℕ). x ∷ bs) at)
 line-found (b ∷ bs) (suc i) lt at before =
     let r = line-found bs i (omega arith) at (λ k h. before (suc k) (omega arith)) in
-    let plus : suc (i + 1) ≡ suc i + 1 = omega arith in
-    (All-cons (λ x. x ≢ 10) b (take i bs) (before 0 (omega arith)) r.0, ap (λ (x : List ℕ). b ∷ x) r.1 ∙ ap (λ (k : ℕ). b ∷ (take i bs ++ 10 ∷ drop k (b ∷ bs))) plus)
+    let plus : suc (i + 1) ≡ suc i + 1 = omega arith in (
+      All-cons (λ x. x ≢ 10) b (take i bs) (before 0 (omega arith)) r.0,
+      ap (λ (x : List ℕ). b ∷ x) r.1
+          ∙ ap (λ (k : ℕ). b ∷ (take i bs ++ 10 ∷ drop k (b ∷ bs))) plus,
+    )
 
 -- without one it is not ended
 pub line-all : (bytes : List ℕ) → ((k : ℕ) → k < length bytes → get_or bytes k 0 ≡ 10 → ⊥) → IsLine bytes
 line-all [] before = All-nil (λ x. x ≢ 10)
-line-all (b ∷ bs) before = All-cons (λ x. x ≢ 10) b bs (before 0 (omega arith)) (line-all bs (λ k h. before (suc k) (omega arith)))
+line-all (b ∷ bs) before =
+    All-cons (λ x. x ≢ 10) b bs (before 0 (omega arith)) (line-all bs (λ k h. before (suc k) (omega arith)))
 
 -- ---- reading on
 
@@ -45,15 +59,27 @@ pub record Reads (bytes rest : List ℕ) (n : ℕ) (s : Stage) : Type 0 where
 
 pub reads-start : (bytes : List ℕ) → Reads bytes bytes 1 Nothing
 unfolding lines_of IsStage
-reads-start bytes = record { front = []; parts = refl; lines = All-nil IsLine; place = refl; runs = run-none Nothing; same = refl; keeps = tt }
+reads-start bytes = record {
+  front = [];
+  parts = refl;
+  lines = All-nil IsLine;
+  place = refl;
+  runs =
+      run-none Nothing;
+  same = refl;
+  keeps = tt;
+}
 
-pub reads-more : (bytes rest : List ℕ) (n : ℕ) (s t : Stage) (line behind : List ℕ) → Reads bytes rest n s → IsLine line → rest ≡ line ++ 10 ∷ behind → next s line ≡ Some t → Reads bytes behind (n + 1) t
+pub reads-more : (bytes rest : List ℕ) (n : ℕ) (s t : Stage) (line behind : List ℕ) → Reads bytes rest n s → IsLine line
+    → rest ≡ line ++ 10 ∷ behind → next s line ≡ Some t → Reads bytes behind (n + 1) t
 reads-more bytes rest n s t line behind r is e f =
     let k = next-keeps s line t r.keeps f in
     record {
       front = r.front ++ line ∷ [];
       parts = r.parts
-          ∙ ap (λ (x : List ℕ). text_of r.front ++ x) (e ∙ sym (append_assoc line (10 ∷ []) behind) ∙ ap (λ (x : List ℕ). x ++ behind) (sym (append-nil (ended line))))
+          ∙ ap (λ (x : List ℕ). text_of r.front ++ x)
+          (e ∙ sym (append_assoc line (10 ∷ []) behind) ∙ ap (λ (x : List ℕ). x ++ behind)
+          (sym (append-nil (ended line))))
           ∙ sym (append_assoc (text_of r.front) (text_of (line ∷ [])) behind)
           ∙ ap (λ (x : List ℕ). x ++ behind) (sym (flat_map-append ended r.front (line ∷ [])));
       lines = All-push IsLine r.front line r.lines is;
@@ -69,7 +95,8 @@ short [] = omega arith
 short (l ∷ ls) = omega (arith, short ls, length-append (ended l) (text_of ls), length-append l (10 ∷ []))
 
 pub reads-few : (bytes rest : List ℕ) (n : ℕ) (s : Stage) → Reads bytes rest n s → n + length rest ≤ length bytes + 1
-reads-few bytes rest n s r = omega (arith, r.place, short r.front, ap length r.parts, length-append (text_of r.front) rest)
+reads-few bytes rest n s r =
+    omega (arith, r.place, short r.front, ap length r.parts, length-append (text_of r.front) rest)
 
 -- no certificate has an empty line
 empty-refused : (s : Stage) → next s [] ≡ None
@@ -97,14 +124,17 @@ unfolding cert_text
 text-is c = refl
 
 -- no certificate goes on with a line that is refused
-bad-ends : (front : List (List ℕ)) (s : Stage) (line : List ℕ) → run Nothing front ≡ Some s → next s line ≡ None → Begins (front ++ line ∷ []) → ⊥
+bad-ends : (front : List (List ℕ)) (s : Stage) (line : List ℕ) → run Nothing front ≡ Some s → next s line ≡ None
+    → Starts (front ++ line ∷ []) → ⊥
 bad-ends front s line runs none b =
     let regrouped : cert_lines b.cert ≡ front ++ line ∷ b.more = b.lines_are ∙ append_assoc front (line ∷ []) b.more in
-    let stops : run Nothing (cert_lines b.cert) ≡ None = ap (run Nothing) regrouped ∙ run-append Nothing front (line ∷ b.more) s runs ∙ run-fails s line b.more none in
+    let stops : run Nothing (cert_lines b.cert) ≡ None =
+    ap (run Nothing) regrouped ∙ run-append Nothing front (line ∷ b.more) s runs ∙ run-fails s line b.more none in
     let bad : None ≡ Some (Whole b.cert) = sym stops ∙ cert-runs b.cert b.is_one in
     absurd (cc)
 
-bad-fails : (front : List (List ℕ)) (rest : List ℕ) (s : Stage) (c : Certificate) → IsCertificate c → run Nothing front ≡ Some s
+bad-fails : (front : List (List ℕ)) (rest : List ℕ) (s : Stage) (c : Certificate)
+    → IsCertificate c → run Nothing front ≡ Some s
     → ((line behind : List ℕ) → IsLine line → rest ≡ line ++ 10 ∷ behind → next s line ≡ None)
     → ((d : Certificate) → s ≡ Whole d → rest ≡ [] → ⊥)
     → (more : List (List ℕ)) → cert_lines c ≡ front ++ more → rest ≡ text_of more ++ [] → ⊥
@@ -114,72 +144,117 @@ bad-fails front rest s c is runs none some [] e f =
     let whole : s ≡ Whole c = cc (at) in
     some c whole f
 bad-fails front rest s c is runs none some (l ∷ more) e f =
-    let parts : rest ≡ l ++ 10 ∷ text_of more = f ∙ append-nil (text_of (l ∷ more)) ∙ append_assoc l (10 ∷ []) (text_of more) in
+    let parts : rest ≡ l ++ 10 ∷ text_of more =
+    f ∙ append-nil (text_of (l ∷ more)) ∙ append_assoc l (10 ∷ []) (text_of more) in
     let regrouped : cert_lines c ≡ (front ++ l ∷ []) ++ more = e ∙ sym (append_assoc front (l ∷ []) more) in
     let line : IsLine l = middle front l more (subst (All IsLine) e (cert-lines c is)) in
-    bad-ends front s l runs (none l (text_of more) line parts) (record { cert = c; more = more; is_one = is; lines_are = regrouped })
+    bad-ends front s l runs (none l (text_of more) line parts)
+    (record { cert = c; more = more; is_one = is; lines_are = regrouped })
+
+-- lines with which a certificate starts, and that are in front
+begins : (front : List (List ℕ)) (rest : List ℕ) → Starts front → Begins (text_of front ++ rest) (length front)
+begins front rest b =
+    let at : take (length front) (cert_lines b.cert) ≡ front =
+    ap (take (length front)) b.lines_are ∙ take-append_seam front b.more in
+    let few : length front ≤ length (cert_lines b.cert) =
+    omega (arith, ap length b.lines_are, length-append front b.more) in
+    (b.cert, b.is_one, few, (rest, ap (λ (ls : List (List ℕ)). text_of ls ++ rest) (sym at)))
 
 -- a stage with which no line goes on, and that is not the whole, is at a bad line
 pub reads-bad : (bytes rest : List ℕ) (n : ℕ) (s : Stage) → Reads bytes rest n s
     → ((line behind : List ℕ) → IsLine line → rest ≡ line ++ 10 ∷ behind → next s line ≡ None)
     → ((c : Certificate) → s ≡ Whole c → rest ≡ [] → ⊥)
     → IsBadLine bytes n
-reads-bad bytes rest n s r none some = record {
-  front = r.front;
-  rest = rest;
-  parts = r.parts;
-  lines = r.lines;
-  place = r.place;
-  begins = subst Begins r.same (stage-begins s r.keeps);
-  ends = λ line behind is e b. bad-ends r.front s line r.runs (none line behind is e) b;
-  fails = λ c is e.
+reads-bad bytes rest n s r none some = (
+  (
+    length r.front,
+    r.place,
+    subst (λ (bs : List ℕ). Begins bs (length r.front)) (sym r.parts)
+        (begins r.front rest (subst Starts r.same (stage-begins s r.keeps))),
+    λ (c, is, few, (behind, parts)).
+        let lines : All IsLine (take n (cert_lines c)) = All-take IsLine n (cert_lines c) (cert-lines c is) in
+        let long : length (take n (cert_lines c)) ≡ n = length-take-le n (cert_lines c) few in
+        let g = split-longer r.front (take n (cert_lines c)) rest behind r.lines lines (sym r.parts ∙ parts)
+        (omega (arith, long, r.place)) in
+        onward c is behind g.more g.lines_are g.rest_is long,
+  ),
+  λ c is e.
       let g = split-whole r.front (cert_lines c) rest r.lines (cert-lines c is) (sym r.parts ∙ e ∙ text-is c) in
-      bad-fails r.front rest s c is r.runs none some g.more g.lines_are g.rest_is;
-}
+      bad-fails r.front rest s c is r.runs none some g.more g.lines_are g.rest_is,
+)
+  where
+    onward : (c : Certificate) → IsCertificate c → (behind : List ℕ) (more : List (List ℕ))
+        → take n (cert_lines c) ≡ r.front ++ more → rest ≡ text_of more ++ behind
+        → length (take n (cert_lines c)) ≡ n → ⊥
+    onward c is behind [] e f long = omega (arith, long, r.place, ap length (e ∙ append-nil r.front))
+    onward c is behind (l ∷ more) e f long =
+        let all : cert_lines c ≡ r.front ++ l ∷ (more ++ drop n (cert_lines c)) =
+        sym (take-append-drop n (cert_lines c)) ∙ ap (λ (ls : List (List ℕ)). ls ++ drop n (cert_lines c)) e
+        ∙ append_assoc r.front (l ∷ more) (drop n (cert_lines c)) in
+        let regrouped : cert_lines c ≡ (r.front ++ l ∷ []) ++ (more ++ drop n (cert_lines c)) =
+        all ∙ sym (append_assoc r.front (l ∷ []) (more ++ drop n (cert_lines c))) in
+        let line : IsLine l =
+        middle r.front l (more ++ drop n (cert_lines c)) (subst (All IsLine) all (cert-lines c is)) in
+        bad-ends r.front s l r.runs (none l (text_of more ++ behind) line (f ∙ text-then l more behind))
+        (record { cert = c; more = more ++ drop n (cert_lines c); is_one = is; lines_are = regrouped })
 
 -- a line that is refused is bad
-pub reads-refused : (bytes rest : List ℕ) (n : ℕ) (s : Stage) (line behind : List ℕ) → Reads bytes rest n s → IsLine line → rest ≡ line ++ 10 ∷ behind → next s line ≡ None → IsBadLine bytes n
+pub reads-refused : (bytes rest : List ℕ) (n : ℕ) (s : Stage) (line behind : List ℕ) → Reads bytes rest n s
+    → IsLine line → rest ≡ line ++ 10 ∷ behind → next s line ≡ None → IsBadLine bytes n
 reads-refused bytes rest n s line behind r is e f =
     reads-bad bytes rest n s r
     (λ l b i g. let same = cut line l behind b is i (sym e ∙ g) in subst (λ (x : List ℕ). next s x ≡ None) same.0 f)
     (λ c w h. uncut [] line behind (All-nil (λ x. x ≢ 10)) (sym h ∙ e))
 
 -- a line that is not ended is bad, where something stands there or more lines are wanted
-pub reads-unended : (bytes rest : List ℕ) (n : ℕ) (s : Stage) → Reads bytes rest n s → IsLine rest → ((c : Certificate) → s ≡ Whole c → rest ≡ [] → ⊥) → IsBadLine bytes n
+pub reads-unended : (bytes rest : List ℕ) (n : ℕ) (s : Stage) → Reads bytes rest n s → IsLine rest
+    → ((c : Certificate) → s ≡ Whole c → rest ≡ [] → ⊥) → IsBadLine bytes n
 reads-unended bytes rest n s r is some = reads-bad bytes rest n s r (λ l b i g. absurd (uncut rest l b is g)) some
 
 -- all lines are read
-pub reads-whole : (bytes rest : List ℕ) (n : ℕ) (c : Certificate) → Reads bytes rest n (Whole c) → rest ≡ [] → IsCertificate c × (bytes ≡ cert_text c)
+pub reads-whole : (bytes rest : List ℕ) (n : ℕ) (c : Certificate) → Reads bytes rest n (Whole c) → rest ≡ []
+    → IsCertificate c × (bytes ≡ cert_text c)
 unfolding lines_of IsStage
-reads-whole bytes rest n c r none =
-    (r.keeps, r.parts ∙ ap (λ (x : List ℕ). text_of r.front ++ x) none ∙ append-nil (text_of r.front) ∙ ap text_of (sym r.same) ∙ sym (text-is c))
+reads-whole bytes rest n c r none = (
+  r.keeps,
+  r.parts ∙ ap (λ (x : List ℕ). text_of r.front ++ x) none ∙ append-nil (text_of r.front)
+      ∙ ap text_of (sym r.same) ∙ sym (text-is c),
+)
+
+-- the line that a fault tells is bad
+pub told : (bytes : List ℕ) (k n : ℕ) → IsBadLine bytes k → BadLine k ≡ BadLine n → IsBadLine bytes n
+told bytes k n bad e = let same : k ≡ n = cc in subst (IsBadLine bytes) same bad
 
 -- ---- laws
 
 pub one-certificate : OneCertificate
 one-certificate c d ic id e =
-    let texts : text_of (cert_lines c) ++ [] ≡ text_of (cert_lines d) = append-nil (text_of (cert_lines c)) ∙ sym (text-is c) ∙ e ∙ text-is d in
+    let texts : text_of (cert_lines c) ++ [] ≡ text_of (cert_lines d) =
+    append-nil (text_of (cert_lines c)) ∙ sym (text-is c) ∙ e ∙ text-is d in
     let g = split-whole (cert_lines c) (cert_lines d) [] (cert-lines c ic) (cert-lines d id) texts in
     let none : g.more ≡ [] = no-lines g.more [] g.rest_is in
-    let lines : cert_lines d ≡ cert_lines c = g.lines_are ∙ ap (λ (x : List (List ℕ)). cert_lines c ++ x) none ∙ append-nil (cert_lines c) in
+    let lines : cert_lines d ≡ cert_lines c = g.lines_are ∙ ap (λ (x : List (List ℕ)). cert_lines c ++ x) none
+    ∙ append-nil (cert_lines c) in
     let both : Some (Whole c) ≡ Some (Whole d) = sym (cert-runs c ic) ∙ ap (run Nothing) (sym lines) ∙ cert-runs d id in
     cc (both)
 
-pub no-bad-line : NoBadLine
-no-bad-line c n is b = b.fails c is refl
+-- what begins with some lines begins with fewer
+fewer : (lines : List (List ℕ)) (m j : ℕ) (rest : List ℕ) → m ≤ j → (more : List ℕ)
+    × (text_of (take j lines) ++ rest ≡ text_of (take m lines) ++ more)
+fewer lines zero j rest le = (text_of (take j lines) ++ rest, refl)
+fewer lines (suc m) zero rest le = absurd (omega (arith, le))
+fewer [] (suc m) (suc j) rest le = (rest, refl)
+fewer (l ∷ lines) (suc m) (suc j) rest le =
+    let r = fewer lines m j rest (omega (arith, le)) in (
+      r.0,
+      append_assoc (ended l) (text_of (take j lines)) rest ∙ ap (λ (t : List ℕ). ended l ++ t) r.1
+          ∙ sym (append_assoc (ended l) (text_of (take m lines)) r.0),
+    )
 
 later : (bytes : List ℕ) (m n : ℕ) → IsBadLine bytes m → IsBadLine bytes n → m < n → ⊥
-later bytes m n p q lt =
-    let g = split-longer p.front q.front p.rest q.rest p.lines q.lines (sym p.parts ∙ q.parts) (omega (arith, p.place, q.place)) in
-    go g.more g.lines_are g.rest_is
-  where
-    go : (more : List (List ℕ)) → q.front ≡ p.front ++ more → p.rest ≡ text_of more ++ q.rest → ⊥
-    go [] e f = omega (arith, p.place, q.place, ap length (e ∙ append-nil p.front))
-    go (l ∷ more) e f =
-        let b = q.begins in
-        let regrouped : cert_lines b.cert ≡ (p.front ++ l ∷ []) ++ (more ++ b.more) = b.lines_are ∙ ap (λ (x : List (List ℕ)). x ++ b.more) e ∙ append_assoc p.front (l ∷ more) b.more ∙ sym (append_assoc p.front (l ∷ []) (more ++ b.more)) in
-        p.ends l (text_of more ++ q.rest) (middle p.front l more (subst (All IsLine) e q.lines)) (f ∙ text-then l more q.rest)
-        (record { cert = b.cert; more = more ++ b.more; is_one = b.is_one; lines_are = regrouped })
+later bytes m n ((k, number, so, fails), _) ((j, place, (c, is, few, (rest, parts)), _), _) lt =
+    let r = fewer (cert_lines c) m j rest (omega (arith, place, lt)) in
+    fails (c, is, omega (arith, few, place, lt), (r.0, parts ∙ r.1))
 
 pub one-bad-line : OneBadLine
 one-bad-line bytes m n p q = go (cases_order m n)
@@ -193,7 +268,11 @@ pub ends-with-lf : EndsWithLf
 unfolding cert_text cert_lines
 ends-with-lf c =
     let front : List (List ℕ) = opening_lines c.form c.version c.members ++ conclusion_line c.conclusion ∷ [] in
-    let lines : opening_lines c.form c.version c.members ++ conclusion_line c.conclusion ∷ codes "end" ∷ [] ≡ front ++ codes "end" ∷ [] = sym (append_assoc (opening_lines c.form c.version c.members) (conclusion_line c.conclusion ∷ []) (codes "end" ∷ [])) in (
+    let lines : opening_lines c.form c.version c.members ++ conclusion_line c.conclusion ∷ codes "end" ∷ [] ≡ front
+    ++ codes "end" ∷ [] = sym
+    (append_assoc (opening_lines c.form c.version c.members)
+    (conclusion_line c.conclusion ∷ []) (codes "end" ∷ [])) in (
       text_of front ++ codes "end",
-      ap text_of lines ∙ flat_map-append ended front (codes "end" ∷ []) ∙ ap (λ (x : List ℕ). text_of front ++ x) (append-nil (ended (codes "end"))) ∙ sym (append_assoc (text_of front) (codes "end") (10 ∷ [])),
+      ap text_of lines ∙ flat_map-append ended front (codes "end" ∷ []) ∙ ap (λ (x : List ℕ). text_of front ++ x)
+          (append-nil (ended (codes "end"))) ∙ sym (append_assoc (text_of front) (codes "end") (10 ∷ [])),
     )

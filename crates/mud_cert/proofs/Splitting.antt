@@ -1,5 +1,6 @@
 -- A text has one split into lines, and the lines of a certificate are lines.
-use Rattle.std.proofs.Common.{◌≡◌, ◌≢◌, ℕ, ◌+◌, ◌%◌, ◌^◌, ◌<◌, ◌≤◌, true, leb, List, [], ◌∷◌, ◌++◌, length, get_or, Option, None, Some, refl, sym, ap, ◌∙◌, append_assoc, arith, inl, inr, ◌⊎◌, All}
+use Rattle.std.proofs.Common.{◌≡◌, ◌≢◌, ℕ, ◌+◌, ◌%◌, ◌^◌, ◌<◌, ◌≤◌, true, leb, List, [], ◌∷◌, ◌++◌, length, get_or}
+use Rattle.std.proofs.Common.{Option, None, Some, refl, sym, ap, ◌∙◌, append_assoc, arith, inl, inr, ◌⊎◌, All}
 use Rattle.std.specs.Prelude.{codes, IfSome}
 use Rattle.std.specs.Fmt.{decimal}
 use Rattle.std.specs.List.{flat_map, list_all}
@@ -12,8 +13,10 @@ use Rattle.mud_cert.specs.declared.cert.Form.{Form}
 use Rattle.mud_cert.specs.declared.cert.Form.TheVariants.{One, Two}
 use Rattle.mud_cert.specs.declared.cert.Conclusion.{Conclusion}
 use Rattle.mud_cert.specs.declared.cert.Conclusion.TheVariants.{Route, Meet}
-use Rattle.mud_cert.specs.Certificate.{Account, Certificate, IsNumber, IsAmount, IsEntry, IsAccount, IsConclusion, IsCertificate}
-use Rattle.mud_cert.specs.Text.{ended, text_of, head_line, version_line, member_line, entry_text, labels_line, exit_text, walk_line, member_lines, conclusion_line, cert_lines, cert_text}
+use Rattle.mud_cert.specs.Certificate.{Account, Certificate, IsNumber, IsAmount, IsAccount, IsConclusion, IsCertificate}
+use Rattle.mud_cert.specs.Text.{text_of, head_line, entry_text, walk_line, member_lines, conclusion_line, cert_lines}
+use Rattle.mud_cert.specs.Text.{cert_text}
+use Rattle.mud_cert.specs.Lines.{version_line, member_line, labels_line, IsEntry, ended, exit_text}
 use Rattle.mud_cert.specs.Faults.{IsLine}
 use Rattle.mud_cert.specs.TextLaws.{HasNoReturn}
 
@@ -56,13 +59,17 @@ pub record GoesOn (front other : List (List ℕ)) (rest behind : List ℕ) : Typ
   pub lines_are : other ≡ front ++ more
   pub rest_is : rest ≡ text_of more ++ behind
 
-pub split-longer : (front other : List (List ℕ)) (rest behind : List ℕ) → All IsLine front → All IsLine other → text_of front ++ rest ≡ text_of other ++ behind → length front ≤ length other → GoesOn front other rest behind
+pub split-longer : (front other : List (List ℕ)) (rest behind : List ℕ) → All IsLine front → All IsLine other
+    → text_of front ++ rest ≡ text_of other ++ behind → length front ≤ length other → GoesOn front other rest behind
 split-longer [] other rest behind lf lo e le = record { more = other; lines_are = refl; rest_is = e }
 split-longer (l ∷ front) [] rest behind lf lo e le = absurd (omega arith)
 split-longer (l ∷ front) (m ∷ other) rest behind lf lo e le =
-    let both : l ++ 10 ∷ (text_of front ++ rest) ≡ m ++ 10 ∷ (text_of other ++ behind) = sym (text-then l front rest) ∙ e ∙ text-then m other behind in
-    let c = cut l m (text_of front ++ rest) (text_of other ++ behind) (All-head IsLine l front lf) (All-head IsLine m other lo) both in
-    let r = split-longer front other rest behind (All-tail IsLine l front lf) (All-tail IsLine m other lo) c.1 (omega arith) in
+    let both : l ++ 10 ∷ (text_of front ++ rest) ≡ m ++ 10 ∷ (text_of other ++ behind) =
+    sym (text-then l front rest) ∙ e ∙ text-then m other behind in
+    let c = cut l m (text_of front ++ rest) (text_of other ++ behind) (All-head IsLine l front lf)
+    (All-head IsLine m other lo) both in
+    let r = split-longer front other rest behind (All-tail IsLine l front lf)
+    (All-tail IsLine m other lo) c.1 (omega arith) in
     record { more = r.more; lines_are = cc (c.0, r.lines_are); rest_is = r.rest_is }
 
 -- no bytes are no lines
@@ -73,7 +80,8 @@ no-lines (l ∷ ls) r e =
     absurd (uncut [] l (text_of ls ++ r) (All-nil Apart) both)
 
 -- a whole text goes on from each front of it
-pub split-whole : (front lines : List (List ℕ)) (rest : List ℕ) → All IsLine front → All IsLine lines → text_of front ++ rest ≡ text_of lines → GoesOn front lines rest []
+pub split-whole : (front lines : List (List ℕ)) (rest : List ℕ) → All IsLine front → All IsLine lines
+    → text_of front ++ rest ≡ text_of lines → GoesOn front lines rest []
 split-whole front lines rest lf ll e = go (cases_lt (length lines) (length front))
   where
     go : (length lines < length front) ⊎ (length front ≤ length lines) → GoesOn front lines rest []
@@ -81,7 +89,8 @@ split-whole front lines rest lf ll e = go (cases_lt (length lines) (length front
     go (inl lt) =
         let back = split-longer lines front [] rest ll lf (append-nil (text_of lines) ∙ sym e) (omega arith) in
         let none : back.more ≡ [] = no-lines back.more rest back.rest_is in
-        let same : length front ≡ length lines = ap length back.lines_are ∙ ap (λ (x : List (List ℕ)). length (lines ++ x)) none ∙ ap length (append-nil lines) in
+        let same : length front ≡ length lines = ap length back.lines_are
+        ∙ ap (λ (x : List (List ℕ)). length (lines ++ x)) none ∙ ap length (append-nil lines) in
         absurd (omega arith)
 
 -- ---- the lines of a certificate
@@ -118,9 +127,11 @@ amount-plain : (n : ℕ) → IsAmount n → ArePlain (decimal n)
 amount-plain n few = decimal-plain n (omega arith)
 
 -- pieces one behind the other
-pieces-plain : {A : Type 0} (text : A → List ℕ) (Fits : A → Type 0) (is : (x : A) → Fits x → ArePlain (text x)) (xs : List A) → All Fits xs → ArePlain (flat_map text xs)
+pieces-plain : {A : Type 0} (text : A → List ℕ) (Fits : A → Type 0) (is : (x : A) → Fits x → ArePlain (text x))
+    (xs : List A) → All Fits xs → ArePlain (flat_map text xs)
 pieces-plain text Fits is [] fits = All-nil Plain
-pieces-plain text Fits is (x ∷ xs) fits = then (text x) (flat_map text xs) (is x (All-head Fits x xs fits)) (pieces-plain text Fits is xs (All-tail Fits x xs fits))
+pieces-plain text Fits is (x ∷ xs) fits = then (text x) (flat_map text xs) (is x (All-head Fits x xs fits))
+    (pieces-plain text Fits is xs (All-tail Fits x xs fits))
 
 head-is : (form : Form) → ArePlain (head_line form)
 head-is One = plain-from (codes "mud proof 1") refl
@@ -129,13 +140,17 @@ head-is Two = plain-from (codes "mud proof 2") refl
 entry-is : (form : Form) (e : ℕ × Label) → IsEntry e → ArePlain (entry_text form e)
 entry-is One e is =
     then (codes " #" ++ decimal e.0 ++ codes ":") (decimal e.1.cost)
-    (then (codes " #" ++ decimal e.0) (codes ":") (then (codes " #") (decimal e.0) (plain-from (codes " #") refl) (number-plain e.0 is.0)) (plain-from (codes ":") refl))
+    (then (codes " #" ++ decimal e.0) (codes ":")
+    (then (codes " #") (decimal e.0) (plain-from (codes " #") refl) (number-plain e.0 is.0))
+    (plain-from (codes ":") refl))
     (amount-plain e.1.cost is.1)
 entry-is Two e is =
     then (codes " #" ++ decimal e.0 ++ codes ":" ++ decimal e.1.cost ++ codes "/") (decimal e.1.exits)
     (then (codes " #" ++ decimal e.0 ++ codes ":" ++ decimal e.1.cost) (codes "/")
     (then (codes " #" ++ decimal e.0 ++ codes ":") (decimal e.1.cost)
-    (then (codes " #" ++ decimal e.0) (codes ":") (then (codes " #") (decimal e.0) (plain-from (codes " #") refl) (number-plain e.0 is.0)) (plain-from (codes ":") refl))
+    (then (codes " #" ++ decimal e.0) (codes ":")
+    (then (codes " #") (decimal e.0) (plain-from (codes " #") refl) (number-plain e.0 is.0))
+    (plain-from (codes ":") refl))
     (amount-plain e.1.cost is.1))
     (plain-from (codes "/") refl))
     (amount-plain e.1.exits is.2)
@@ -146,12 +161,15 @@ exit-is x low = then (codes " #") (decimal x) (plain-from (codes " #") refl) (nu
 walk-is : (w : Option (List ℕ)) → IfSome w (All IsNumber) → ArePlain (walk_line w)
 walk-is None fits = plain-from (codes "walk none") refl
 walk-is (Some []) fits = plain-from (codes "walk nothing") refl
-walk-is (Some (x ∷ xs)) fits = then (codes "walk") (flat_map exit_text (x ∷ xs)) (plain-from (codes "walk") refl) (pieces-plain exit_text IsNumber exit-is (x ∷ xs) fits)
+walk-is (Some (x ∷ xs)) fits = then (codes "walk") (flat_map exit_text (x ∷ xs)) (plain-from (codes "walk") refl)
+    (pieces-plain exit_text IsNumber exit-is (x ∷ xs) fits)
 
 member-is : (player from : ℕ) → IsNumber player → IsNumber from → ArePlain (member_line player from)
 member-is player from p f =
     then (codes "member #" ++ decimal player ++ codes " from #") (decimal from)
-    (then (codes "member #" ++ decimal player) (codes " from #") (then (codes "member #") (decimal player) (plain-from (codes "member #") refl) (number-plain player p)) (plain-from (codes " from #") refl))
+    (then (codes "member #" ++ decimal player) (codes " from #")
+    (then (codes "member #") (decimal player) (plain-from (codes "member #") refl) (number-plain player p))
+    (plain-from (codes " from #") refl))
     (number-plain from f)
 
 members-are : (form : Form) (ms : List Account) → All IsAccount ms → All ArePlain (flat_map (member_lines form) ms)
@@ -159,21 +177,30 @@ members-are form [] is = All-nil ArePlain
 members-are form (a ∷ ms) is =
     let i = All-head IsAccount a ms is in
     let more : List (List ℕ) = flat_map (member_lines form) ms in
-    All-cons ArePlain (member_line a.player a.from) (labels_line form a.labels ∷ walk_line a.walk ∷ more) (member-is a.player a.from i.player i.from)
+    All-cons ArePlain (member_line a.player a.from) (labels_line form a.labels ∷ walk_line a.walk ∷ more)
+    (member-is a.player a.from i.player i.from)
     (All-cons ArePlain (labels_line form a.labels) (walk_line a.walk ∷ more)
-    (then (codes "labels") (flat_map (entry_text form) a.labels) (plain-from (codes "labels") refl) (pieces-plain (entry_text form) IsEntry (entry-is form) a.labels i.entries))
-    (All-cons ArePlain (walk_line a.walk) more (walk-is a.walk i.exits) (members-are form ms (All-tail IsAccount a ms is))))
+    (then (codes "labels") (flat_map (entry_text form) a.labels) (plain-from (codes "labels") refl)
+    (pieces-plain (entry_text form) IsEntry (entry-is form) a.labels i.entries))
+    (All-cons ArePlain (walk_line a.walk) more (walk-is a.walk i.exits)
+    (members-are form ms (All-tail IsAccount a ms is))))
 
 conclusion-is : (count : ℕ) (c : Conclusion) → IsConclusion count c → ArePlain (conclusion_line c)
-conclusion-is count (Route to None) i = then (codes "route #" ++ decimal to) (codes " no way") (then (codes "route #") (decimal to) (plain-from (codes "route #") refl) (number-plain to i.1)) (plain-from (codes " no way") refl)
+conclusion-is count (Route to None) i = then (codes "route #" ++ decimal to) (codes " no way")
+    (then (codes "route #") (decimal to) (plain-from (codes "route #") refl) (number-plain to i.1))
+    (plain-from (codes " no way") refl)
 conclusion-is count (Route to (Some cost)) i =
     then (codes "route #" ++ decimal to ++ codes " cost ") (decimal cost)
-    (then (codes "route #" ++ decimal to) (codes " cost ") (then (codes "route #") (decimal to) (plain-from (codes "route #") refl) (number-plain to i.1)) (plain-from (codes " cost ") refl))
+    (then (codes "route #" ++ decimal to) (codes " cost ")
+    (then (codes "route #") (decimal to) (plain-from (codes "route #") refl) (number-plain to i.1))
+    (plain-from (codes " cost ") refl))
     (amount-plain cost i.2)
 conclusion-is count (Meet None) i = plain-from (codes "meet none") refl
 conclusion-is count (Meet (Some m)) i =
     then (codes "meet #" ++ decimal m.room ++ codes " cost ") (decimal m.cost)
-    (then (codes "meet #" ++ decimal m.room) (codes " cost ") (then (codes "meet #") (decimal m.room) (plain-from (codes "meet #") refl) (number-plain m.room i.2.0)) (plain-from (codes " cost ") refl))
+    (then (codes "meet #" ++ decimal m.room) (codes " cost ")
+    (then (codes "meet #") (decimal m.room) (plain-from (codes "meet #") refl) (number-plain m.room i.2.0))
+    (plain-from (codes " cost ") refl))
     (amount-plain m.cost i.2.1)
 
 pub plain-lines : (c : Certificate) → IsCertificate c → All ArePlain (cert_lines c)
@@ -182,9 +209,12 @@ plain-lines c is =
     let last : List (List ℕ) = conclusion_line c.conclusion ∷ codes "end" ∷ [] in
     let members : List (List ℕ) = flat_map (member_lines c.form) c.members in
     All-cons ArePlain (head_line c.form) (version_line c.version ∷ (members ++ last)) (head-is c.form)
-    (All-cons ArePlain (version_line c.version) (members ++ last) (then (codes "version ") (decimal c.version) (plain-from (codes "version ") refl) (amount-plain c.version is.version))
+    (All-cons ArePlain (version_line c.version) (members ++ last)
+    (then (codes "version ") (decimal c.version) (plain-from (codes "version ") refl)
+    (amount-plain c.version is.version))
     (All-append ArePlain members last (members-are c.form c.members is.members)
-    (All-cons ArePlain (conclusion_line c.conclusion) (codes "end" ∷ []) (conclusion-is (length c.members) c.conclusion is.conclusion)
+    (All-cons ArePlain (conclusion_line c.conclusion) (codes "end" ∷ [])
+    (conclusion-is (length c.members) c.conclusion is.conclusion)
     (All-cons ArePlain (codes "end") [] (plain-from (codes "end") refl) (All-nil ArePlain)))))
 
 -- what is plain has no LF
@@ -201,7 +231,8 @@ no-returns (l ∷ ls) plain =
     let P : ℕ → Type 0 = λ b. b ≢ 13 in
     let one : ArePlain l = All-head ArePlain l ls plain in
     All-append P (ended l) (text_of ls)
-    (All-append P l (10 ∷ []) (λ i d lt. λ (same : get_or l i d ≡ 13). omega (arith, one i d lt, same)) (All-cons P 10 [] (λ (same : 10 ≡ 13). omega (arith, same)) (All-nil P)))
+    (All-append P l (10 ∷ []) (λ i d lt. λ (same : get_or l i d ≡ 13). omega (arith, one i d lt, same))
+    (All-cons P 10 [] (λ (same : 10 ≡ 13). omega (arith, same)) (All-nil P)))
     (no-returns ls (All-tail ArePlain l ls plain))
 
 pub has-no-return : HasNoReturn

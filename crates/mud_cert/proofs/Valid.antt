@@ -18,14 +18,24 @@ pub peopled : (k : Conclusion) (count : ℕ) → IsConclusion count k → 0 < co
 peopled (Route to cost) count is = omega (arith, is.0)
 peopled (Meet meeting) count is = omega (arith, is.0)
 
-pub passed-is-valid : (w : State) → IsSound w → (c : Certificate) → IsCertificate c → (first_doubt w c ≡ None) ↔ IsValid w c
+pub passed-is-valid : (w : State) → IsSound w → (c : Certificate) → IsCertificate c
+    → (first_doubt w c ≡ None) ↔ IsValid w c
 passed-is-valid w sound c is = (
   λ e.
-      let two = or-none (members_doubt w c.form [] c.members) (unless (concludes w c.members c.conclusion) doubts.Conclusion) e in
+      let two = or-none (members_doubt w c.form [] c.members)
+      (unless (concludes w c.members c.conclusion) doubts.Conclusion) e in
       let ms = members-from w sound c.form [] c.members (λ i j d lt within. absurd (omega arith)) two.0 in
-      record { distinct = ms.0; members = ms.1; conclusion = concludes-from w c.members c.conclusion (peopled c.conclusion (length c.members) is.conclusion) (unless-none (concludes w c.members c.conclusion) doubts.Conclusion two.1) },
+      record {
+        distinct = ms.0;
+        members = ms.1;
+        conclusion = concludes-from w sound c.form c.members c.conclusion
+            (peopled c.conclusion (length c.members) is.conclusion) ms.1
+            (unless-none (concludes w c.members c.conclusion) doubts.Conclusion two.1);
+      },
   λ v.
       or-both (members_doubt w c.form [] c.members) (unless (concludes w c.members c.conclusion) doubts.Conclusion)
       (members-to w sound c.form [] c.members v.distinct v.members)
-      (unless-from (concludes w c.members c.conclusion) doubts.Conclusion (concludes-to w c.members c.conclusion v.conclusion)),
+      (unless-from (concludes w c.members c.conclusion) doubts.Conclusion
+      (concludes-to w sound c.form c.members c.conclusion
+      (peopled c.conclusion (length c.members) is.conclusion) v.members v.conclusion)),
 )

@@ -25,7 +25,8 @@ pub record IsWay (w : State) (p room : ℕ) (s : Step) : Type 0 where
   pub is : step_of w s.exit ≡ s
 
 -- what has ends has a number of the world
-pub passage-numbered : (w : State) → IsSound w → (x : ℕ) (a : Passage) → passage_of w x ≡ Some a → Contains (numbers w) x
+pub passage-numbered : (w : State) → IsSound w → (x : ℕ) (a : Passage)
+    → passage_of w x ≡ Some a → Contains (numbers w) x
 passage-numbered w sound x a e = go (record_at w x) refl
   where
     go : (o : Option Record) → record_at w x ≡ o → Contains (numbers w) x
@@ -40,16 +41,20 @@ road-at w sound p room s c =
     record {
       numbered = passage-numbered w sound s.exit a r.0;
       source = ap (option_map (λ (q : Passage). q.source)) r.0;
-      leaves = ap (λ (o : Option Passage). is_number room (option_map (λ (q : Passage). q.source) o)) r.0 ∙ eq-eqb room room refl;
+      leaves = ap (λ (o : Option Passage). is_number room (option_map (λ (q : Passage). q.source) o)) r.0
+          ∙ eq-eqb room room refl;
       opened = r.1;
-      is = ap (λ (o : Option Passage). option_map_or (step_by s.exit) o (record { exit = s.exit; to = 0; cost = 0 })) r.0;
+      is = ap (λ (o : Option Passage). option_map_or (step_by s.exit) o (record { exit = s.exit; to = 0; cost = 0 }))
+          r.0;
     }
 
 -- what has a source has ends
-pub source-passage : (w : State) (room x : ℕ) → source_of w x ≡ Some room → (a : Passage) × (passage_of w x ≡ Some a) × (a.source ≡ room)
+pub source-passage : (w : State) (room x : ℕ) → source_of w x ≡ Some room
+    → (a : Passage) × (passage_of w x ≡ Some a) × (a.source ≡ room)
 source-passage w room x e = go (passage_of w x) refl e
   where
-    go : (o : Option Passage) → passage_of w x ≡ o → option_map (λ (q : Passage). q.source) o ≡ Some room → (a : Passage) × (passage_of w x ≡ Some a) × (a.source ≡ room)
+    go : (o : Option Passage) → passage_of w x ≡ o → option_map (λ (q : Passage). q.source) o ≡ Some room
+        → (a : Passage) × (passage_of w x ≡ Some a) × (a.source ≡ room)
     go None f e = absurd (cc)
     go (Some a) f e = (a, f, cc)
 
@@ -62,23 +67,28 @@ leaves-source w room x e = go (source_of w x) e
     go (Some n) e = ap Some (sym (eqb-true room n e))
 
 -- each open exit makes a road
-pub road-of : (w : State) → IsSound w → (p room x : ℕ) → source_of w x ≡ Some room → passable w p x ≡ true → Contains (roads_of w p room) (step_of w x)
+pub road-of : (w : State) → IsSound w → (p room x : ℕ) → source_of w x ≡ Some room → passable w p x ≡ true
+    → Contains (roads_of w p room) (step_of w x)
 road-of w sound p room x source o =
     let q : (a : Passage) × (passage_of w x ≡ Some a) × (a.source ≡ room) = source-passage w room x source in
-    let is : step_of w x ≡ step_by x q.0 = ap (λ (o : Option Passage). option_map_or (step_by x) o (record { exit = x; to = 0; cost = 0 })) q.1 in
+    let is : step_of w x ≡ step_by x q.0 =
+    ap (λ (o : Option Passage). option_map_or (step_by x) o (record { exit = x; to = 0; cost = 0 })) q.1 in
     let at : ℕ → Passage = λ n. record { source = n; destination = q.0.destination; cost = q.0.cost } in
     let r : IsRoad w p room (step_by x q.0) = (q.1 ∙ ap (λ n. Some (at n)) q.2, o) in
     let P : Step → Type 0 = λ s. Contains (roads_of w p room) s in
     subst P (sym is) (roads.road-to w sound p room (step_by x q.0) r)
 
-pub road-to : (w : State) → IsSound w → (p room x : ℕ) → leaves w room x ≡ true → passable w p x ≡ true → Contains (roads_of w p room) (step_of w x)
+pub road-to : (w : State) → IsSound w → (p room x : ℕ) → leaves w room x ≡ true → passable w p x ≡ true
+    → Contains (roads_of w p room) (step_of w x)
 road-to w sound p room x l o = road-of w sound p room x (leaves-source w room x l) o
 
 -- what is open has a source
 pub open-source : (w : State) (p x : ℕ) → passable w p x ≡ true → (room : ℕ) × (source_of w x ≡ Some room)
 open-source w p x e = go (passage_of w x) refl e
   where
-    go : (o : Option Passage) → passage_of w x ≡ o → option_map_or (λ (a : Passage). unlocked w p x && unlocked w p a.destination) o false ≡ true → (room : ℕ) × (source_of w x ≡ Some room)
+    go : (o : Option Passage) → passage_of w x ≡ o
+        → option_map_or (λ (a : Passage). unlocked w p x && unlocked w p a.destination) o false ≡ true
+        → (room : ℕ) × (source_of w x ≡ Some room)
     go None f e = absurd (false≢true e)
     go (Some a) f e = (a.source, ap (option_map (λ (q : Passage). q.source)) f)
 

@@ -1,6 +1,7 @@
 -- A certificate as contracts see it, and the limits that every certificate keeps.
 use Rattle.std.specs.Prelude.{◌≡◌, ℕ, ◌<◌, ◌≤◌, List, length, Option, IfSome, All, AllPairs}
 use Rattle.mud_roads.specs.declared.label.Label.{Label}
+pub use Rattle.mud_chron.specs.Entry.{IsNumber}
 use Rattle.mud_cert.specs.declared.cert.Form.{Form}
 use Rattle.mud_cert.specs.declared.cert.Form.TheVariants.{One, Two}
 use Rattle.mud_cert.specs.declared.cert.Conclusion.{Conclusion}
@@ -20,23 +21,15 @@ pub record Certificate : Type 0 where
   pub members : List Account
   pub conclusion : Conclusion
 
--- object numbers are 0 to 8,191
-abbrev pub IsNumber : ℕ → Type 0
-IsNumber n = n ≤ 8191
-
 -- versions, costs and counts of exits have at most 9 digits
 abbrev pub IsAmount : ℕ → Type 0
 IsAmount n = n < 1000000000
-
--- a room and its label are within the limits
-abbrev pub IsEntry : ℕ × Label → Type 0
-IsEntry e = IsNumber e.0 × IsAmount e.1.cost × IsAmount e.1.exits
 
 -- labels rise by room, and every number is within the limits
 pub record IsAccount (a : Account) : Type 0 where
   pub player : IsNumber a.player
   pub from : IsNumber a.from
-  pub entries : All IsEntry a.labels
+  pub entries : All (λ (e : ℕ × Label). IsNumber e.0 × IsAmount e.1.cost × IsAmount e.1.exits) a.labels
   pub rising : AllPairs (λ d e. d.0 < e.0) a.labels
   pub exits : IfSome a.walk (All IsNumber)
 
@@ -44,6 +37,11 @@ pub record IsAccount (a : Account) : Type 0 where
 abbrev pub CountsBy : Form → Account → Type 0
 CountsBy One a = All (λ e. e.1.exits ≡ 0) a.labels
 CountsBy Two a = Unit {0}
+
+-- what an exit counts in a label
+abbrev pub hop_of : Form → ℕ
+hop_of One = 0
+hop_of Two = 1
 
 -- a route has one member, a meeting 2 to 8; the numbers are within the limits
 abbrev pub IsConclusion : ℕ → Conclusion → Type 0

@@ -1,13 +1,11 @@
 -- What findings keep.
 use Rattle.std.specs.Prelude.{◌≡◌, ◌≢◌, ℕ, List, All}
-use Rattle.mud_cert.specs.declared.finding.Finding.{Finding}
+use Rattle.mud_roads.specs.Laws.{IsOne}
 use Rattle.mud_cert.specs.Finding.{without_returns, IsFinding}
 
 -- of two texts one thing at most is found
 abbrev pub FindsOne : Type 0
-FindsOne =
-    (history proof : List ℕ) (finding other : Finding) → IsFinding history proof finding → IsFinding history proof other
-    → finding ≡ other
+FindsOne = (history proof : List ℕ) → IsOne (IsFinding history proof)
 
 -- bytes without a CR stay as they are
 abbrev pub DropsNothing : Type 0

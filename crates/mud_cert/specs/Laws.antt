@@ -2,6 +2,7 @@
 use Rattle.std.specs.Prelude.{◌≡◌, ◌⊎◌, ◌↔◌, ℕ}
 use Rattle.mud_world.specs.State.{State}
 use Rattle.mud_world.specs.Sound.{IsSound}
+use Rattle.mud_roads.specs.Laws.{IsOne}
 use Rattle.mud_cert.specs.declared.doubt.Doubt.{Doubt}
 use Rattle.mud_cert.specs.Certificate.{Certificate, IsCertificate}
 use Rattle.mud_cert.specs.Doubts.{HoldsAt, IsFirstDoubt}
@@ -11,7 +12,7 @@ use Rattle.mud_cert.specs.Valid.{IsValid, Optimal}
 abbrev pub NoDoubtIsValid : Type 0
 NoDoubtIsValid =
     (w : State) → IsSound w → (c : Certificate) → IsCertificate c
-    → ((at : ℕ) (d : Doubt) → HoldsAt w c at d → ⊥) ↔ IsValid w c
+    → ((at n : ℕ) (d : Doubt) → HoldsAt w c at n d → ⊥) ↔ IsValid w c
 
 -- a certificate is valid or has a first doubt
 abbrev pub ValidOrDoubted : Type 0
@@ -20,9 +21,7 @@ ValidOrDoubted =
 
 -- a certificate has one first doubt at most
 abbrev pub OneFirstDoubt : Type 0
-OneFirstDoubt =
-    (w : State) → IsSound w → (c : Certificate) → IsCertificate c
-    → (d e : Doubt) → IsFirstDoubt w c d → IsFirstDoubt w c e → d ≡ e
+OneFirstDoubt = (w : State) → IsSound w → (c : Certificate) → IsCertificate c → IsOne (IsFirstDoubt w c)
 
 -- what a valid certificate concludes is optimal
 abbrev pub ValidIsOptimal : Type 0

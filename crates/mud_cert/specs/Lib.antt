@@ -1,3 +1,4 @@
+pub mod Places
 pub mod Certificate
 pub mod Lookup
 pub mod Ways
@@ -7,6 +8,7 @@ pub mod Doubts
 pub mod Tests
 pub mod Laws
 pub mod Text
+pub mod Lines
 pub mod Faults
 pub mod TextLaws
 pub mod Reading

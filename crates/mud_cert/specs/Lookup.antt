@@ -1,17 +1,16 @@
 -- Labels by room.
-use Rattle.std.specs.Prelude.{ℕ, ◌<◌, nat_eq, if◌then◌else◌, List, [], ◌∷◌, AllPairs, Option, None, Some}
+use Rattle.std.specs.Prelude.{ℕ, ◌<◌, nat_eq, List, AllPairs, find, Option, option_map}
 use Rattle.mud_roads.specs.declared.label.Label.{Label}
 use Rattle.mud_cert.specs.Certificate.{Account}
 
--- each room is above those before it
+-- each room is above those before it; private clauses alone cite this
 abbrev pub Rises : List (ℕ × Label) → Type 0
 Rises labels = AllPairs (λ (d : ℕ × Label) (e : ℕ × Label). d.0 < e.0) labels
 
--- the label of the room, or none
+-- the label of the room, or none; private clauses alone cite this
 abbrev pub label_in : List (ℕ × Label) → ℕ → Option Label
-label_in [] room = None
-label_in (e ∷ es) room = if nat_eq e.0 room then Some e.1 else label_in es room
+label_in labels room = option_map (λ e. e.1) (find (λ e. nat_eq e.0 room) labels)
 
 -- the member's label of the room, or none
 abbrev pub label_at : Account → ℕ → Option Label
-label_at m room = label_in m.labels room
+label_at m room = option_map (λ e. e.1) (find (λ e. nat_eq e.0 room) m.labels)

@@ -8,7 +8,8 @@ use Rattle.mud_cert.specs.declared.stage.Stage.{Stage}
 use Rattle.mud_cert.specs.declared.stage.Stage.TheVariants.{Nothing, Headed, Open, Placed, Labelled, Concluded, Whole}
 use Rattle.mud_cert.specs.Certificate.{Certificate, IsNumber, IsAccount, IsCertificate, CountsBy}
 use Rattle.mud_cert.specs.Opening.{Opening, IsOpening}
-use Rattle.mud_cert.specs.Text.{head_line, member_line, labels_line, opening_lines, conclusion_line, cert_lines}
+use Rattle.mud_cert.specs.Text.{head_line, conclusion_line, cert_lines}
+use Rattle.mud_cert.specs.Lines.{member_line, labels_line, opening_lines}
 use Rattle.mud_cert.specs.Reading.{◌>>=◌, head_at, version_at, member_at, labels_at, walk_at, conclusion_at}
 
 -- the certificate of the members with that conclusion

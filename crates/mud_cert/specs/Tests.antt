@@ -13,9 +13,9 @@ use Rattle.mud_cert.specs.declared.cert.Conclusion.{Conclusion}
 use Rattle.mud_cert.specs.declared.cert.Conclusion.TheVariants.{Route, Meet}
 use Rattle.mud_cert.specs.declared.doubt.Doubt.{Doubt}
 use Rattle.mud_cert.specs.declared.doubt.Doubt.TheVariants as doubts
-use Rattle.mud_cert.specs.Certificate.{Account, Certificate}
+use Rattle.mud_cert.specs.Certificate.{Account, Certificate, hop_of}
 use Rattle.mud_cert.specs.Lookup.{label_at}
-use Rattle.mud_cert.specs.Ways.{hop_of, step_of, steps_of, end_of, arrival_of}
+use Rattle.mud_cert.specs.Ways.{step_of, steps_of, end_of, arrival_of}
 use Rattle.mud_cert.specs.Agreement.{gathered}
 
 -- a lesser cost, or the same and no more exits

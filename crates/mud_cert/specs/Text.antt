@@ -8,49 +8,31 @@ use Rattle.mud_cert.specs.declared.cert.Conclusion.{Conclusion}
 use Rattle.mud_cert.specs.declared.cert.Conclusion.TheVariants.{Route, Meet}
 use Rattle.mud_cert.specs.Certificate.{Account, Certificate}
 
--- a line with the LF that ends it
-abbrev pub ended : List ℕ → List ℕ
-ended line = line ++ 10 ∷ []
-
--- the text that the lines make
+-- the text that the lines make, each with the LF that ends it
 abbrev pub text_of : List (List ℕ) → List ℕ
-text_of lines = flat_map ended lines
+text_of lines = flat_map (λ line. line ++ 10 ∷ []) lines
 
 -- the first line says the form
 abbrev pub head_line : Form → List ℕ
 head_line One = codes "mud proof 1"
 head_line Two = codes "mud proof 2"
 
--- the second line says the version
-abbrev pub version_line : ℕ → List ℕ
-version_line version = codes "version " ++ decimal version
-
--- a member's first line says who he is, and where he stands
-abbrev pub member_line : ℕ → ℕ → List ℕ
-member_line player from = codes "member #" ++ decimal player ++ codes " from #" ++ decimal from
-
 -- a room with its cost, and in form two its exits
 abbrev pub entry_text : Form → ℕ × Label → List ℕ
 entry_text One e = codes " #" ++ decimal e.0 ++ codes ":" ++ decimal e.1.cost
 entry_text Two e = codes " #" ++ decimal e.0 ++ codes ":" ++ decimal e.1.cost ++ codes "/" ++ decimal e.1.exits
 
--- a member's second line has his labels
-abbrev pub labels_line : Form → List (ℕ × Label) → List ℕ
-labels_line form labels = codes "labels" ++ flat_map (entry_text form) labels
-
--- an exit of a walk
-abbrev pub exit_text : ℕ → List ℕ
-exit_text exit = codes " #" ++ decimal exit
-
--- a member's third line has his walk
+-- the line of a walk
 abbrev pub walk_line : Option (List ℕ) → List ℕ
 walk_line None = codes "walk none"
 walk_line (Some []) = codes "walk nothing"
-walk_line (Some (x ∷ xs)) = codes "walk" ++ flat_map exit_text (x ∷ xs)
+walk_line (Some (x ∷ xs)) = codes "walk" ++ flat_map (λ exit. codes " #" ++ decimal exit) (x ∷ xs)
 
--- the three lines of a member
+-- the three lines of a member: who he is and where he stands, his labels, and his walk
 abbrev pub member_lines : Form → Account → List (List ℕ)
-member_lines form a = member_line a.player a.from ∷ labels_line form a.labels ∷ walk_line a.walk ∷ []
+member_lines form a =
+    (codes "member #" ++ decimal a.player ++ codes " from #" ++ decimal a.from)
+    ∷ (codes "labels" ++ flat_map (entry_text form) a.labels) ∷ walk_line a.walk ∷ []
 
 -- the line of a conclusion
 abbrev pub conclusion_line : Conclusion → List ℕ
@@ -59,13 +41,11 @@ conclusion_line (Route to None) = codes "route #" ++ decimal to ++ codes " no wa
 conclusion_line (Meet (Some m)) = codes "meet #" ++ decimal m.room ++ codes " cost " ++ decimal m.cost
 conclusion_line (Meet None) = codes "meet none"
 
--- all lines but those of the conclusion
-abbrev pub opening_lines : Form → ℕ → List Account → List (List ℕ)
-opening_lines form version members = head_line form ∷ version_line version ∷ flat_map (member_lines form) members
-
--- the lines of a certificate
+-- the lines of a certificate: its form, its version, its members, its conclusion, and the end
 unfoldable pub cert_lines : Certificate → List (List ℕ)
-cert_lines c = opening_lines c.form c.version c.members ++ conclusion_line c.conclusion ∷ codes "end" ∷ []
+cert_lines c =
+    head_line c.form ∷ (codes "version " ++ decimal c.version) ∷ flat_map (member_lines c.form) c.members
+    ++ conclusion_line c.conclusion ∷ codes "end" ∷ []
 
 -- the text of a certificate
 unfoldable pub cert_text : Certificate → List ℕ

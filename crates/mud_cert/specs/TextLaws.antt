@@ -1,5 +1,6 @@
 -- What the texts of certificates and their bad lines keep.
 use Rattle.std.specs.Prelude.{◌≡◌, ◌≢◌, ℕ, List, [], ◌∷◌, ◌++◌, All}
+use Rattle.mud_roads.specs.Laws.{IsOne}
 use Rattle.mud_cert.specs.Certificate.{Certificate, IsCertificate}
 use Rattle.mud_cert.specs.Text.{cert_text}
 use Rattle.mud_cert.specs.Faults.{IsBadLine}
@@ -10,11 +11,7 @@ OneCertificate = (c d : Certificate) → IsCertificate c → IsCertificate d →
 
 -- a text has one bad line at most
 abbrev pub OneBadLine : Type 0
-OneBadLine = (bytes : List ℕ) (m n : ℕ) → IsBadLine bytes m → IsBadLine bytes n → m ≡ n
-
--- the text of a certificate has no bad line
-abbrev pub NoBadLine : Type 0
-NoBadLine = (c : Certificate) (n : ℕ) → IsCertificate c → IsBadLine (cert_text c) n → ⊥
+OneBadLine = (bytes : List ℕ) → IsOne (IsBadLine bytes)
 
 -- the text of a certificate ends with LF
 abbrev pub EndsWithLf : Type 0

@@ -1,5 +1,6 @@
 -- The line and the status of a finding.
 use Rattle.std.specs.Prelude.{ℕ, List, ◌++◌, codes, decimal}
+pub use Rattle.mud_key.specs.Printed.{number_text as object_text}
 use Rattle.mud_chron.specs.declared.fault.ChronFault.{ChronFault}
 use Rattle.mud_chron.specs.declared.fault.ChronFault.TheVariants as faults
 use Rattle.mud_cert.specs.declared.doubt.Doubt.{Doubt}
@@ -8,10 +9,6 @@ use Rattle.mud_cert.specs.declared.finding.Finding.{Finding}
 use Rattle.mud_cert.specs.declared.finding.Finding.TheVariants as findings
 use Rattle.mud_cert.specs.declared.finding.Status.{Status}
 use Rattle.mud_cert.specs.declared.finding.Status.TheVariants.{Accepted, Refused, Unreadable}
-
--- an object by its number
-abbrev pub object_text : ℕ → List ℕ
-object_text number = codes "#" ++ decimal number
 
 -- what is doubted
 abbrev pub doubt_text : Doubt → List ℕ

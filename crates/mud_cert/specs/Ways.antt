@@ -1,19 +1,13 @@
--- Walks that are given as numbers of exits. All is defined for any numbers: a number that is no
--- exit's makes a step to #0 at no cost, but leaves no room and is open to nobody.
+-- Walks that are given as numbers of exits, as the tests go along them. All is defined for any numbers: a number that
+-- is no exit's makes a step to #0 at no cost, but leaves no room and is open to nobody. Private clauses alone cite this
+-- file.
 use Rattle.std.specs.Prelude.{ℕ, List, [], ◌∷◌, map, Option, None, Some}
 use Rattle.std.specs.Option.{option_map_or}
 use Rattle.mud_roads.specs.declared.label.Step.{Step}
 use Rattle.mud_roads.specs.Walks.{total}
 use Rattle.mud_roads.specs.Open.{step_by}
 use Rattle.mud_world.specs.State.{State, passage_of}
-use Rattle.mud_cert.specs.declared.cert.Form.{Form}
-use Rattle.mud_cert.specs.declared.cert.Form.TheVariants.{One, Two}
 use Rattle.mud_cert.specs.Certificate.{Account}
-
--- what an exit counts in a label
-abbrev pub hop_of : Form → ℕ
-hop_of One = 0
-hop_of Two = 1
 
 -- the step that exit x makes
 abbrev pub step_of : State → ℕ → Step

@@ -3,7 +3,7 @@
 ghost use Rattle.mud_cert.specs.Laws.{NoDoubtIsValid, ValidOrDoubted, OneFirstDoubt, ValidIsOptimal};
 ghost use Rattle.mud_cert.specs.FindingLaws.{FindsOne, DropsNothing};
 
-use crate::text_laws::{no_bad_line, one_bad_line, one_certificate};
+use crate::text_laws::{one_bad_line, one_certificate};
 use mud_chron::laws::{no_text_with_a_fault, one_fault, one_history};
 
 /// A certificate is valid exactly where no doubt of it holds.
@@ -40,5 +40,4 @@ pub fn one_finding()
     no_text_with_a_fault();
     one_certificate();
     one_bad_line();
-    no_bad_line();
 }

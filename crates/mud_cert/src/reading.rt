@@ -1,9 +1,9 @@
 //! The certificate that a text is of.
 
-ghost use Rattle.std.specs.Prelude.{◌≡◌, ◌++◌, ◌∷◌, IfOk, IfErr, IfSome, IfNone};
+ghost use Rattle.std.specs.Prelude.{◌≡◌, ℕ, ◌++◌, ◌∷◌, IfOk, IfErr, IfSome, IfNone};
 ghost use Rattle.mud_cert.specs.Certificate.{IsCertificate};
 ghost use Rattle.mud_cert.specs.Text.{cert_text};
-ghost use Rattle.mud_cert.specs.Faults.{IsLine, IsFault};
+ghost use Rattle.mud_cert.specs.Faults.{IsLine, IsBadLine};
 
 use crate::cert::Cert;
 use crate::fault::CertFault;
@@ -28,7 +28,7 @@ fn first_line(bytes: &[u8]) -> Option<(&[u8], &[u8])>
 /// are no certificate's. It reads each byte once.
 pub fn read(alloc: Global, bytes: &[u8]) -> Result<Cert, CertFault>
     ensures found { IfOk result (λ c. IsCertificate c × (bytes.now ≡ cert_text c)) }
-    ensures fault { IfErr result (IsFault bytes.now) }
+    ensures fault { IfErr result (λ fault. (n : ℕ) → fault ≡ CertFault.BadLine n → IsBadLine bytes.now n) }
 {
     let mut stage = Stage::Nothing;
     let mut rest = bytes;

@@ -4,7 +4,8 @@ ghost use Rattle.std.specs.Prelude.{◌≡◌, ℕ};
 ghost use Rattle.mud_roads.specs.Open.{passable};
 ghost use Rattle.mud_roads.specs.Walks.{total};
 ghost use Rattle.mud_world.specs.State.{IsHolding};
-ghost use Rattle.mud_cert.specs.Ways.{hop_of, step_of, steps_of, end_of, arrival_of};
+ghost use Rattle.mud_cert.specs.Ways.{step_of, steps_of, end_of, arrival_of};
+ghost use Rattle.mud_cert.specs.Certificate.{hop_of};
 ghost use Rattle.mud_cert.specs.Tests.{leaves, broken, locked};
 
 use crate::{Form, Member};

@@ -1,7 +1,7 @@
 //! What is known of the texts of certificates alone: each contract is a law, and its function does
 //! nothing.
 
-ghost use Rattle.mud_cert.specs.TextLaws.{OneCertificate, OneBadLine, NoBadLine, EndsWithLf, HasNoReturn};
+ghost use Rattle.mud_cert.specs.TextLaws.{OneCertificate, OneBadLine, EndsWithLf, HasNoReturn};
 
 /// A text is that of one certificate alone.
 pub fn one_certificate()
@@ -11,11 +11,6 @@ pub fn one_certificate()
 /// A text has one bad line at most.
 pub fn one_bad_line()
     ensures { OneBadLine }
-{}
-
-/// The text of a certificate has no bad line.
-pub fn no_bad_line()
-    ensures { NoBadLine }
 {}
 
 /// The text of a certificate ends with LF, and so it is not empty.

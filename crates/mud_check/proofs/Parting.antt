@@ -4,7 +4,8 @@ use Rattle.std.proofs.Math.Seq.{take-append_seam}
 use Rattle.std.proofs.lemmas.List.{append-nil, length-append}
 use Rattle.std.proofs.lemmas.List.Elements.{All-nil, All-push}
 use Rattle.std.proofs.lemmas.Grind.{flat_map-append}
-use Rattle.mud_cert.specs.Text.{ended, text_of}
+use Rattle.mud_cert.specs.Text.{text_of}
+use Rattle.mud_cert.specs.Lines.{ended}
 use Rattle.mud_cert.specs.Faults.{IsLine}
 use Rattle.mud_check.specs.Input.{begins_end, IsInner, IsSplit}
 

@@ -11,16 +11,16 @@ use Rattle.mud_chron.specs.Replay.{changes_of, AreLegal, AreLegalFrom, HasIllega
 use Rattle.mud_cert.specs.declared.finding.Finding.{Finding}
 use Rattle.mud_cert.specs.declared.finding.Finding.TheVariants as findings
 use Rattle.mud_cert.specs.declared.finding.Status.TheVariants.{Accepted}
-use Rattle.mud_cert.specs.Certificate.{Certificate}
+use Rattle.mud_cert.specs.Certificate.{Certificate, IsCertificate}
+use Rattle.mud_cert.specs.Text.{cert_text}
 use Rattle.mud_cert.specs.Verdict.{status_of}
-use Rattle.mud_cert.specs.Finding.{IsUnfit, AreTexts, IsFinding, IsAccepted}
+use Rattle.mud_cert.specs.Finding.{without_returns, IsHistory, IsUnfit, IsTried, IsFinding}
 use Rattle.mud_cert.proofs.Legality.{none-illegal}
-use Rattle.mud_check.specs.Tried.{IsTried}
 
 -- a replay that fails makes the text unfit
 pub unfit : (text : List ℕ) (entries : List Entry) (fault : ChronFault) → SpellsHistory text entries → HasIllegal entries fault → fault ≢ OutOfMemory → IsUnfit text fault
 unfit text entries OutOfMemory spells has other = absurd (other refl)
-unfit text entries (BadChange n) spells has other = inr (n, refl, record { entries = entries; spells = spells; illegal = has })
+unfit text entries (BadChange n) spells has other = inr (n, refl, (entries, spells, has))
 unfit text entries NotHistory spells has other = absurd has
 unfit text entries (BadLine n) spells has other = absurd has
 unfit text entries TooLong spells has other = absurd has
@@ -47,17 +47,13 @@ no-fault entries n TooLong legal has other = has
 no-fault entries n NoEnd legal has other = has
 
 -- what is found of the certificate is found of the texts
-pub found : (history proof : List ℕ) (entries : List Entry) (c : Certificate) (finding : Finding) → AreTexts history proof entries c → IsTried entries c finding → IsFinding history proof finding
-found history proof entries c (findings.NoVersion version) texts tried = record { entries = entries; cert = c; texts = texts; version_is = tried.0; above = tried.1 }
-found history proof entries c (findings.Doubted doubt) texts tried = record { entries = entries; cert = c; texts = texts; reached = tried.0; first = tried.1 }
-found history proof entries c findings.Accepted texts tried = record { entries = entries; cert = c; texts = texts; reached = tried.reached; valid = tried.valid; least = tried.least }
-found history proof entries c (findings.BadHistory fault) texts tried = absurd tried
-found history proof entries c (findings.BadProof n) texts tried = absurd tried
-
--- what is accepted is valid and the least
-pub least : (history proof : List ℕ) (entries : List Entry) (c : Certificate) (finding : Finding) → AreTexts history proof entries c → IsTried entries c finding → finding ≡ findings.Accepted → IsAccepted history proof
-least history proof entries c finding texts tried is =
-    subst (IsFinding history proof) is (found history proof entries c finding texts tried)
+pub found : (history proof : List ℕ) (entries : List Entry) (c : Certificate) (finding : Finding) → IsHistory (without_returns history) entries
+    → IsCertificate c → without_returns proof ≡ cert_text c → IsTried entries c finding → IsFinding history proof finding
+found history proof entries c (findings.NoVersion version) is cert text tried = (entries, is, (c, cert, text, tried))
+found history proof entries c (findings.Doubted doubt) is cert text tried = (entries, is, (c, cert, text, tried))
+found history proof entries c findings.Accepted is cert text tried = (entries, is, (c, cert, text, tried))
+found history proof entries c (findings.BadHistory fault) is cert text tried = absurd tried
+found history proof entries c (findings.BadProof n) is cert text tried = absurd tried
 
 -- the status tells an accepted certificate
 pub accepted : (finding : Finding) → status_of finding ≡ Accepted → finding ≡ findings.Accepted

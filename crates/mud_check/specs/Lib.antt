@@ -1,4 +1,3 @@
 pub mod Input
-pub mod Tried
 pub mod Verdict
 pub mod Said

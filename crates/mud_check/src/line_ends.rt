@@ -1,19 +1,9 @@
 //! The ends of lines.
 
 ghost use Rattle.std.specs.Prelude.{◌≡◌, IfOk};
-ghost use Rattle.mud_cert.specs.Finding.{starts_with_lf, without_returns};
+ghost use Rattle.mud_cert.specs.Finding.{without_returns};
 
 use std::alloc::{AllocError, Global};
-
-// Whether the bytes begin with LF.
-fn starts_with_lf(bytes: &[u8]) -> bool
-    ensures { result ≡ starts_with_lf bytes.now }
-{
-    match bytes {
-        [] => false,
-        [first, ..] => *first == b'\n',
-    }
-}
 
 /// The bytes without each CR that stands directly before LF (this project's profile): of CR CR LF
 /// one CR is left. Only want of memory is an error.
@@ -23,7 +13,7 @@ pub fn without_returns(alloc: Global, bytes: &[u8]) -> Result<Vec<u8>, AllocErro
     let mut kept = Vec::with_capacity(alloc, bytes.len())?;
     let mut rest = bytes;
     while let [first, behind @ ..] = rest {
-        if *first != b'\r' || !starts_with_lf(behind) {
+        if *first != b'\r' || !behind.starts_with(b"\n") {
             kept.push(*first)?;
         }
         rest = behind;

@@ -2,7 +2,7 @@
 
 ghost use Rattle.std.specs.Prelude.{◌≡◌, ◌++◌, codes, decimal, IfOk, OnOk, string_bytes};
 ghost use Rattle.mud_cert.specs.declared.finding.Status.TheVariants.{Accepted};
-ghost use Rattle.mud_cert.specs.Finding.{IsAccepted};
+ghost use Rattle.mud_cert.specs.Finding.{IsFinding};
 ghost use Rattle.mud_cert.specs.Verdict.{object_text, doubt_text, fault_text, finding_text, status_of};
 ghost use Rattle.mud_check.specs.Verdict.{IsVerdict};
 
@@ -103,7 +103,7 @@ fn status_of(finding: &Finding) -> Status
 /// the least there. Only want of memory is an error.
 pub fn verdict(alloc: Global, history: &[u8], proof: &[u8]) -> Result<Outcome, AllocError>
     ensures finding { IfOk result (IsVerdict history.now proof.now) }
-    ensures accepted { IfOk result (λ outcome. outcome.status ≡ Accepted → IsAccepted history.now proof.now) }
+    ensures accepted { IfOk result (λ outcome. outcome.status ≡ Accepted → IsFinding history.now proof.now Finding.Accepted) }
 {
     let finding = finding_of(alloc, history, proof)?;
     let mut text = String::new(alloc);

@@ -1,5 +1,6 @@
 -- The table leads back along the route.
-use Rattle.std.proofs.Common.{◌≡◌, ℕ, ◌<◌, ◌≤◌, inl, inr, List, [], ◌∷◌, ◌++◌, length, get_or, Option, None, Some, refl, sym, ◌∙◌, ap, subst, arith}
+use Rattle.std.proofs.Common.{◌≡◌, ℕ, ◌<◌, ◌≤◌, inl, inr, List, [], ◌∷◌, ◌++◌, length, get_or, Option, None, Some, refl}
+use Rattle.std.proofs.Common.{sym, ◌∙◌, ap, subst, arith}
 use Rattle.std.specs.Prelude.{Contains, IsSome}
 use Rattle.std.proofs.lemmas.List.{get_or_default}
 use Rattle.std.proofs.lemmas.Bool.{cases_lt, false≢true}
@@ -16,12 +17,18 @@ abbrev pub exits_at : Option Label → ℕ
 exits_at None = 0
 exits_at (Some l) = l.exits
 
-module _ (roads : Roads) (from next : ℕ) (labels : ℕ → Option Label) (least : Labelled roads from labels) (past : (room : ℕ) → next ≤ room → roads room ≡ [])
+module _ (roads : Roads) (from next : ℕ) (labels : ℕ → Option Label) (least : Labelled roads from labels)
+    (past : (room : ℕ) → next ≤ room → roads room ≡ [])
     (table : List (Option Arrival)) (last : AreLast roads labels next table) where
   ends-least : (to by : ℕ) (s : Step) → Ends roads labels to by s → EndsLeast 1 roads from to by s
   ends-least to by s d =
       let P : ℕ → Option Label → Type 0 = λ r o. Least 1 roads from r o in
-      record { step = d.step; leads = d.leads; least = (d.before, subst (P by) d.comes (least by), subst (P to) d.is (least to)) }
+      record {
+        step = d.step;
+        leads = d.leads;
+        least =
+            (d.before, subst (P by) d.comes (least by), subst (P to) d.is (least to));
+      }
 
   least-ends : (to by : ℕ) (s : Step) → EndsLeast 1 roads from to by s → Ends roads labels to by s
   least-ends to by s d = record {
@@ -45,7 +52,12 @@ module _ (roads : Roads) (from next : ℕ) (labels : ℕ → Option Label) (leas
       → ((more : List Step) → RouteBack 1 roads from at more → RouteBack 1 roads from to (front ++ more))
       → RouteBack 1 roads from a.by rest → RouteBack 1 roads from to (front ++ a.step ∷ rest)
   back-step to at a e front rest goes back =
-      goes (a.step ∷ rest) (a.by, ends-least at a.by a.step (last.ends at a e), (λ by s d. last.lowest at a e by s (by-within at by s d) (least-ends at by s d)), back)
+      goes (a.step ∷ rest) (
+        a.by,
+        ends-least at a.by a.step (last.ends at a e),
+        (λ by s d. last.lowest at a e by s (by-within at by s d) (least-ends at by s d)),
+        back,
+      )
 
   -- where it has none the route begins
   pub back-none : (at : ℕ) (l : Label) → at < next → labels at ≡ Some l → get_or table at None ≡ None → from ≡ at
@@ -53,7 +65,9 @@ module _ (roads : Roads) (from next : ℕ) (labels : ℕ → Option Label) (leas
       let P : Option Label → Type 0 = λ o. Least 1 roads from at o in
       elim (route-goes-on roads from (λ room. (labels room, least room)) at l (subst P is (least at))) [
         | inl same ↦ same
-        | inr more ↦ absurd (last.none at inside e more.by more.step (by-within at more.by more.step more.ends) (least-ends at more.by more.step more.ends))
+        | inr more ↦ absurd
+            (last.none at inside e more.by more.step (by-within at more.by more.step more.ends)
+            (least-ends at more.by more.step more.ends))
       ]
 
   -- each step back has an exit less

@@ -1,5 +1,6 @@
 -- The labels of a member in a row, and what they claim.
-use Rattle.std.proofs.Common.{◌≡◌, ℕ, ◌+◌, ◌<◌, ◌≤◌, inl, inr, List, [], ◌∷◌, ◌++◌, length, get_or, Option, None, Some, sym, ◌∙◌, ap, subst, arith}
+use Rattle.std.proofs.Common.{◌≡◌, ℕ, ◌+◌, ◌<◌, ◌≤◌, inl, inr, List, [], ◌∷◌, ◌++◌, length, get_or, Option, None, Some}
+use Rattle.std.proofs.Common.{sym, ◌∙◌, ap, subst, arith}
 use Rattle.std.proofs.Common.{Vec, Global}
 use Rattle.std.specs.Prelude.{Contains, All, IfSome, option_map}
 use Rattle.std.proofs.lemmas.List.Elements.{All-map}
@@ -10,7 +11,8 @@ use Rattle.std.proofs.lemmas.List.Elements.{All-push, Contains-push, Contains-ap
 use Rattle.std.proofs.lemmas.List.Quantifiers.{all_pairs_push}
 use Rattle.mud_roads.specs.declared.label.Label.{Label}
 use Rattle.mud_roads.specs.declared.label.Step.{Step}
-use Rattle.mud_cert.specs.Certificate.{Account, IsNumber, IsEntry}
+use Rattle.mud_cert.specs.Certificate.{Account, IsNumber}
+use Rattle.mud_cert.specs.Lines.{IsEntry}
 use Rattle.mud_guide.specs.Journeys.{Journey}
 use Rattle.mud_guide.specs.Ways.{exits_of}
 use Rattle.mud_guide.specs.Listings.{AreEntries, IsListed}
@@ -20,7 +22,8 @@ abbrev Entry : Type 0
 Entry = ℕ × Label
 
 -- a room without a label is left out
-pub entries-skip : (labels : ℕ → Option Label) (room : ℕ) (es : List (ℕ × Label)) → AreEntries labels room es → labels room ≡ None → AreEntries labels (room + 1) es
+pub entries-skip : (labels : ℕ → Option Label) (room : ℕ) (es : List (ℕ × Label)) → AreEntries labels room es
+    → labels room ≡ None → AreEntries labels (room + 1) es
 entries-skip labels room es are none = record {
   rising = are.rising;
   inside = λ k d h. (omega (arith, (are.inside k d h).0), (are.inside k d h).1);
@@ -31,11 +34,14 @@ entries-skip labels room es are none = record {
 }
 
 -- one with a label comes last
-pub entries-push : (labels : ℕ → Option Label) (room : ℕ) (l : Label) (es : List (ℕ × Label)) → AreEntries labels room es → labels room ≡ Some l
+pub entries-push : (labels : ℕ → Option Label) (room : ℕ) (l : Label) (es : List (ℕ × Label))
+    → AreEntries labels room es → labels room ≡ Some l
     → AreEntries labels (room + 1) (es ++ (room, l) ∷ [])
 entries-push labels room l es are is = record {
-  rising = all_pairs_push (λ (d : Entry) (e : Entry). d.0 < e.0) es (room, l) are.rising (λ k d h. (are.inside k d h).0);
-  inside = All-push (λ (e : Entry). (e.0 < room + 1) × (labels e.0 ≡ Some e.1)) es (room, l) (λ k d h. (omega (arith, (are.inside k d h).0), (are.inside k d h).1)) (omega arith, is);
+  rising = all_pairs_push (λ (d : Entry) (e : Entry). d.0 < e.0) es (room, l) are.rising
+      (λ k d h. (are.inside k d h).0);
+  inside = All-push (λ (e : Entry). (e.0 < room + 1) × (labels e.0 ≡ Some e.1)) es (room, l)
+      (λ k d h. (omega (arith, (are.inside k d h).0), (are.inside k d h).1)) (omega arith, is);
   whole = λ r k h e. elim (cases_eq r room) [
     | inl same ↦
         let one : l ≡ k = some-inj l k (sym is ∙ ap labels (sym same) ∙ e) in
@@ -56,7 +62,8 @@ entries-begun labels = record {
 }
 
 -- the entries are within the limits of a certificate
-pub entries-limits : (labels : ℕ → Option Label) (next : ℕ) (es : List (ℕ × Label)) → next ≤ 8192 → AreEntries labels next es
+pub entries-limits : (labels : ℕ → Option Label) (next : ℕ) (es : List (ℕ × Label))
+    → next ≤ 8192 → AreEntries labels next es
     → ((room : ℕ) (l : Label) → labels room ≡ Some l → (l.cost ≤ 81910000) × (l.exits ≤ 8191)) → All IsEntry es
 entries-limits labels next es few are bounded k d h =
     let e = are.inside k d h in
@@ -64,27 +71,32 @@ entries-limits labels next es few are bounded k d h =
     (omega (arith, e.0), omega (arith, b.0), omega (arith, b.1))
 
 -- and so are the exits of a way
-pub exits-limits : (next : ℕ) (way : Option (List Step)) (walk : Option (Vec ℕ Global)) → next ≤ 8192 → IfSome way (All (λ s. s.exit < next))
+pub exits-limits : (next : ℕ) (way : Option (List Step)) (walk : Option (Vec ℕ Global)) → next ≤ 8192
+    → IfSome way (All (λ s. s.exit < next))
     → option_map (λ w. w.items) walk ≡ option_map exits_of way → IfSome (option_map (λ w. w.items) walk) (All IsNumber)
 exits-limits next way walk few inside is =
     let P : Option (List ℕ) → Type 0 = λ o. IfSome o (All IsNumber) in
     subst P (sym is) (go way inside)
   where
-    go : (way : Option (List Step)) → IfSome way (All (λ s. s.exit < next)) → IfSome (option_map exits_of way) (All IsNumber)
+    go : (way : Option (List Step)) → IfSome way (All (λ s. s.exit < next))
+        → IfSome (option_map exits_of way) (All IsNumber)
     go None h = tt
     go (Some ss) h = All-map IsNumber (λ (s : Step). s.exit) ss (λ k d lt. omega (arith, h k d lt))
 
 -- one more of the accounts
-pub listed-push : (labels : ℕ → ℕ → Option Label) (next : ℕ) (js : List Journey) (es : List Account) (n : ℕ) (e : Account) → length es ≡ n
+pub listed-push : (labels : ℕ → ℕ → Option Label) (next : ℕ) (js : List Journey) (es : List Account) (n : ℕ)
+    (e : Account) → length es ≡ n
     → ((m : ℕ) (j : Journey) (a : Account) → m < length es → IsListed (labels m) next (get_or js m j) (get_or es m a))
     → ((j : Journey) → IsListed (labels n) next (get_or js n j) e)
-    → (m : ℕ) (j : Journey) (a : Account) → m < length (es ++ e ∷ []) → IsListed (labels m) next (get_or js m j) (get_or (es ++ e ∷ []) m a)
+    → (m : ℕ) (j : Journey) (a : Account) → m < length (es ++ e ∷ [])
+    → IsListed (labels m) next (get_or js m j) (get_or (es ++ e ∷ []) m a)
 listed-push labels next js es n e long each last m j a h =
     elim (cases_eq m n) [
       | inl same ↦
           let P : ℕ → Type 0 = λ i. IsListed (labels i) next (get_or js i j) (get_or (es ++ e ∷ []) i a) in
           let Q : Account → Type 0 = λ x. IsListed (labels n) next (get_or js n j) x in
-          let at : get_or (es ++ e ∷ []) n a ≡ e = ap (λ (i : ℕ). get_or (es ++ e ∷ []) i a) (sym long) ∙ get_or-append_seam es e [] a in
+          let at : get_or (es ++ e ∷ []) n a ≡ e =
+          ap (λ (i : ℕ). get_or (es ++ e ∷ []) i a) (sym long) ∙ get_or-append_seam es e [] a in
           subst P (sym same) (subst Q (sym at) (last j))
       | inr apart ↦
           let inside : m < length es = omega (arith, length_push es e) in

@@ -1,16 +1,16 @@
 -- What is claimed of a party is so, and the certificate is valid.
-use Rattle.std.proofs.Common.{◌≡◌, ◌≢◌, ℕ, suc, zero, ◌<◌, ◌≤◌, ◌⊎◌, inl, inr, max, List, [], ◌∷◌, length, map, get_or, Option, None, Some, refl, sym, ◌∙◌, ap, subst, arith}
-use Rattle.std.specs.Prelude.{All, AllPairs, Any, IfSome, IsTrue}
+use Rattle.std.proofs.Common.{◌≡◌, ◌≢◌, ℕ, suc, zero, ◌<◌, inl, inr, List, [], ◌∷◌, length, map, get_or, Option, None}
+use Rattle.std.proofs.Common.{Some, refl, sym, ◌∙◌, ap, subst, arith}
+use Rattle.std.specs.Prelude.{All, AllPairs, IfSome, IsTrue}
 use Rattle.std.specs.Option.{option_map}
 use Rattle.std.specs.List.{AllZip}
 use Rattle.std.proofs.lemmas.List.{get_or_default}
-use Rattle.std.proofs.lemmas.Bool.{cases_lt}
 use Rattle.std.proofs.lemmas.Option.{slice_get-get_or}
 use Rattle.mud_world.specs.State.{State, is_room, is_player}
 use Rattle.mud_world.specs.Sound.{IsSound}
 use Rattle.mud_roads.specs.declared.label.Label.{Label}
 use Rattle.mud_roads.specs.declared.label.Step.{Step}
-use Rattle.mud_roads.specs.Walks.{total, IsLeast, Least, Goer, Gathers}
+use Rattle.mud_roads.specs.Walks.{total, IsLeast, Least, Goer, HasLeast, Gathers}
 use Rattle.mud_roads.specs.Open.{Knowledge, known, IsTraveller, roads_of}
 use Rattle.mud_roads.proofs.Routes.{least-one}
 use Rattle.mud_cert.specs.declared.cert.Form.TheVariants.{Two}
@@ -18,16 +18,14 @@ use Rattle.mud_cert.specs.declared.cert.Meeting.{Meeting}
 use Rattle.mud_cert.specs.declared.cert.Conclusion.TheVariants.{Route, Meet}
 use Rattle.mud_cert.specs.Certificate.{Account, Certificate}
 use Rattle.mud_cert.specs.Lookup.{label_at}
-use Rattle.mud_cert.specs.Ways.{arrival_of}
-use Rattle.mud_cert.specs.Agreement.{with_label, gathered_from, gathered}
-use Rattle.mud_cert.specs.Valid.{IsMember, Concludes, IsValid}
+use Rattle.mud_cert.proofs.Conclusions.{Labels}
+use Rattle.mud_cert.specs.Valid.{States, IsMember, GoesTo, IsPlace, Agrees, IsValid}
 use Rattle.mud_search.specs.Least.{AreLeast}
 use Rattle.mud_guide.specs.Arrivals.{Labelled}
 use Rattle.mud_guide.specs.Ways.{cost_of, IsWay, IsWayTo}
 use Rattle.mud_guide.specs.Journeys.{Journey, IsJourney, goers_of}
 use Rattle.mud_guide.specs.Accounts.{IsAccountOf}
 use Rattle.mud_guide.specs.Listings.{IsInside, AreListed}
-use Rattle.mud_guide.specs.Meetings.{IsPlace}
 use Rattle.mud_guide.specs.Gatherings.{IsGreatest}
 use Rattle.mud_guide.proofs.Lowest.{some-inj}
 use Rattle.mud_guide.proofs.Totals.{route_is_least}
@@ -35,13 +33,15 @@ use Rattle.mud_guide.proofs.Gather.{goers, gathers-from_greatest}
 use Rattle.mud_guide.proofs.Shown as shown
 
 -- ---- lists side by side
-pub allzip-at : {A B : Type 0} (R : A → B → Type 0) (xs : List A) (ys : List B) (i : ℕ) (d : A) (e : B) → AllZip R xs ys → i < length xs → R (get_or xs i d) (get_or ys i e)
+pub allzip-at : {A B : Type 0} (R : A → B → Type 0) (xs : List A) (ys : List B) (i : ℕ) (d : A) (e : B) → AllZip R xs ys
+    → i < length xs → R (get_or xs i d) (get_or ys i e)
 allzip-at R [] ys i d e z h = absurd (omega (arith, h))
 allzip-at R (x ∷ xs) [] i d e z h = absurd z
 allzip-at R (x ∷ xs) (y ∷ ys) zero d e z h = z.0
 allzip-at R (x ∷ xs) (y ∷ ys) (suc i) d e z h = allzip-at R xs ys i d e z.1 (omega (arith, h))
 
-pub allzip-length : {A B : Type 0} (R : A → B → Type 0) (xs : List A) (ys : List B) → AllZip R xs ys → length ys ≡ length xs
+pub allzip-length : {A B : Type 0} (R : A → B → Type 0) (xs : List A) (ys : List B)
+    → AllZip R xs ys → length ys ≡ length xs
 allzip-length R [] [] z = refl
 allzip-length R [] (y ∷ ys) z = absurd z
 allzip-length R (x ∷ xs) [] z = absurd z
@@ -52,49 +52,15 @@ pub allzip-from : {A B : Type 0} (R : A → B → Type 0) (xs : List A) (ys : Li
 allzip-from R [] [] same each = tt
 allzip-from R [] (y ∷ ys) same each = omega (arith, same)
 allzip-from R (x ∷ xs) [] same each = omega (arith, same)
-allzip-from R (x ∷ xs) (y ∷ ys) same each = (each 0 x y (omega arith), allzip-from R xs ys (omega (arith, same)) (λ i d e h. each (suc i) d e (omega (arith, h))))
-
--- ---- the greatest label
-abbrev AtMostAt : List Account → ℕ → ℕ → Type 0
-AtMostAt es r c = (m : ℕ) (d : Account) → m < length es → (l : Label) × ((label_at (get_or es m d) r ≡ Some l) × (l.cost ≤ c))
-
-abbrev ExactlyAt : List Account → ℕ → ℕ → Type 0
-ExactlyAt es r c = (m : ℕ) × ((m < length es) × ((d : Account) → (l : Label) × ((label_at (get_or es m d) r ≡ Some l) × (l.cost ≡ c))))
-
-record IsGathered (es : List Account) (r k c : ℕ) : Type 0 where
-  all : AtMostAt es r c
-  above : k ≤ c
-  one : (c ≡ k) ⊎ ExactlyAt es r c
-
--- one more in front
-gathered-more : (x : Account) (es : List Account) (r k c : ℕ) (l : Label) → label_at x r ≡ Some l → IsGathered es r (max k l.cost) c → IsGathered (x ∷ es) r k c
-gathered-more x es r k c l f rest = record { all = all; above = omega (arith, rest.above); one = one rest.one }
-  where
-    all : AtMostAt (x ∷ es) r c
-    all zero d h = (l, (f, omega (arith, rest.above)))
-    all (suc m) d h = rest.all m d (omega (arith, h))
-
-    one : (c ≡ max k l.cost) ⊎ ExactlyAt es r c → (c ≡ k) ⊎ ExactlyAt (x ∷ es) r c
-    one (inr some) = inr (suc some.0, (omega (arith, some.1.0), some.1.1))
-    one (inl same) =
-        elim (cases_lt k l.cost) [
-          | inl less ↦ inr (0, (omega arith, λ d. (l, (f, omega (arith, same)))))
-          | inr most ↦ inl (omega (arith, same))
-        ]
-
-gathered-is : (es : List Account) (r k c : ℕ) → gathered_from k es r ≡ Some c → IsGathered es r k c
-gathered-is [] r k c e =
-    let same : k ≡ c = some-inj k c e in
-    record { all = λ m d h. absurd (omega (arith, h)); above = omega (arith, same); one = inl (sym same) }
-gathered-is (x ∷ es) r k c e = go (λ j. gathered-is es r j c) (label_at x r) refl e
-  where
-    go : ((j : ℕ) → gathered_from j es r ≡ Some c → IsGathered es r j c) → (o : Option Label) → label_at x r ≡ o → with_label o (λ l. gathered_from (max k l.cost) es r) ≡ Some c
-        → IsGathered (x ∷ es) r k c
-    go rest None f g = absurd (let bad : None ≡ Some c = g in cc)
-    go rest (Some l) f g = gathered-more x es r k c l f (rest (max k l.cost) g)
+allzip-from R (x ∷ xs) (y ∷ ys) same each = (
+  each 0 x y (omega arith),
+  allzip-from R xs ys (omega (arith, same))
+      (λ i d e h. each (suc i) d e (omega (arith, h))),
+)
 
 -- ---- a party
-pub record IsParty (w : State) (to : Option ℕ) (ts : List Knowledge) (js : List Journey) (labels : ℕ → ℕ → Option Label) (es : List Account) : Type 0 where
+pub record IsParty (w : State) (to : Option ℕ) (ts : List Knowledge) (js : List Journey) (labels : ℕ → ℕ → Option Label)
+    (es : List Account) : Type 0 where
   pub are : All (IsTraveller w) ts
   pub distinct : AllPairs (λ s t. s.player ≢ t.player) ts
   pub go : AllZip (λ t j. IsJourney w to t.player j) ts js
@@ -108,10 +74,12 @@ abbrev pub nowhere : Journey
 nowhere = record { player = 0; from = 0; way = None }
 
 -- who goes stands where his journey begins
-same-place : (w : State) (to : Option ℕ) (t : Knowledge) (j : Journey) → IsTraveller w t → IsJourney w to t.player j → t.place ≡ j.from
+same-place : (w : State) (to : Option ℕ) (t : Knowledge) (j : Journey) → IsTraveller w t
+    → IsJourney w to t.player j → t.place ≡ j.from
 same-place w to t j is goes = some-inj t.place j.from (sym is.place ∙ goes.from)
 
-pub goers-same : (w : State) (to : Option ℕ) (ts : List Knowledge) (js : List Journey) → All (IsTraveller w) ts → AllZip (λ t j. IsJourney w to t.player j) ts js
+pub goers-same : (w : State) (to : Option ℕ) (ts : List Knowledge) (js : List Journey) → All (IsTraveller w) ts
+    → AllZip (λ t j. IsJourney w to t.player j) ts js
     → goers w ts ≡ goers_of w js
 goers-same w to [] [] are z = refl
 goers-same w to [] (j ∷ js) are z = absurd z
@@ -121,23 +89,28 @@ goers-same w to (t ∷ ts) (j ∷ js) are z =
     let one : ℕ → List Goer = λ p. (roads_of w p, t.place) ∷ goers w ts in
     let two : ℕ → List Goer = λ n. (roads_of w j.player, n) ∷ goers w ts in
     let rest : List Goer → List Goer = λ gs. (roads_of w j.player, j.from) ∷ gs in
-    ap one (sym z.0.player) ∙ ap two (same-place w to t j is z.0) ∙ ap rest (goers-same w to ts js (λ k d h. are (suc k) d (omega (arith, h))) z.1)
+    ap one (sym z.0.player) ∙ ap two (same-place w to t j is z.0)
+    ∙ ap rest (goers-same w to ts js (λ k d h. are (suc k) d (omega (arith, h))) z.1)
 
-pub journeys-of : (w : State) (to : Option ℕ) (ts : List Knowledge) (js : List Journey) → AllZip (λ t j. IsJourney w to t.player j) ts js
+pub journeys-of : (w : State) (to : Option ℕ) (ts : List Knowledge) (js : List Journey)
+    → AllZip (λ t j. IsJourney w to t.player j) ts js
     → AllZip (IsJourney w to) (map (λ t. t.player) ts) js
 journeys-of w to [] [] z = tt
 journeys-of w to [] (j ∷ js) z = absurd z
 journeys-of w to (t ∷ ts) [] z = absurd z
 journeys-of w to (t ∷ ts) (j ∷ js) z = (z.0, journeys-of w to ts js z.1)
 
-pub journeys-inside : (w : State) → IsSound w → (to : Option ℕ) (ts : List Knowledge) (js : List Journey) → All (IsTraveller w) ts
+pub journeys-inside : (w : State) → IsSound w
+    → (to : Option ℕ) (ts : List Knowledge) (js : List Journey) → All (IsTraveller w) ts
     → AllZip (λ t j. IsJourney w to t.player j) ts js → All (IsInside w.next) js
 journeys-inside w sound to ts js are z k d h =
     let inside : k < length ts = omega (arith, allzip-length (λ t j. IsJourney w to t.player j) ts js z) in
     let t = get_or ts k nobody in
-    shown.journey-inside w sound t.player (are k nobody inside).player to (get_or js k d) (allzip-at (λ t j. IsJourney w to t.player j) ts js k nobody d z inside)
+    shown.journey-inside w sound t.player (are k nobody inside).player to (get_or js k d)
+    (allzip-at (λ t j. IsJourney w to t.player j) ts js k nobody d z inside)
 
-module _ (w : State) (sound : IsSound w) (to : Option ℕ) (ts : List Knowledge) (js : List Journey) (labels : ℕ → ℕ → Option Label) (es : List Account)
+module _ (w : State) (sound : IsSound w) (to : Option ℕ) (ts : List Knowledge) (js : List Journey)
+    (labels : ℕ → ℕ → Option Label) (es : List Account)
     (party : IsParty w to ts js labels es) where
   long-js : length js ≡ length ts
   long-js = allzip-length (λ t j. IsJourney w to t.player j) ts js party.go
@@ -164,16 +137,21 @@ module _ (w : State) (sound : IsSound w) (to : Option ℕ) (ts : List Knowledge)
       (party.least m room (who m) (slice_get-get_or ts m nobody (within m h)))
 
   found : (m : ℕ) (d : Account) → m < length es → (room : ℕ) → label_at (get_or es m d) room ≡ labels m room
-  found m d h = shown.found w sound (who m).player (is-player m h) to (journey m) (goes m h) (labels m) (labelled m h) (get_or es m d) (party.listed.each m nowhere d h)
+  found m d h = shown.found w sound (who m).player (is-player m h) to (journey m) (goes m h) (labels m) (labelled m h)
+      (get_or es m d) (party.listed.each m nowhere d h)
 
-  arrives : (m : ℕ) (d : Account) → m < length es → (r : ℕ) (ss : List Step) → to ≡ Some r → (journey m).way ≡ Some ss → arrival_of w (get_or es m d) ≡ Some (r, cost_of ss)
-  arrives m d h = shown.arrives w sound (who m).player (is-player m h) to (journey m) (goes m h) (labels m) (labelled m h) (get_or es m d) (party.listed.each m nowhere d h)
+  arrives : (m : ℕ) (d : Account) → m < length es → (r : ℕ) (ss : List Step) → to ≡ Some r → (journey m).way ≡ Some ss
+      → States w (get_or es m d) r ss × (label_at (get_or es m d) r ≡ Some (total 1 ss))
+  arrives m d h = shown.arrives w sound (who m).player (is-player m h) to (journey m) (goes m h) (labels m)
+      (labelled m h) (get_or es m d) (party.listed.each m nowhere d h)
 
   stays : (m : ℕ) (d : Account) → m < length es → (journey m).way ≡ None → (get_or es m d).walk ≡ None
-  stays m d h = shown.stays w sound (who m).player (is-player m h) to (journey m) (goes m h) (labels m) (labelled m h) (get_or es m d) (party.listed.each m nowhere d h)
+  stays m d h = shown.stays w sound (who m).player (is-player m h) to (journey m) (goes m h) (labels m) (labelled m h)
+      (get_or es m d) (party.listed.each m nowhere d h)
 
   pub members : All (IsMember w Two) es
-  members m d h = shown.valid w sound (who m).player (is-player m h) to (journey m) (goes m h) (labels m) (labelled m h) (get_or es m d) (party.listed.each m nowhere d h)
+  members m d h = shown.valid w sound (who m).player (is-player m h) to (journey m) (goes m h) (labels m) (labelled m h)
+      (get_or es m d) (party.listed.each m nowhere d h)
 
   -- the same of any journey of that place
   goes-from : (m : ℕ) (j : Journey) → m < length es → IsJourney w to (who m).player (get_or js m j)
@@ -184,48 +162,70 @@ module _ (w : State) (sound : IsSound w) (to : Option ℕ) (ts : List Knowledge)
       let go = goes-from m j h in
       let least : Labelled (roads_of w (who m).player) (get_or js m j).from (labels m) = λ room.
       let P : ℕ → Type 0 = λ from. Least 1 (roads_of w (who m).player) from room (labels m room) in
-      subst P (same-place w to (who m) (get_or js m j) (party.are m nobody (within m h)) go) (party.least m room (who m) (slice_get-get_or ts m nobody (within m h))) in
-      shown.account w sound (who m).player (is-player m h) to (get_or js m j) go (labels m) least (get_or es m d) (party.listed.each m j d h))
+      subst P (same-place w to (who m) (get_or js m j) (party.are m nobody (within m h)) go)
+      (party.least m room (who m) (slice_get-get_or ts m nobody (within m h))) in
+      shown.account w sound (who m).player (is-player m h) to (get_or js m j) go (labels m) least
+      (get_or es m d) (party.listed.each m j d h))
 
   distinct : AllPairs (λ (a : Account) (b : Account). a.player ≢ b.player) es
   distinct i k d lt h same =
-      let named : (m : ℕ) → m < length es → (get_or es m d).player ≡ (who m).player = λ m inside. (party.listed.each m nowhere d inside).player ∙ (goes m inside).player in
+      let named : (m : ℕ) → m < length es → (get_or es m d).player ≡ (who m).player =
+      λ m inside. (party.listed.each m nowhere d inside).player ∙ (goes m inside).player in
       let first : i < length es = omega (arith, lt, h) in
       party.distinct i k nobody lt (within k h) (sym (named i first) ∙ same ∙ named k h)
 
-  pub all-valid : (c : Certificate) → c.form ≡ Two → c.members ≡ es → Concludes w es c.conclusion → IsValid w c
+  pub all-valid : (c : Certificate) → c.form ≡ Two → c.members ≡ es → Agrees w Labels es c.conclusion → IsValid w c
   all-valid c form is concludes =
       let P : List Account → Type 0 = λ xs. AllPairs (λ (a : Account) (b : Account). a.player ≢ b.player) xs in
       let M : List Account → Type 0 = λ xs. All (IsMember w c.form) xs in
-      let C : List Account → Type 0 = λ xs. Concludes w xs c.conclusion in
+      let C : List Account → Type 0 = λ xs. Agrees w Labels xs c.conclusion in
       record {
         distinct = subst P (sym is) distinct;
         members = subst M (sym is) (subst (λ f. All (IsMember w f) es) (sym form) members);
         conclusion = subst C (sym is) concludes;
       }
 
+  -- who is at no place
+  abbrev none-at-all : Account
+  none-at-all = record { player = 0; from = 0; labels = []; walk = None }
+
   -- what the labels of the certificate gather, those of the search do
-  gathered-greatest : (r c : ℕ) → 0 < length ts → gathered es r ≡ Some c → IsGreatest (λ m. labels m r) (length ts) c
-  gathered-greatest r c some e =
-      let is = gathered-is es r 0 c e in
-      let a : Account = record { player = 0; from = 0; labels = []; walk = None } in
+  gathered-greatest : (r c : ℕ) → Gathers Labels es r c → IsGreatest (λ m. labels m r) (length ts) c
+  gathered-greatest r c g =
       let inside : (m : ℕ) → m < length ts → m < length es = λ m h. omega (arith, h, party.listed.long, long-js) in
-      let all : (m : ℕ) → m < length ts → (l : Label) × ((labels m r ≡ Some l) × (l.cost ≤ c)) = λ m h.
-      let own = is.all m a (inside m h) in
-      (own.0, (sym (found m a (inside m h) r) ∙ own.1.0, own.1.1)) in
+      let (k, x, lt, e, (l, label, cost)) = g.one in
       record {
-        all = all;
-        one = elim is.one [
-          | inl none ↦ let own = all 0 some in inr (0, (some, (own.0, (own.1.0, omega (arith, own.1.1, none)))))
-          | inr one ↦ let own = one.1.1 a in inr (one.0, (within one.0 one.1.0, (own.0, (sym (found one.0 a one.1.0 r) ∙ own.1.0, own.1.1))))
-        ];
+        all = λ m h.
+            let own = g.all m none-at-all (inside m h) in
+            (own.0, (sym (found m none-at-all (inside m h) r) ∙ own.1, own.2));
+        one = inr (k, (within k lt, (l, (sym (found k x lt r) ∙ ap (λ (a : Account). label_at a r) e ∙ label, cost))));
       }
 
-  gathered-gathers : (r c : ℕ) → 0 < length ts → gathered es r ≡ Some c → Gathers 1 (goers w ts) r c
-  gathered-gathers r c some e = gathers-from_greatest w ts labels party.least r c some (gathered-greatest r c some e)
+  gathered-gathers : (r c : ℕ) → 0 < length ts → Gathers Labels es r c → Gathers (HasLeast 1) (goers w ts) r c
+  gathered-gathers r c some g = gathers-from_greatest w ts labels party.least r c some (gathered-greatest r c g)
+
+  -- and the other way round
+  greatest-gathered : (r c : ℕ) → 0 < length ts → IsGreatest (λ m. labels m r) (length ts) c → Gathers Labels es r c
+  greatest-gathered r c some greatest = record {
+    all = λ m d h. let own = greatest.all m (within m h) in (own.0, found m d h r ∙ own.1.0, own.1.1);
+    one = elim greatest.one [
+      | inl none ↦ absurd (omega (arith, none.0, some))
+      | inr own ↦
+          let m : ℕ = own.0 in
+          let h : m < length es = omega (arith, own.1.0, party.listed.long, long-js) in
+          let x : Account = get_or es m none-at-all in (
+            m,
+            x,
+            h,
+            get_or_default es m x none-at-all h,
+            (own.1.1.0, found m none-at-all h r ∙ own.1.1.1.0, own.1.1.1.1),
+          )
+    ];
+  }
 
   -- where a label is, a way leads
-  way-there : (m : ℕ) → m < length es → (r : ℕ) → to ≡ Some r → (l : Label) → labels m r ≡ Some l → (ss : List Step) × (((journey m).way ≡ Some ss) × (cost_of ss ≡ l.cost))
+  way-there : (m : ℕ) → m < length es → (r : ℕ) → to ≡ Some r → (l : Label) → labels m r ≡ Some l → (ss : List Step)
+      × (((journey m).way ≡ Some ss) × (cost_of ss ≡ l.cost))
   way-there m h r there l e =
       let P : Option ℕ → Type 0 = λ o. IsWayTo (roads_of w (who m).player) (journey m).from o (journey m).way in
       go (journey m).way refl (subst P there (goes m h).way)
@@ -235,67 +235,67 @@ module _ (w : State) (sound : IsSound w) (to : Option ℕ) (ts : List Knowledge)
           let Q : Option Label → Type 0 = λ o. Least 1 (roads_of w (who m).player) (journey m).from r o in
           subst Q e (labelled m h r)
 
-      go : (way : Option (List Step)) → (journey m).way ≡ way → IsWay (roads_of w (who m).player) (journey m).from r way → (ss : List Step) × (((journey m).way ≡ Some ss) × (cost_of ss ≡ l.cost))
+      go : (way : Option (List Step)) → (journey m).way ≡ way → IsWay (roads_of w (who m).player) (journey m).from r way
+          → (ss : List Step) × (((journey m).way ≡ Some ss) × (cost_of ss ≡ l.cost))
       go None f none = absurd (none least.walked.0 least.walked.1)
       go (Some ss) f route =
           let best = (route_is_least (roads_of w (who m).player) (journey m).from r ss route).1 in
-          let same : total 1 ss ≡ l = some-inj (total 1 ss) l (least-one 1 (roads_of w (who m).player) (journey m).from r (Some (total 1 ss)) l best least) in
+          let same : total 1 ss ≡ l = some-inj (total 1 ss) l
+          (least-one 1 (roads_of w (who m).player) (journey m).from r (Some (total 1 ss)) l best least) in
           (ss, (f, ap (λ (x : Label). x.cost) same))
 
-  there-at : (m : ℕ) (d : Account) → m < length es → (r : ℕ) → to ≡ Some r → (l : Label) → labels m r ≡ Some l → arrival_of w (get_or es m d) ≡ Some (r, l.cost)
+  there-at : (m : ℕ) (d : Account) → m < length es → (r : ℕ) → to ≡ Some r → (l : Label) → labels m r ≡ Some l
+      → GoesTo w (Some r) (get_or es m d)
   there-at m d h r there l e =
       let way = way-there m h r there l e in
-      arrives m d h r way.0 there way.1.0 ∙ ap (λ (c : ℕ). Some (r, c)) way.1.1
+      (way.0, (arrives m d h r way.0 there way.1.0).0)
 
   -- the conclusion of a meeting
-  pub concludes-meet : 0 < length ts → (place : Option Meeting) → to ≡ option_map (λ p. p.room) place → IfSome place (λ p. IsTrue (is_room w p.room))
-      → IfSome place (λ p. IsGreatest (λ m. labels m p.room) (length ts) p.cost) → IsPlace (goers w ts) place → Concludes w es (Meet place)
-  concludes-meet some None there room greatest none = (
+  pub concludes-meet : 0 < length ts → (place : Option Meeting) → to ≡ option_map (λ p. p.room) place
+      → IfSome place (λ p. IsGreatest (λ m. labels m p.room) (length ts) p.cost)
+      → IsPlace (HasLeast 1) (goers w ts) place → Agrees w Labels es (Meet place)
+  concludes-meet some None there greatest none = (
     λ m d h.
         let P : Option ℕ → Type 0 = λ o. IsWayTo (roads_of w (who m).player) (journey m).from o (journey m).way in
         stays m d h (subst P there (goes m h).way),
-    λ r. apart r (gathered es r) refl,
+    λ r c g. none r c (gathered-gathers r c some g),
   )
-    where
-      apart : (r : ℕ) (o : Option ℕ) → gathered es r ≡ o → gathered es r ≡ None
-      apart r None e = e
-      apart r (Some c) e = absurd (none r c (gathered-gathers r c some e))
-  concludes-meet some (Some p) there room greatest is = (
-    room,
-    λ m d h. let own = greatest.all m (within m h) in (own.0.cost, there-at m d h p.room there own.0 own.1.0, own.1.1),
-    one greatest.one,
-    λ r c e. is.best r c (gathered-gathers r c some e),
+  concludes-meet some (Some p) there greatest is = (
+    λ m d h. let own = greatest.all m (within m h) in there-at m d h p.room there own.0 own.1.0,
+    record {
+      gathers = greatest-gathered p.room p.cost some greatest;
+      best = λ r c g. is.best r c (gathered-gathers r c some g);
+    },
   )
-    where
-      one : ((length ts ≡ 0) × (p.cost ≡ 0)) ⊎ ((m : ℕ) × ((m < length ts) × ((l : Label) × ((labels m p.room ≡ Some l) × (l.cost ≡ p.cost)))))
-          → Any (λ a. arrival_of w a ≡ Some (p.room, p.cost)) es
-      one (inl none) = absurd (omega (arith, none.0, some))
-      one (inr own) =
-          let a : Account = record { player = 0; from = 0; labels = []; walk = None } in
-          let m : ℕ = own.0 in
-          let h : m < length es = omega (arith, own.1.0, party.listed.long, long-js) in
-          let x : Account = get_or es m a in
-          (m, x, h, get_or_default es m x a h, there-at m a h p.room there own.1.1.0 own.1.1.1.0 ∙ ap (λ (c : ℕ). Some (p.room, c)) own.1.1.1.1)
 
   -- the conclusion of a route, of one member
-  pub concludes-route : length ts ≡ 1 → (r : ℕ) → to ≡ Some r → IsTrue (is_room w r) → Concludes w es (Route r (option_map cost_of (journey 0).way))
+  pub concludes-route : length ts ≡ 1 → (r : ℕ) → to ≡ Some r → IsTrue (is_room w r)
+      → Agrees w Labels es (Route r (option_map cost_of (journey 0).way))
   concludes-route alone r there room = go (journey 0).way refl
     where
       only : (m : ℕ) → m < length es → m ≡ 0
       only m h = omega (arith, within m h, alone)
 
-      none-at : (m : ℕ) → m < length es → (journey m).way ≡ None → (o : Option Label) → labels m r ≡ o → labels m r ≡ None
+      none-at : (m : ℕ) → m < length es → (journey m).way ≡ None → (o : Option Label)
+          → labels m r ≡ o → labels m r ≡ None
       none-at m h way None e = e
       none-at m h way (Some l) e =
           let own = way-there m h r there l e in
           let bad : None ≡ Some own.0 = sym way ∙ own.1.0 in
           absurd (cc)
 
-      go : (way : Option (List Step)) → (journey 0).way ≡ way → Concludes w es (Route r (option_map cost_of way))
-      go (Some ss) e = (room, λ m d h. arrives m d h r ss there (ap (λ (i : ℕ). (journey i).way) (only m h) ∙ e))
-      go None e = (
-        room,
-        λ m d h.
-            let way : (journey m).way ≡ None = ap (λ (i : ℕ). (journey i).way) (only m h) ∙ e in
-            (stays m d h way, found m d h r ∙ none-at m h way (labels m r) refl),
-      )
+      go : (way : Option (List Step)) → (journey 0).way ≡ way → Agrees w Labels es (Route r (option_map cost_of way))
+      go (Some ss) e =
+          let at : (m : ℕ) → m < length es → (journey m).way ≡ Some ss =
+          λ m h. ap (λ (i : ℕ). (journey i).way) (only m h) ∙ e in (
+            room,
+            λ m d h. (ss, (arrives m d h r ss there (at m h)).0),
+            λ m d h. (Some (total 1 ss), (arrives m d h r ss there (at m h)).1, refl),
+          )
+      go None e =
+          let at : (m : ℕ) → m < length es → (journey m).way ≡ None =
+          λ m h. ap (λ (i : ℕ). (journey i).way) (only m h) ∙ e in (
+            room,
+            λ m d h. stays m d h (at m h),
+            λ m d h. (None, found m d h r ∙ none-at m h (at m h) (labels m r) refl, refl),
+          )

@@ -1,5 +1,6 @@
 -- Answers say what they are to say.
-use Rattle.std.proofs.Common.{◌≡◌, ◌≢◌, ℕ, ◌<◌, inl, inr, List, [], ◌∷◌, length, map, get_or, Option, None, Some, refl, sym, ◌∙◌, subst, arith}
+use Rattle.std.proofs.Common.{◌≡◌, ◌≢◌, ℕ, ◌<◌, inl, inr, List, [], ◌∷◌, length, map, get_or, Option, None, Some, refl}
+use Rattle.std.proofs.Common.{sym, ◌∙◌, subst, arith}
 use Rattle.std.specs.Prelude.{All, AllPairs, IfSome, IsTrue, string_bytes}
 use Rattle.std.specs.Option.{option_map, IsSomeAnd}
 use Rattle.std.specs.List.{AllZip}
@@ -8,7 +9,7 @@ use Rattle.mud_world.specs.State.{State, is_room}
 use Rattle.mud_world.specs.Sound.{IsSound}
 use Rattle.mud_roads.specs.declared.label.Label.{Label}
 use Rattle.mud_roads.specs.declared.label.Step.{Step}
-use Rattle.mud_roads.specs.Walks.{total, IsLeast}
+use Rattle.mud_roads.specs.Walks.{total, IsLeast, HasLeast}
 use Rattle.mud_roads.specs.Open.{Knowledge, IsTraveller, roads_of}
 use Rattle.mud_roads.proofs.Roads.{room-below}
 use Rattle.mud_roads.proofs.Routes.{least-one}
@@ -17,23 +18,25 @@ use Rattle.mud_cert.specs.declared.cert.Meeting.{Meeting}
 use Rattle.mud_cert.specs.declared.cert.Conclusion.{Conclusion}
 use Rattle.mud_cert.specs.declared.cert.Conclusion.TheVariants.{Route, Meet}
 use Rattle.mud_cert.specs.Certificate.{Certificate, IsNumber, IsAmount, IsCertificate}
-use Rattle.mud_cert.specs.Valid.{Concludes, IsValid}
+use Rattle.mud_cert.specs.Valid.{IsPlace, Agrees, IsValid}
+use Rattle.mud_cert.proofs.Conclusions.{Labels}
 use Rattle.mud_search.specs.Least.{AreLeast, AreBounded}
 use Rattle.mud_guide.specs.declared.answer.Answer.{Answer}
 use Rattle.mud_guide.specs.Ways.{cost_of, IsWay}
 use Rattle.mud_guide.specs.Journeys.{Journey, IsJourney}
 use Rattle.mud_guide.specs.Listings.{AreListed}
-use Rattle.mud_guide.specs.Meetings.{IsPlace}
 use Rattle.mud_guide.specs.Gatherings.{IsGreatest}
 use Rattle.mud_guide.specs.Texts.{route_text, meet_text}
 use Rattle.mud_guide.specs.Answers.{IsCertOf, IsRouteAnswer, IsMeetAnswer}
 use Rattle.mud_guide.proofs.Lowest.{some-inj}
 use Rattle.mud_guide.proofs.Totals.{route_is_least}
 use Rattle.mud_guide.proofs.Gather.{goers}
-use Rattle.mud_guide.proofs.Party.{IsParty, goers-same, journeys-of, accounts, all-valid, concludes-meet, concludes-route}
+use Rattle.mud_guide.proofs.Party.{IsParty, goers-same, journeys-of, accounts, all-valid, concludes-meet}
+use Rattle.mud_guide.proofs.Party.{concludes-route}
 
 -- what the certificate is made of
-pub record IsMade (w : State) (v : ℕ) (labels : ℕ → ℕ → Option Label) (js : List Journey) (says : Conclusion) (c : Certificate) : Type 0 where
+pub record IsMade (w : State) (v : ℕ) (labels : ℕ → ℕ → Option Label) (js : List Journey) (says : Conclusion)
+    (c : Certificate) : Type 0 where
   pub version : c.version ≡ v
   pub form : c.form ≡ Two
   pub members : AreListed labels w.next js c.members
@@ -41,11 +44,14 @@ pub record IsMade (w : State) (v : ℕ) (labels : ℕ → ℕ → Option Label) 
   pub limits : IsCertificate c
 
 -- ---- limits
-amount-is : (labels : ℕ → ℕ → Option Label) → AreBounded labels → (m room : ℕ) (l : Label) → labels m room ≡ Some l → IsAmount l.cost
+amount-is : (labels : ℕ → ℕ → Option Label) → AreBounded labels → (m room : ℕ) (l : Label)
+    → labels m room ≡ Some l → IsAmount l.cost
 amount-is labels bounded m room l e = omega (arith, (bounded m room l e).0)
 
-pub meeting-limits : (w : State) → IsSound w → (labels : ℕ → ℕ → Option Label) → AreBounded labels → (members : ℕ) → 0 < members → (place : Option Meeting)
-    → IfSome place (λ p. IsTrue (is_room w p.room)) → IfSome place (λ p. IsGreatest (λ m. labels m p.room) members p.cost)
+pub meeting-limits : (w : State) → IsSound w → (labels : ℕ → ℕ → Option Label) → AreBounded labels → (members : ℕ)
+    → 0 < members → (place : Option Meeting)
+    → IfSome place (λ p. IsTrue (is_room w p.room))
+    → IfSome place (λ p. IsGreatest (λ m. labels m p.room) members p.cost)
     → IfSome place (λ p. IsNumber p.room × IsAmount p.cost)
 meeting-limits w sound labels bounded members some None room greatest = tt
 meeting-limits w sound labels bounded members some (Some p) room greatest = (
@@ -59,19 +65,23 @@ meeting-limits w sound labels bounded members some (Some p) room greatest = (
 pub number-is : (w : State) → IsSound w → (room : ℕ) → IsTrue (is_room w room) → IsNumber room
 number-is w sound room is = omega (arith, room-below w sound room is, sound.limit)
 
-pub cost-limits : (w : State) (t : Knowledge) (j : Journey) (room : ℕ) (labels : ℕ → ℕ → Option Label) → IsTraveller w t → IsJourney w (Some room) t.player j
+pub cost-limits : (w : State) (t : Knowledge) (j : Journey) (room : ℕ) (labels : ℕ → ℕ → Option Label) → IsTraveller w t
+    → IsJourney w (Some room) t.player j
     → AreLeast w (t ∷ []) labels → AreBounded labels → IfSome (option_map cost_of j.way) IsAmount
 cost-limits w t j room labels is goes least bounded = go j.way goes.way
   where
     from : t.place ≡ j.from
     from = some-inj t.place j.from (sym is.place ∙ goes.from)
 
-    go : (way : Option (List Step)) → IsWay (roads_of w t.player) j.from room way → IfSome (option_map cost_of way) IsAmount
+    go : (way : Option (List Step)) → IsWay (roads_of w t.player) j.from room way
+        → IfSome (option_map cost_of way) IsAmount
     go None none = tt
     go (Some ss) route =
         let P : ℕ → Type 0 = λ f. IsLeast 1 (roads_of w t.player) f room (total 1 ss) in
-        let best : IsLeast 1 (roads_of w t.player) t.place room (total 1 ss) = subst P (sym from) (route_is_least (roads_of w t.player) j.from room ss route).1 in
-        let label = least-one 1 (roads_of w t.player) t.place room (labels 0 room) (total 1 ss) (least 0 room t refl) best in
+        let best : IsLeast 1 (roads_of w t.player) t.place room (total 1 ss) =
+        subst P (sym from) (route_is_least (roads_of w t.player) j.from room ss route).1 in
+        let label = least-one 1 (roads_of w t.player) t.place room (labels 0 room) (total 1 ss)
+        (least 0 room t refl) best in
         amount-is labels bounded 0 room (total 1 ss) label
 
 -- ---- one traveller
@@ -82,13 +92,15 @@ all-one P x p k d h =
     subst Q (sym same) p
 
 -- distinct players are those of distinct travellers
-pub apart-from : (ts : List Knowledge) (ps : List ℕ) → map (λ t. t.player) ts ≡ ps → AllPairs (λ p q. p ≢ q) ps → AllPairs (λ s t. s.player ≢ t.player) ts
+pub apart-from : (ts : List Knowledge) (ps : List ℕ) → map (λ t. t.player) ts ≡ ps → AllPairs (λ p q. p ≢ q) ps
+    → AllPairs (λ s t. s.player ≢ t.player) ts
 apart-from ts ps is apart i j d lt h same =
     let P : List ℕ → Type 0 = λ xs. AllPairs (λ p q. p ≢ q) xs in
     let named : List ℕ = map (λ (t : Knowledge). t.player) ts in
     let each : AllPairs (λ p q. p ≢ q) named = subst P (sym is) apart in
     let inside : j < length named = omega (arith, h, length-map ts (λ (t : Knowledge). t.player)) in
-    let at : (k : ℕ) → k < length ts → get_or named k 0 ≡ (get_or ts k d).player = λ k lt. get_or-map (λ (t : Knowledge). t.player) ts k d 0 lt in
+    let at : (k : ℕ) → k < length ts → get_or named k 0 ≡ (get_or ts k d).player =
+    λ k lt. get_or-map (λ (t : Knowledge). t.player) ts k d 0 lt in
     each i j 0 lt inside (at i (omega (arith, lt, h)) ∙ same ∙ sym (at j h))
 
 shown-some : (o : Option Certificate) (c : Certificate) (P : Certificate → Type 0) → o ≡ Some c → P c → IsSomeAnd o P
@@ -96,7 +108,8 @@ shown-some o c P e p =
     let Q : Option Certificate → Type 0 = λ x. IsSomeAnd x P in
     subst Q (sym e) p
 
-pub route-answer : (w : State) → IsSound w → (v : ℕ) (t : Knowledge) (labels : ℕ → ℕ → Option Label) (room : ℕ) (j : Journey) (c : Certificate) (a : Answer)
+pub route-answer : (w : State) → IsSound w → (v : ℕ) (t : Knowledge) (labels : ℕ → ℕ → Option Label) (room : ℕ)
+    (j : Journey) (c : Certificate) (a : Answer)
     → IsTraveller w t → AreLeast w (t ∷ []) labels → IsTrue (is_room w room) → IsJourney w (Some room) t.player j
     → IsMade w v labels (j ∷ []) (Route room (option_map cost_of j.way)) c
     → a.version ≡ v → string_bytes a.text ≡ route_text room j → a.cert ≡ Some c → IsRouteAnswer w v t.player room a
@@ -112,37 +125,58 @@ route-answer w sound v t labels room j c a is least here goes made version text 
       listed = made.members;
     } in
     let says : Conclusion = Route room (option_map cost_of j.way) in
-    let C : Conclusion → Type 0 = λ x. Concludes w c.members x in
-    let concludes : Concludes w c.members c.conclusion = subst C (sym made.conclusion) (concludes-route w sound to ts js labels c.members party refl room refl here) in
+    let C : Conclusion → Type 0 = λ x. Agrees w Labels c.members x in
+    let concludes : Agrees w Labels c.members c.conclusion =
+    subst C (sym made.conclusion) (concludes-route w sound to ts js labels c.members party refl room refl here) in
     record {
       journey = j;
       goes = goes;
       version = version;
       text = text;
       cert = shown-some a.cert c (IsCertOf w v js says) cert
-          (record { version = made.version; form = made.form; members = accounts w sound to ts js labels c.members party; conclusion = made.conclusion; limits = made.limits });
-      valid = shown-some a.cert c (IsValid w) cert (all-valid w sound to ts js labels c.members party c made.form refl concludes);
+          (record {
+            version = made.version;
+            form = made.form;
+            members =
+                accounts w sound to ts js labels c.members party;
+            conclusion = made.conclusion;
+            limits = made.limits;
+          });
+      valid = shown-some a.cert c (IsValid w) cert
+          (all-valid w sound to ts js labels c.members party c made.form refl concludes);
     }
 
-pub meet-answer : (w : State) → IsSound w → (v : ℕ) (ts : List Knowledge) (labels : ℕ → ℕ → Option Label) (place : Option Meeting) (js : List Journey) (c : Certificate) (a : Answer)
+pub meet-answer : (w : State) → IsSound w → (v : ℕ) (ts : List Knowledge) (labels : ℕ → ℕ → Option Label)
+    (place : Option Meeting) (js : List Journey) (c : Certificate) (a : Answer)
     → All (IsTraveller w) ts → AllPairs (λ s t. s.player ≢ t.player) ts → 0 < length ts → AreLeast w ts labels
-    → IsPlace (goers w ts) place → IfSome place (λ p. IsTrue (is_room w p.room)) → IfSome place (λ p. IsGreatest (λ m. labels m p.room) (length ts) p.cost)
+    → IsPlace (HasLeast 1) (goers w ts) place → IfSome place (λ p. IsGreatest (λ m. labels m p.room) (length ts) p.cost)
     → AllZip (λ t j. IsJourney w (option_map (λ p. p.room) place) t.player j) ts js
     → IsMade w v labels js (Meet place) c
-    → a.version ≡ v → string_bytes a.text ≡ meet_text place js → a.cert ≡ Some c → IsMeetAnswer w v (map (λ t. t.player) ts) a
-meet-answer w sound v ts labels place js c a are distinct some least is room greatest go made version text cert =
+    → a.version ≡ v → string_bytes a.text ≡ meet_text place js → a.cert ≡ Some c
+    → IsMeetAnswer w v (map (λ t. t.player) ts) a
+meet-answer w sound v ts labels place js c a are distinct some least is greatest go made version text cert =
     let to : Option ℕ = option_map (λ (p : Meeting). p.room) place in
-    let party : IsParty w to ts js labels c.members = record { are = are; distinct = distinct; go = go; least = least; listed = made.members } in
-    let C : Conclusion → Type 0 = λ x. Concludes w c.members x in
-    let concludes : Concludes w c.members c.conclusion = subst C (sym made.conclusion) (concludes-meet w sound to ts js labels c.members party some place refl room greatest is) in
+    let party : IsParty w to ts js labels c.members =
+    record { are = are; distinct = distinct; go = go; least = least; listed = made.members } in
+    let C : Conclusion → Type 0 = λ x. Agrees w Labels c.members x in
+    let concludes : Agrees w Labels c.members c.conclusion = subst C (sym made.conclusion)
+    (concludes-meet w sound to ts js labels c.members party some place refl greatest is) in
     record {
       place = place;
       journeys = js;
       go = journeys-of w to ts js go;
-      meet = subst (λ gs. IsPlace gs place) (goers-same w to ts js are go) is;
+      meet = subst (λ gs. IsPlace (HasLeast 1) gs place) (goers-same w to ts js are go) is;
       version = version;
       text = text;
       cert = shown-some a.cert c (IsCertOf w v js (Meet place)) cert
-          (record { version = made.version; form = made.form; members = accounts w sound to ts js labels c.members party; conclusion = made.conclusion; limits = made.limits });
-      valid = shown-some a.cert c (IsValid w) cert (all-valid w sound to ts js labels c.members party c made.form refl concludes);
+          (record {
+            version = made.version;
+            form = made.form;
+            members =
+                accounts w sound to ts js labels c.members party;
+            conclusion = made.conclusion;
+            limits = made.limits;
+          });
+      valid = shown-some a.cert c (IsValid w) cert
+          (all-valid w sound to ts js labels c.members party c made.form refl concludes);
     }

@@ -22,8 +22,10 @@ rising-head : (e : Entry) (es : List Entry) → AllPairs Below (e ∷ es) → (x
 rising-head e es rising x (k, inside, is) =
     subst (λ (y : Entry). e.0 < y.0) is (rising 0 (suc k) x (omega arith) (omega arith))
 
-same-head : (e f : Entry) (es fs : List Entry) → AllPairs Below (e ∷ es) → AllPairs Below (f ∷ fs) → AreAmong (f ∷ fs) (e ∷ es) → AreAmong (e ∷ es) (f ∷ fs) → e ≡ f
-same-head e f es fs p q there back = go (contains-cases f e fs (there e (contains-head e es))) (contains-cases e f es (back f (contains-head f fs)))
+same-head : (e f : Entry) (es fs : List Entry) → AllPairs Below (e ∷ es) → AllPairs Below (f ∷ fs)
+    → AreAmong (f ∷ fs) (e ∷ es) → AreAmong (e ∷ es) (f ∷ fs) → e ≡ f
+same-head e f es fs p q there back =
+    go (contains-cases f e fs (there e (contains-head e es))) (contains-cases e f es (back f (contains-head f fs)))
   where
     go : (f ≡ e) ⊎ Contains fs e → (e ≡ f) ⊎ Contains es f → e ≡ f
     go (inl same) c = sym same
@@ -31,19 +33,22 @@ same-head e f es fs p q there back = go (contains-cases f e fs (there e (contain
     go (inr c) (inr d) = absurd (omega (arith, rising-head e es p f d, rising-head f fs q e c))
 
 -- what comes after the same first one is among what comes after it
-same-among : (e f : Entry) (es fs : List Entry) → AllPairs Below (e ∷ es) → e ≡ f → AreAmong (f ∷ fs) (e ∷ es) → AreAmong fs es
+same-among : (e f : Entry) (es fs : List Entry) → AllPairs Below (e ∷ es) → e ≡ f
+    → AreAmong (f ∷ fs) (e ∷ es) → AreAmong fs es
 same-among e f es fs p same there x c = go (contains-cases f x fs (there x (contains-tail e x es c)))
   where
     go : (f ≡ x) ⊎ Contains fs x → Contains fs x
     go (inl is) = absurd (omega (arith, rising-head e es p x c, ap (λ (y : Entry). y.0) (same ∙ is)))
     go (inr d) = d
 
-pub rising-one : (es fs : List Entry) → AllPairs Below es → AllPairs Below fs → AreAmong fs es → AreAmong es fs → es ≡ fs
+pub rising-one : (es fs : List Entry) → AllPairs Below es → AllPairs Below fs
+    → AreAmong fs es → AreAmong es fs → es ≡ fs
 rising-one [] [] p q there back = refl
 rising-one [] (f ∷ fs) p q there back = absurd (contains-nil f (back f (contains-head f fs)))
 rising-one (e ∷ es) [] p q there back = absurd (contains-nil e (there e (contains-head e es)))
 rising-one (e ∷ es) (f ∷ fs) p q there back =
     let same : e ≡ f = same-head e f es fs p q there back in
     let rest : es ≡ fs =
-    rising-one es fs (rising-tail e es p) (rising-tail f fs q) (same-among e f es fs p same there) (same-among f e fs es q (sym same) back) in
+    rising-one es fs (rising-tail e es p) (rising-tail f fs q) (same-among e f es fs p same there)
+    (same-among f e fs es q (sym same) back) in
     ap (λ (x : Entry). x ∷ es) same ∙ ap (λ (xs : List Entry). f ∷ xs) rest

@@ -1,5 +1,6 @@
 -- What is claimed of one member is so.
-use Rattle.std.proofs.Common.{◌≡◌, ℕ, ◌<◌, false, List, [], ◌∷◌, get_or, Option, None, Some, refl, sym, ◌∙◌, ap, subst, arith}
+use Rattle.std.proofs.Common.{◌≡◌, ℕ, ◌<◌, ◌⊎◌, inl, inr, false, List, [], ◌∷◌, get_or, Option, None, Some, refl, sym}
+use Rattle.std.proofs.Common.{◌∙◌, ap, subst, arith}
 use Rattle.std.specs.Prelude.{Contains, All, IfSome, IsTrue}
 use Rattle.std.specs.Option.{option_map, option_map_or, option_and_then}
 use Rattle.std.proofs.lemmas.Bool.{true≢false}
@@ -12,18 +13,17 @@ use Rattle.mud_world.proofs.Records.{record_cases, in_bounds}
 use Rattle.mud_roads.specs.declared.label.Label.{Label}
 use Rattle.mud_roads.specs.declared.label.Step.{Step}
 use Rattle.mud_roads.specs.Walks.{Walk, total, IsLeast, Least, IsRoute}
-use Rattle.mud_roads.specs.Open.{step_by, roads_of}
+use Rattle.mud_roads.specs.Open.{roads_of}
 use Rattle.mud_roads.proofs.Roads.{road-at, room-below, steps-rooms, player-place}
 use Rattle.mud_roads.proofs.Routes.{least-one, least_is_valid}
 use Rattle.mud_cert.specs.declared.cert.Form.TheVariants.{Two}
 use Rattle.mud_cert.specs.Certificate.{Account}
 use Rattle.mud_cert.specs.Lookup.{label_at}
 use Rattle.mud_cert.specs.Lookup as lookup
-use Rattle.mud_cert.specs.Ways.{step_of, steps_of, end_of, arrival, arrival_of}
-use Rattle.mud_cert.specs.Valid.{IsLabelledWalk, IsMember}
+use Rattle.mud_cert.specs.Valid.{States, IsMember}
 use Rattle.mud_cert.proofs.Lookups.{label-found, label-missing}
 use Rattle.mud_guide.specs.Arrivals.{Labelled}
-use Rattle.mud_guide.specs.Ways.{cost_of, exits_of, IsWayTo}
+use Rattle.mud_guide.specs.Ways.{exits_of, IsWayTo}
 use Rattle.mud_guide.specs.Journeys.{Journey, IsJourney}
 use Rattle.mud_guide.specs.Accounts.{AreLeastLabels, IsAccountOf}
 use Rattle.mud_guide.specs.Listings.{IsInside, IsListed}
@@ -46,50 +46,42 @@ exit-below w sound n a is =
 abbrev pub ends_of : ℕ → Step → Passage
 ends_of from s = record { source = from; destination = s.to; cost = s.cost }
 
-walk-exits : (w : State) → IsSound w → (p from to : ℕ) (ss : List Step) → Walk (roads_of w p) from ss to → All (λ s. s.exit < w.next) ss
+walk-exits : (w : State) → IsSound w → (p from to : ℕ) (ss : List Step) → Walk (roads_of w p) from ss to
+    → All (λ s. s.exit < w.next) ss
 walk-exits w sound p from to [] e = All-nil (λ (s : Step). s.exit < w.next)
 walk-exits w sound p from to (s ∷ ss) (c, rest) =
-    All-cons (λ (s : Step). s.exit < w.next) s ss (exit-below w sound s.exit (ends_of from s) (road-at w sound p from s c).0) (walk-exits w sound p s.to to ss rest)
+    All-cons (λ (s : Step). s.exit < w.next) s ss
+    (exit-below w sound s.exit (ends_of from s) (road-at w sound p from s c).0)
+    (walk-exits w sound p s.to to ss rest)
 
 -- a walk from a room ends at a room
-pub walk-room : (w : State) → IsSound w → (p from to : ℕ) (ss : List Step) → IsTrue (is_room w from) → Walk (roads_of w p) from ss to → IsTrue (is_room w to)
+pub walk-room : (w : State) → IsSound w → (p from to : ℕ) (ss : List Step) → IsTrue (is_room w from)
+    → Walk (roads_of w p) from ss to → IsTrue (is_room w to)
 walk-room w sound p from to [] is e = subst (λ (r : ℕ). IsTrue (is_room w r)) e is
-walk-room w sound p from to (s ∷ ss) is (c, rest) = walk-room w sound p s.to to ss (steps-rooms w sound p from s c).1 rest
-
--- the steps of its exits are those of the walk
-steps-back : (w : State) → IsSound w → (p from to : ℕ) (ss : List Step) → Walk (roads_of w p) from ss to → steps_of w (exits_of ss) ≡ ss
-steps-back w sound p from to [] e = refl
-steps-back w sound p from to (s ∷ ss) (c, rest) =
-    let first : step_of w s.exit ≡ s = ap (λ (o : Option Passage). option_map_or (step_by s.exit) o (record { exit = s.exit; to = 0; cost = 0 })) (road-at w sound p from s c).0 in
-    ap (λ (x : Step). x ∷ steps_of w (exits_of ss)) first ∙ ap (λ (xs : List Step). s ∷ xs) (steps-back w sound p s.to to ss rest)
-
-end-is : (w : State) (p from to : ℕ) (ss : List Step) → Walk (roads_of w p) from ss to → end_of from ss ≡ to
-end-is w p from to [] e = e
-end-is w p from to (s ∷ ss) (c, rest) = end-is w p s.to to ss rest
-
-arrival-is : (w : State) → IsSound w → (p from to : ℕ) (ss : List Step) → Walk (roads_of w p) from ss to → arrival w from (Some (exits_of ss)) ≡ Some (to, cost_of ss)
-arrival-is w sound p from to ss walk =
-    let at : List Step → Option (ℕ × ℕ) = λ xs. Some (end_of from xs, (total 0 xs).cost) in
-    let there : ℕ → Option (ℕ × ℕ) = λ n. Some (n, cost_of ss) in
-    ap at (steps-back w sound p from to ss walk) ∙ ap there (end-is w p from to ss walk)
+walk-room w sound p from to (s ∷ ss) is (c, rest) =
+    walk-room w sound p s.to to ss (steps-rooms w sound p from s c).1 rest
 
 -- the numbers of a journey are those of objects
-pub journey-inside : (w : State) → IsSound w → (p : ℕ) → IsTrue (is_player w p) → (to : Option ℕ) (j : Journey) → IsJourney w to p j → IsInside w.next j
+pub journey-inside : (w : State) → IsSound w → (p : ℕ) → IsTrue (is_player w p) → (to : Option ℕ) (j : Journey)
+    → IsJourney w to p j → IsInside w.next j
 journey-inside w sound p player to j is = record {
   player = omega (arith, is.player, player-below w sound p player);
   from = room-below w sound j.from (player-place w sound p j.from player is.from);
   exits = go to j.way is.way;
 }
   where
-    go : (to : Option ℕ) (way : Option (List Step)) → IsWayTo (roads_of w p) j.from to way → IfSome way (All (λ s. s.exit < w.next))
+    go : (to : Option ℕ) (way : Option (List Step)) → IsWayTo (roads_of w p) j.from to way
+        → IfSome way (All (λ s. s.exit < w.next))
     go None None e = tt
     go None (Some ss) e = absurd (cc)
     go (Some r) None e = tt
     go (Some r) (Some ss) e = walk-exits w sound p j.from r ss (route_is_least (roads_of w p) j.from r ss e).0
 
 -- ---- one member
-module _ (w : State) (sound : IsSound w) (p : ℕ) (player : IsTrue (is_player w p)) (to : Option ℕ) (j : Journey) (goes : IsJourney w to p j)
-    (labels : ℕ → Option Label) (least : Labelled (roads_of w p) j.from labels) (a : Account) (listed : IsListed labels w.next j a) where
+module _ (w : State) (sound : IsSound w) (p : ℕ) (player : IsTrue (is_player w p)) (to : Option ℕ)
+    (j : Journey) (goes : IsJourney w to p j)
+    (labels : ℕ → Option Label) (least : Labelled (roads_of w p) j.from labels) (a : Account)
+    (listed : IsListed labels w.next j a) where
   stands : IsTrue (is_room w j.from)
   stands = player-place w sound p j.from player goes.from
 
@@ -123,7 +115,13 @@ module _ (w : State) (sound : IsSound w) (p : ℕ) (player : IsTrue (is_player w
   pub account : IsAccountOf w j a
   account =
       let P : ℕ → Type 0 = λ q. AreLeastLabels (roads_of w q) j.from a.labels in
-      record { player = listed.player; from = listed.from; labels = subst P (sym goes.player) least-labels; walk = listed.walk }
+      record {
+        player = listed.player;
+        from = listed.from;
+        labels =
+            subst P (sym goes.player) least-labels;
+        walk = listed.walk;
+      }
 
   -- the certificate has the labels
   pub found : (room : ℕ) → label_at a room ≡ labels room
@@ -134,7 +132,8 @@ module _ (w : State) (sound : IsSound w) (p : ℕ) (player : IsTrue (is_player w
           let c = listed.entries.whole room l (label-below room l e) e in
           let pair : ℕ × Label = (room, l) in
           let same : get_or a.labels c.0 pair ≡ pair = c.2 in
-          label-found a.labels room c.0 pair listed.entries.rising c.1 (ap (λ (x : ℕ × Label). x.0) same) ∙ ap (λ (x : ℕ × Label). Some x.1) same
+          label-found a.labels room c.0 pair listed.entries.rising c.1 (ap (λ (x : ℕ × Label). x.0) same)
+          ∙ ap (λ (x : ℕ × Label). Some x.1) same
       go None e = label-missing a.labels room (λ i d lt same.
           let at = listed.entries.inside i d lt in
           let bad : Some (get_or a.labels i d).1 ≡ None = sym at.1 ∙ ap labels same ∙ e in
@@ -146,18 +145,31 @@ module _ (w : State) (sound : IsSound w) (p : ℕ) (player : IsTrue (is_player w
 
   own-is : own ≡ a
   own-is =
-      let one : ℕ → Account = λ q. record { player = q; from = j.from; labels = a.labels; walk = option_map exits_of j.way } in
-      let two : ℕ → Account = λ f. record { player = a.player; from = f; labels = a.labels; walk = option_map exits_of j.way } in
-      let three : Option (List ℕ) → Account = λ k. record { player = a.player; from = a.from; labels = a.labels; walk = k } in
+      let one : ℕ → Account =
+      λ q. record { player = q; from = j.from; labels = a.labels; walk = option_map exits_of j.way } in
+      let two : ℕ → Account =
+      λ f. record { player = a.player; from = f; labels = a.labels; walk = option_map exits_of j.way } in
+      let three : Option (List ℕ) → Account =
+      λ k. record { player = a.player; from = a.from; labels = a.labels; walk = k } in
       ap one (sym goes.player ∙ sym listed.player) ∙ ap two (sym listed.from) ∙ ap three (sym listed.walk)
 
-  way-walk : (to : Option ℕ) (way : Option (List Step)) → IsWayTo (roads_of w p) j.from to way → IfSome (option_map exits_of way) (IsLabelledWalk w Two own)
-  way-walk None None e = tt
-  way-walk None (Some ss) e = absurd (cc)
-  way-walk (Some r) None e = tt
-  way-walk (Some r) (Some ss) e =
-      let is = route_is_least (roads_of w p) j.from r ss e in
-      record { steps = ss; to = r; exits_are = refl; walk = is.0; label = found r ∙ least-one 1 (roads_of w p) j.from r (labels r) (total 1 ss) (least r) is.1 }
+  -- his way leads where it is to, and its label is that of the room
+  abbrev Fits : Account → ℕ → List Step → Type 0
+  Fits m r ss = States w m r ss × (label_at m r ≡ Some (total 1 ss))
+
+  fits : (r : ℕ) (ss : List Step) → j.way ≡ Some ss → IsRoute 1 (roads_of w p) j.from r ss → Fits own r ss
+  fits r ss way route =
+      let is = route_is_least (roads_of w p) j.from r ss route in (
+        record { stated = ap (option_map exits_of) way; walk = is.0 },
+        found r ∙ least-one 1 (roads_of w p) j.from r (labels r) (total 1 ss) (least r) is.1,
+      )
+
+  way-walk : (to : Option ℕ) (way : Option (List Step)) → j.way ≡ way → IsWayTo (roads_of w p) j.from to way
+      → (own.walk ≡ None) ⊎ ((r : ℕ) × (ss : List Step) × States w own r ss × (label_at own r ≡ Some (total 1 ss)))
+  way-walk None None way e = inl (ap (option_map exits_of) way)
+  way-walk None (Some ss) way e = absurd (cc)
+  way-walk (Some r) None way e = inl (ap (option_map exits_of) way)
+  way-walk (Some r) (Some ss) way e = let f = fits r ss way e in inr (r, ss, f.0, f.1)
 
   pub valid : IsMember w Two a
   valid =
@@ -169,16 +181,17 @@ module _ (w : State) (sound : IsSound w) (p : ℕ) (player : IsTrue (is_player w
         place = goes.from;
         rooms = λ k d h. label-room (get_or a.labels k d).0 (get_or a.labels k d).1 (listed.entries.inside k d h).1;
         labels = least_is_valid 1 (roads_of w p) j.from (label_at own) known;
-        walk = way-walk to j.way goes.way;
+        walk = way-walk to j.way refl goes.way;
       })
 
-  -- his walk ends there, at its cost
-  pub arrives : (r : ℕ) (ss : List Step) → to ≡ Some r → j.way ≡ Some ss → arrival_of w a ≡ Some (r, cost_of ss)
+  -- his walk ends there, and its label is that of the room
+  pub arrives : (r : ℕ) (ss : List Step) → to ≡ Some r → j.way ≡ Some ss → States w a r ss
+      × (label_at a r ≡ Some (total 1 ss))
   arrives r ss there way =
       let P : Option ℕ → Option (List Step) → Type 0 = λ o v. IsWayTo (roads_of w p) j.from o v in
-      let route : IsRoute 1 (roads_of w p) j.from r ss = subst (P (Some r)) way (subst (λ (o : Option ℕ). P o j.way) there goes.way) in
-      ap (arrival_of w) (sym own-is) ∙ ap (λ (v : Option (List Step)). arrival w j.from (option_map exits_of v)) way
-      ∙ arrival-is w sound p j.from r ss (route_is_least (roads_of w p) j.from r ss route).0
+      let route : IsRoute 1 (roads_of w p) j.from r ss =
+      subst (P (Some r)) way (subst (λ (o : Option ℕ). P o j.way) there goes.way) in
+      subst (λ (m : Account). Fits m r ss) own-is (fits r ss way route)
 
   -- without a way he stays
   pub stays : j.way ≡ None → a.walk ≡ None

@@ -5,7 +5,7 @@ use Rattle.std.specs.List.{AllZip}
 use Rattle.mud_world.specs.State.{State}
 use Rattle.mud_world.specs.Sound.{IsSound}
 use Rattle.mud_roads.specs.declared.label.Step.{Step}
-use Rattle.mud_roads.specs.Walks.{Roads, Goer}
+use Rattle.mud_roads.specs.Walks.{Roads, Goer, HasLeast}
 use Rattle.mud_roads.specs.Open.{roads_of}
 use Rattle.mud_roads.proofs.Single.{route_is_one, meeting_is_one}
 use Rattle.mud_cert.specs.declared.cert.Form.{Form}
@@ -16,7 +16,7 @@ use Rattle.mud_cert.specs.Certificate.{Account, Certificate}
 use Rattle.mud_guide.specs.Ways.{cost_of, IsWay, IsWayTo}
 use Rattle.mud_guide.specs.Journeys.{Journey, IsJourney, goers_of}
 use Rattle.mud_guide.specs.Accounts.{AreLeastLabels, IsAccountOf}
-use Rattle.mud_guide.specs.Meetings.{IsPlace}
+use Rattle.mud_cert.specs.Valid.{IsPlace}
 use Rattle.mud_guide.specs.Texts.{route_text, meet_text}
 use Rattle.mud_guide.specs.Answers.{IsCertOf}
 use Rattle.mud_guide.specs.Laws.{RouteAnswerIsOne, MeetAnswerIsOne}
@@ -25,32 +25,38 @@ use Rattle.mud_guide.proofs.Totals.{route_is_least}
 use Rattle.mud_guide.proofs.Rising.{Entry, AreAmong, rising-one}
 
 -- ---- journeys
-way-one : (w : State) → IsSound w → (p from to : ℕ) (a b : Option (List Step)) → IsWay (roads_of w p) from to a → IsWay (roads_of w p) from to b → a ≡ b
+way-one : (w : State) → IsSound w → (p from to : ℕ) (a b : Option (List Step)) → IsWay (roads_of w p) from to a
+    → IsWay (roads_of w p) from to b → a ≡ b
 way-one w sound p from to None None x y = refl
 way-one w sound p from to None (Some ss) x y = absurd (x ss (route_is_least (roads_of w p) from to ss y).0)
 way-one w sound p from to (Some ss) None x y = absurd (y ss (route_is_least (roads_of w p) from to ss x).0)
 way-one w sound p from to (Some ss) (Some ts) x y = ap Some (route_is_one w sound p from to ss ts x y)
 
-way_to-one : (w : State) → IsSound w → (p from : ℕ) (to : Option ℕ) (a b : Option (List Step)) → IsWayTo (roads_of w p) from to a
+way_to-one : (w : State) → IsSound w → (p from : ℕ) (to : Option ℕ) (a b : Option (List Step))
+    → IsWayTo (roads_of w p) from to a
     → IsWayTo (roads_of w p) from to b → a ≡ b
 way_to-one w sound p from None a b x y = x ∙ sym y
 way_to-one w sound p from (Some to) a b x y = way-one w sound p from to a b x y
 
 -- who goes, and from where, whatever the rooms are to which they go
-same-start : (w : State) (to to' : Option ℕ) (p : ℕ) (i j : Journey) → IsJourney w to p i → IsJourney w to' p j → (i.player ≡ j.player) × (i.from ≡ j.from)
+same-start : (w : State) (to to' : Option ℕ) (p : ℕ) (i j : Journey) → IsJourney w to p i → IsJourney w to' p j
+    → (i.player ≡ j.player) × (i.from ≡ j.from)
 same-start w to to' p i j x y = (x.player ∙ sym y.player, some-inj i.from j.from (sym x.from ∙ y.from))
 
-journey-one : (w : State) → IsSound w → (to : Option ℕ) (p : ℕ) (i j : Journey) → IsJourney w to p i → IsJourney w to p j → i ≡ j
+journey-one : (w : State) → IsSound w → (to : Option ℕ) (p : ℕ) (i j : Journey)
+    → IsJourney w to p i → IsJourney w to p j → i ≡ j
 journey-one w sound to p i j x y =
     let same = same-start w to to p i j x y in
-    let there : IsWayTo (roads_of w p) j.from to i.way = subst (λ (n : ℕ). IsWayTo (roads_of w p) n to i.way) same.1 x.way in
+    let there : IsWayTo (roads_of w p) j.from to i.way =
+    subst (λ (n : ℕ). IsWayTo (roads_of w p) n to i.way) same.1 x.way in
     let way : i.way ≡ j.way = way_to-one w sound p j.from to i.way j.way there y.way in
     let one : ℕ → Journey = λ n. record { player = n; from = i.from; way = i.way } in
     let two : ℕ → Journey = λ n. record { player = j.player; from = n; way = i.way } in
     let three : Option (List Step) → Journey = λ o. record { player = j.player; from = j.from; way = o } in
     ap one same.0 ∙ ap two same.1 ∙ ap three way
 
-journeys-one : (w : State) → IsSound w → (to : Option ℕ) (party : List ℕ) (is js : List Journey) → AllZip (IsJourney w to) party is
+journeys-one : (w : State) → IsSound w → (to : Option ℕ) (party : List ℕ) (is js : List Journey)
+    → AllZip (IsJourney w to) party is
     → AllZip (IsJourney w to) party js → is ≡ js
 journeys-one w sound to [] [] [] x y = refl
 journeys-one w sound to [] [] (j ∷ js) x y = absurd y
@@ -58,9 +64,11 @@ journeys-one w sound to [] (i ∷ is) js x y = absurd x
 journeys-one w sound to (p ∷ ps) [] js x y = absurd x
 journeys-one w sound to (p ∷ ps) (i ∷ is) [] x y = absurd y
 journeys-one w sound to (p ∷ ps) (i ∷ is) (j ∷ js) x y =
-    ap (λ (k : Journey). k ∷ is) (journey-one w sound to p i j x.0 y.0) ∙ ap (λ (ks : List Journey). j ∷ ks) (journeys-one w sound to ps is js x.1 y.1)
+    ap (λ (k : Journey). k ∷ is) (journey-one w sound to p i j x.0 y.0) ∙ ap (λ (ks : List Journey). j ∷ ks)
+    (journeys-one w sound to ps is js x.1 y.1)
 
-goers-one : (w : State) (to to' : Option ℕ) (party : List ℕ) (is js : List Journey) → AllZip (IsJourney w to) party is → AllZip (IsJourney w to') party js
+goers-one : (w : State) (to to' : Option ℕ) (party : List ℕ) (is js : List Journey) → AllZip (IsJourney w to) party is
+    → AllZip (IsJourney w to') party js
     → goers_of w is ≡ goers_of w js
 goers-one w to to' [] [] [] x y = refl
 goers-one w to to' [] [] (j ∷ js) x y = absurd y
@@ -75,11 +83,14 @@ goers-one w to to' (p ∷ ps) (i ∷ is) (j ∷ js) x y =
     ap one same.0 ∙ ap two same.1 ∙ ap rest (goers-one w to to' ps is js x.1 y.1)
 
 -- ---- certificates
-labels-among : (roads : Roads) (from : ℕ) (es fs : List Entry) → AreLeastLabels roads from es → AreLeastLabels roads from fs → AreAmong fs es
+labels-among : (roads : Roads) (from : ℕ) (es fs : List Entry) → AreLeastLabels roads from es
+    → AreLeastLabels roads from fs → AreAmong fs es
 labels-among roads from es fs x y e c = (y.least e.0 e.1).1 ((x.least e.0 e.1).0 c)
 
-labels-one : (roads : Roads) (from : ℕ) (es fs : List Entry) → AreLeastLabels roads from es → AreLeastLabels roads from fs → es ≡ fs
-labels-one roads from es fs x y = rising-one es fs x.rising y.rising (labels-among roads from es fs x y) (labels-among roads from fs es y x)
+labels-one : (roads : Roads) (from : ℕ) (es fs : List Entry) → AreLeastLabels roads from es
+    → AreLeastLabels roads from fs → es ≡ fs
+labels-one roads from es fs x y =
+    rising-one es fs x.rising y.rising (labels-among roads from es fs x y) (labels-among roads from fs es y x)
 
 account-one : (w : State) (j : Journey) (a b : Account) → IsAccountOf w j a → IsAccountOf w j b → a ≡ b
 account-one w j a b x y =
@@ -90,31 +101,40 @@ account-one w j a b x y =
     let one : ℕ → Account = λ n. record { player = n; from = a.from; labels = a.labels; walk = a.walk } in
     let two : ℕ → Account = λ n. record { player = b.player; from = n; labels = a.labels; walk = a.walk } in
     let three : List Entry → Account = λ es. record { player = b.player; from = b.from; labels = es; walk = a.walk } in
-    let four : Option (List ℕ) → Account = λ o. record { player = b.player; from = b.from; labels = b.labels; walk = o } in
+    let four : Option (List ℕ) → Account =
+    λ o. record { player = b.player; from = b.from; labels = b.labels; walk = o } in
     ap one player ∙ ap two from ∙ ap three labels ∙ ap four walk
 
-accounts-one : (w : State) (js : List Journey) (es fs : List Account) → AllZip (IsAccountOf w) js es → AllZip (IsAccountOf w) js fs → es ≡ fs
+accounts-one : (w : State) (js : List Journey) (es fs : List Account) → AllZip (IsAccountOf w) js es
+    → AllZip (IsAccountOf w) js fs → es ≡ fs
 accounts-one w [] [] [] x y = refl
 accounts-one w [] [] (b ∷ others) x y = absurd y
 accounts-one w [] (a ∷ more) others x y = absurd x
 accounts-one w (j ∷ js) [] others x y = absurd x
 accounts-one w (j ∷ js) (a ∷ more) [] x y = absurd y
 accounts-one w (j ∷ js) (a ∷ more) (b ∷ others) x y =
-    ap (λ (e : Account). e ∷ more) (account-one w j a b x.0 y.0) ∙ ap (λ (es : List Account). b ∷ es) (accounts-one w js more others x.1 y.1)
+    ap (λ (e : Account). e ∷ more) (account-one w j a b x.0 y.0) ∙ ap (λ (es : List Account). b ∷ es)
+    (accounts-one w js more others x.1 y.1)
 
-cert-one : (w : State) (v : ℕ) (js : List Journey) (says : Conclusion) (c d : Certificate) → IsCertOf w v js says c → IsCertOf w v js says d → c ≡ d
+cert-one : (w : State) (v : ℕ) (js : List Journey) (says : Conclusion) (c d : Certificate) → IsCertOf w v js says c
+    → IsCertOf w v js says d → c ≡ d
 cert-one w v js says c d x y =
     let version : c.version ≡ d.version = x.version ∙ sym y.version in
     let form : c.form ≡ d.form = x.form ∙ sym y.form in
     let members : c.members ≡ d.members = accounts-one w js c.members d.members x.members y.members in
     let conclusion : c.conclusion ≡ d.conclusion = x.conclusion ∙ sym y.conclusion in
-    let one : ℕ → Certificate = λ n. record { version = n; form = c.form; members = c.members; conclusion = c.conclusion } in
-    let two : Form → Certificate = λ f. record { version = d.version; form = f; members = c.members; conclusion = c.conclusion } in
-    let three : List Account → Certificate = λ es. record { version = d.version; form = d.form; members = es; conclusion = c.conclusion } in
-    let four : Conclusion → Certificate = λ s. record { version = d.version; form = d.form; members = d.members; conclusion = s } in
+    let one : ℕ → Certificate =
+    λ n. record { version = n; form = c.form; members = c.members; conclusion = c.conclusion } in
+    let two : Form → Certificate =
+    λ f. record { version = d.version; form = f; members = c.members; conclusion = c.conclusion } in
+    let three : List Account → Certificate =
+    λ es. record { version = d.version; form = d.form; members = es; conclusion = c.conclusion } in
+    let four : Conclusion → Certificate =
+    λ s. record { version = d.version; form = d.form; members = d.members; conclusion = s } in
     ap one version ∙ ap two form ∙ ap three members ∙ ap four conclusion
 
-certs-one : (w : State) (v : ℕ) (js : List Journey) (says : Conclusion) (o q : Option Certificate) → IsSomeAnd o (IsCertOf w v js says)
+certs-one : (w : State) (v : ℕ) (js : List Journey) (says : Conclusion) (o q : Option Certificate)
+    → IsSomeAnd o (IsCertOf w v js says)
     → IsSomeAnd q (IsCertOf w v js says) → o ≡ q
 certs-one w v js says None q x y = absurd x
 certs-one w v js says (Some c) None x y = absurd y
@@ -131,7 +151,8 @@ route_answer_is_one w sound v p to a b x y =
       certs-one w v (y.journey ∷ []) says a.cert b.cert (subst C same x.cert) y.cert,
     )
 
-place-one : (party : List Goer) (a b : Option Meeting) → IsPlace party a → IsPlace party b → a ≡ b
+place-one : (party : List Goer) (a b : Option Meeting) → IsPlace (HasLeast 1) party a
+    → IsPlace (HasLeast 1) party b → a ≡ b
 place-one party None None x y = refl
 place-one party None (Some q) x y = absurd (x q.room q.cost y.gathers)
 place-one party (Some p) None x y = absurd (y p.room p.cost x.gathers)
@@ -144,10 +165,13 @@ place-one party (Some p) (Some q) x y =
 pub meet_answer_is_one : MeetAnswerIsOne
 meet_answer_is_one w sound v party a b x y =
     let R : Option Meeting → Option ℕ = λ o. option_map (λ m. m.room) o in
-    let goers : goers_of w x.journeys ≡ goers_of w y.journeys = goers-one w (R x.place) (R y.place) party x.journeys y.journeys x.go y.go in
-    let here : IsPlace (goers_of w y.journeys) x.place = subst (λ (gs : List Goer). IsPlace gs x.place) goers x.meet in
+    let goers : goers_of w x.journeys ≡ goers_of w y.journeys =
+    goers-one w (R x.place) (R y.place) party x.journeys y.journeys x.go y.go in
+    let here : IsPlace (HasLeast 1) (goers_of w y.journeys) x.place =
+    subst (λ (gs : List Goer). IsPlace (HasLeast 1) gs x.place) goers x.meet in
     let place : x.place ≡ y.place = place-one (goers_of w y.journeys) x.place y.place here y.meet in
-    let go : AllZip (IsJourney w (R y.place)) party x.journeys = subst (λ (o : Option Meeting). AllZip (IsJourney w (R o)) party x.journeys) place x.go in
+    let go : AllZip (IsJourney w (R y.place)) party x.journeys =
+    subst (λ (o : Option Meeting). AllZip (IsJourney w (R o)) party x.journeys) place x.go in
     let same : x.journeys ≡ y.journeys = journeys-one w sound (R y.place) party x.journeys y.journeys go y.go in
     let C : Option Meeting → Type 0 = λ o. IsSomeAnd a.cert (IsCertOf w v x.journeys (Meet o)) in
     let D : List Journey → Type 0 = λ js. IsSomeAnd a.cert (IsCertOf w v js (Meet y.place)) in (

@@ -1,5 +1,6 @@
 -- A route is a least walk.
-use Rattle.std.proofs.Common.{◌≡◌, ℕ, List, [], ◌∷◌, ◌++◌, reverse, Option, Some, None, refl, sym, ◌∙◌, ap, subst, arith}
+use Rattle.std.proofs.Common.{◌≡◌, ℕ, List, [], ◌∷◌, ◌++◌, reverse, Option, Some, None, refl, sym, ◌∙◌, ap, subst}
+use Rattle.std.proofs.Common.{arith}
 use Rattle.std.proofs.lemmas.Grind.{reverse_onto}
 use Rattle.std.proofs.lemmas.List.{reverse-reverse}
 use Rattle.mud_roads.specs.declared.label.Label.{Label}
@@ -17,10 +18,13 @@ back-least roads from to [] e = (e, record { walked = ([], e, refl); least = λ 
 back-least roads from to (s ∷ ss) (by, d, low, rest) =
     let before = back-least roads from by ss rest in
     let P : ℕ → Type 0 = λ r. Walk roads from (reverse ss ++ s ∷ []) r in
-    let walk : Walk roads from (reverse ss ++ s ∷ []) to = subst P d.leads (walk-snoc roads (reverse ss) from by s before.0 d.step) in
-    let one : total 1 (reverse ss) ≡ d.least.0 = some-inj (total 1 (reverse ss)) d.least.0 (least-one 1 roads from by (Some (total 1 (reverse ss))) d.least.0 before.1 d.least.1) in
+    let walk : Walk roads from (reverse ss ++ s ∷ []) to =
+    subst P d.leads (walk-snoc roads (reverse ss) from by s before.0 d.step) in
+    let one : total 1 (reverse ss) ≡ d.least.0 = some-inj (total 1 (reverse ss)) d.least.0
+    (least-one 1 roads from by (Some (total 1 (reverse ss))) d.least.0 before.1 d.least.1) in
     let Q : Label → Type 0 = λ l. IsLeast 1 roads from to l in
-    let least : IsLeast 1 roads from to (total 1 (reverse ss ++ s ∷ [])) = subst Q (sym (total-snoc 1 (reverse ss) s ∙ ap (λ (l : Label). after 1 l s) one)) d.least.2 in
+    let least : IsLeast 1 roads from to (total 1 (reverse ss ++ s ∷ [])) =
+    subst Q (sym (total-snoc 1 (reverse ss) s ∙ ap (λ (l : Label). after 1 l s) one)) d.least.2 in
     let W : List Step → Type 0 = λ xs. Walk roads from xs to × IsLeast 1 roads from to (total 1 xs) in
     subst W (sym (reverse_onto ss s [])) (walk, least)
 
@@ -30,14 +34,18 @@ route_is_least roads from to ss r =
     subst W (reverse-reverse ss) (back-least roads from to (reverse ss) r)
 
 -- the route costs what the label of its end says
-pub way-cost : (roads : Roads) (from to : ℕ) (labels : ℕ → Option Label) → Labelled roads from labels → (l : Label) → labels to ≡ Some l
+pub way-cost : (roads : Roads) (from to : ℕ) (labels : ℕ → Option Label) → Labelled roads from labels
+    → (l : Label) → labels to ≡ Some l
     → (ss : List Step) → IsRoute 1 roads from to ss → l.cost ≡ cost_of ss
 way-cost roads from to labels least l is ss r =
-    let same : l ≡ total 1 ss = some-inj l (total 1 ss) (sym is ∙ least-one 1 roads from to (labels to) (total 1 ss) (least to) (route_is_least roads from to ss r).1) in
+    let same : l ≡ total 1 ss = some-inj l (total 1 ss)
+    (sym is ∙ least-one 1 roads from to (labels to) (total 1 ss) (least to)
+    (route_is_least roads from to ss r).1) in
     ap (λ (x : Label). x.cost) same
 
 -- without a label there is no way
-pub way-none : (roads : Roads) (from to : ℕ) (labels : ℕ → Option Label) → Labelled roads from labels → labels to ≡ None → NoWalk roads from to
+pub way-none : (roads : Roads) (from to : ℕ) (labels : ℕ → Option Label) → Labelled roads from labels
+    → labels to ≡ None → NoWalk roads from to
 way-none roads from to labels least is =
     let P : Option Label → Type 0 = λ o. Least 1 roads from to o in
     subst P is (least to)

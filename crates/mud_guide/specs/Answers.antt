@@ -4,7 +4,8 @@ use Rattle.std.specs.List.{AllZip}
 use Rattle.std.specs.Option.{option_map, IsSomeAnd}
 use Rattle.mud_world.specs.State.{State}
 use Rattle.mud_cert.specs.Certificate.{Certificate, IsCertificate}
-use Rattle.mud_cert.specs.Valid.{IsValid}
+use Rattle.mud_roads.specs.Walks.{HasLeast}
+use Rattle.mud_cert.specs.Valid.{IsPlace, IsValid}
 use Rattle.mud_cert.specs.declared.cert.Form.TheVariants.{Two}
 use Rattle.mud_cert.specs.declared.cert.Meeting.{Meeting}
 use Rattle.mud_cert.specs.declared.cert.Conclusion.{Conclusion}
@@ -13,7 +14,6 @@ use Rattle.mud_guide.specs.declared.answer.Answer.{Answer}
 use Rattle.mud_guide.specs.Ways.{cost_of}
 use Rattle.mud_guide.specs.Journeys.{Journey, IsJourney, goers_of}
 use Rattle.mud_guide.specs.Accounts.{IsAccountOf}
-use Rattle.mud_guide.specs.Meetings.{IsPlace}
 use Rattle.mud_guide.specs.Texts.{route_text, meet_text}
 
 -- the certificate of these journeys: its labels count costs and exits, it has an account of each, concludes this, and
@@ -39,7 +39,7 @@ pub record IsMeetAnswer (w : State) (v : ℕ) (party : List ℕ) (a : Answer) : 
   pub place : Option Meeting
   pub journeys : List Journey
   pub go : AllZip (IsJourney w (option_map (λ m. m.room) place)) party journeys
-  pub meet : IsPlace (goers_of w journeys) place
+  pub meet : IsPlace (HasLeast 1) (goers_of w journeys) place
   pub version : a.version ≡ v
   pub text : string_bytes a.text ≡ meet_text place journeys
   pub cert : IsSomeAnd a.cert (IsCertOf w v journeys (Meet place))

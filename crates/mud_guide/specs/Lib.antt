@@ -1,7 +1,6 @@
 pub mod Ways
 pub mod Journeys
 pub mod Accounts
-pub mod Meetings
 pub mod Texts
 pub mod Answers
 pub mod Laws

@@ -1,15 +1,12 @@
 -- Ways: canonical routes, with what they cost.
-use Rattle.std.specs.Prelude.{◌≡◌, ℕ, List, map, Option, None, Some}
+use Rattle.std.specs.Prelude.{◌≡◌, ℕ, List, Option, None, Some}
 use Rattle.mud_roads.specs.declared.label.Step.{Step}
+pub use Rattle.mud_roads.specs.Walks.{exits_of}
 use Rattle.mud_roads.specs.Walks.{Roads, total, NoWalk, IsRoute}
 
 -- what a walk costs
 abbrev pub cost_of : List Step → ℕ
 cost_of steps = (total 1 steps).cost
-
--- the exits of a walk
-abbrev pub exits_of : List Step → List ℕ
-exits_of steps = map (λ s. s.exit) steps
 
 -- the canonical route to the room, or none where no walk leads there
 abbrev pub IsWay : Roads → ℕ → ℕ → Option (List Step) → Type 0

@@ -2,7 +2,7 @@
 
 ghost use Rattle.std.specs.Prelude.{◌≡◌, ◌++◌, OnOk, IfOk, Some, string_bytes, codes};
 ghost use Rattle.std.specs.List.{flat_map};
-ghost use Rattle.mud_guide.specs.Texts.{object, walk_text, cost_text, way_text, member_text, place_text, route_text};
+ghost use Rattle.mud_guide.specs.Texts.{object, walk_text, way_text, member_text, place_text, route_text};
 ghost use Rattle.mud_guide.specs.Texts.{meet_text};
 
 use crate::journey::Journey;
@@ -50,7 +50,7 @@ fn push_walk(alloc: Global, text: &mut String, steps: &[Step]) -> Result<(), All
 
 // Writes the cost of a walk, and the walk.
 fn push_cost(alloc: Global, text: &mut String, way: &Way) -> Result<(), AllocError>
-    ensures { OnOk result (string_bytes text.new ≡ string_bytes text.old ++ cost_text way.now) }
+    ensures { OnOk result (string_bytes text.new ≡ string_bytes text.old ++ way_text (Some way.now)) }
 {
     let cost = way.cost();
     let number = format!(in alloc; " cost {cost} ")?;

@@ -52,23 +52,26 @@ accepted below f later c kept on good =
             below.optimal (world_after f) (world-sound f) c good.limits good.valid in
     record {
       written = (below.again later.history later.history kept.each (omega (arith, kept.few, kept.fits))).0;
-      accepted = λ text spells. record {
-        entries = later.history;
-        cert = c;
-        texts = record {
-          history_is = record {
-            spells = subst (λ (t : List ℕ). SpellsHistory t later.history)
-                (sym (below.drops_nothing text
-                (All-from_recursion (λ b. b ≢ 13) text (below.no_returns text later.history spells)))) spells;
-            legal = kept.legal;
-          };
-          certificate = good.limits;
-          proof_is = below.drops_nothing (cert_text c) (below.no_return c good.limits);
-        };
-        reached = omega (arith, good.version, longer f later.history on);
-        valid = subst (λ (x : List Entry). IsValid (world_after x) c) (sym same) good.valid;
-        least = subst (λ (x : List Entry). Optimal (world_after x) c) (sym same) best;
-      };
+      accepted = λ text spells.
+          let history = record {
+                spells = subst (λ (t : List ℕ). SpellsHistory t later.history)
+                    (sym (below.drops_nothing text
+                        (All-from_recursion (λ b. b ≢ 13) text (below.no_returns text later.history spells)))) spells;
+                legal = kept.legal;
+              } in (
+            later.history,
+            history,
+            (
+              c,
+              good.limits,
+              below.drops_nothing (cert_text c) (below.no_return c good.limits),
+              (
+                omega (arith, good.version, longer f later.history on),
+                subst (λ (x : List Entry). IsValid (world_after x) c) (sym same) good.valid,
+                subst (λ (x : List Entry). Optimal (world_after x) c) (sym same) best,
+              ),
+            ),
+          );
     }
 
 pub certified : Below → (f : List Entry) (later : Hall) (cert : Option Certificate) → IsKept later

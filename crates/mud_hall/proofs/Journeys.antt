@@ -6,7 +6,7 @@ use Rattle.std.specs.List.{AllZip, sum_by}
 use Rattle.std.proofs.lemmas.List.Sums.{sum_by-cons}
 use Rattle.mud_world.specs.State.{State}
 use Rattle.mud_roads.specs.declared.label.Step.{Step}
-use Rattle.mud_roads.specs.Walks.{total, Goer}
+use Rattle.mud_roads.specs.Walks.{total, Goer, HasLeast}
 use Rattle.mud_roads.specs.Open.{roads_of}
 use Rattle.mud_roads.specs.Laws.{MeetingIsAlike}
 use Rattle.mud_cert.specs.Certificate.{Account, Certificate}
@@ -16,11 +16,11 @@ use Rattle.mud_cert.specs.declared.cert.Meeting.{Meeting}
 use Rattle.mud_guide.specs.declared.answer.Answer.{Answer}
 use Rattle.mud_guide.specs.Accounts.{IsAccountOf}
 use Rattle.mud_guide.specs.Journeys.{Journey, IsJourney, goers_of}
-use Rattle.mud_guide.specs.Meetings.{IsPlace}
+use Rattle.mud_cert.specs.Valid.{IsPlace}
 use Rattle.mud_guide.specs.Ways.{cost_of, IsWay, IsWayTo}
 use Rattle.mud_guide.specs.Answers.{IsCertOf, IsRouteAnswer, IsMeetAnswer}
 use Rattle.mud_guide.specs.Laws.{RouteIsLeast}
-use Rattle.mud_hall.specs.Right.{IsMemberFor, Certifies, IsBestWay, GoesBest, TellsRoute, IsBestPlace, TellsMeeting}
+use Rattle.mud_hall.specs.Right.{IsMemberFor, Certifies, IsBestWay, GoesBest, TellsRoute, TellsMeeting}
 
 -- one for each is as many as there are
 ones : (ss : List Step) → sum_by (λ (s : Step). 1) ss ≡ length ss
@@ -79,8 +79,8 @@ route-told routes w v p to g x = record {
 
 -- ---- meetings
 
-best-place : MeetingIsAlike → (party : List Goer) (place : Option Meeting) → IsPlace party place
-    → IsBestPlace party place
+best-place : MeetingIsAlike → (party : List Goer) (place : Option Meeting) → IsPlace (HasLeast 1) party place
+    → IsPlace (HasLeast 0) party place
 best-place alike party None none = (alike 1 0 party).1 none
 best-place alike party (Some m) is = (alike 1 0 party).0 m.room m.cost is
 

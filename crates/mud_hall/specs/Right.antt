@@ -4,7 +4,7 @@ use Rattle.std.specs.Option.{IsSomeAnd, option_map}
 use Rattle.std.specs.List.{AllZip}
 use Rattle.mud_world.specs.State.{State, place_of}
 use Rattle.mud_roads.specs.declared.label.Step.{Step}
-use Rattle.mud_roads.specs.Walks.{Walk, NoWalk, Goer, IsMeeting, NoMeeting}
+use Rattle.mud_roads.specs.Walks.{Walk, NoWalk, HasLeast, exits_of}
 use Rattle.mud_roads.specs.Open.{roads_of}
 use Rattle.mud_rules.specs.declared.verdict.Journey.{Journey as Question}
 use Rattle.mud_rules.specs.declared.verdict.Journey.TheVariants as question
@@ -18,7 +18,8 @@ use Rattle.mud_cert.specs.Text.{cert_text}
 use Rattle.mud_cert.specs.declared.cert.Meeting.{Meeting}
 use Rattle.mud_cert.specs.declared.finding.Finding.TheVariants as finding
 use Rattle.mud_cert.specs.Finding.{IsFinding}
-use Rattle.mud_guide.specs.Ways.{cost_of, exits_of}
+use Rattle.mud_cert.specs.Valid.{IsPlace}
+use Rattle.mud_guide.specs.Ways.{cost_of}
 use Rattle.mud_guide.specs.Journeys.{Journey, goers_of}
 use Rattle.mud_guide.specs.Texts.{route_text, meet_text}
 
@@ -58,18 +59,13 @@ pub record TellsRoute (w : State) (p to : ℕ) (text : List ℕ) (cert : Option 
   pub text_is : text ≡ route_text to journey
   pub certified : IsSomeAnd cert (Certifies (journey ∷ []) (Route to (option_map cost_of journey.way)))
 
--- of the rooms where all come the one of least greatest cost, then of lowest number; or none where there is none
-abbrev pub IsBestPlace : List Goer → Option Meeting → Type 0
-IsBestPlace party (Some m) = IsMeeting 0 party m.room m.cost
-IsBestPlace party None = NoMeeting 0 party
-
--- the text tells where the party meets, and the best way of each, or that there is no meeting, and the certificate is
--- of those ways
+-- the text tells where the party meets by costs alone, and the best way of each, or that there is no meeting, and the
+-- certificate is of those ways
 pub record TellsMeeting (w : State) (party : List ℕ) (text : List ℕ) (cert : Option Certificate) : Type 0 where
   pub place : Option Meeting
   pub journeys : List Journey
   pub go : AllZip (GoesBest w (option_map (λ m. m.room) place)) party journeys
-  pub best : IsBestPlace (goers_of w journeys) place
+  pub best : IsPlace (HasLeast 0) (goers_of w journeys) place
   pub text_is : text ≡ meet_text place journeys
   pub certified : IsSomeAnd cert (Certifies journeys (Meet place))
 

@@ -1,11 +1,13 @@
--- Of the walks of least cost one has the fewest exits: the roads of each room are a list, so the walks of so many exits can be gone through.
-use Rattle.std.proofs.Common.{◌≡◌, ◌≢◌, ℕ, zero, suc, ◌+◌, ◌<◌, ◌≤◌, ◌⊎◌, inl, inr, List, [], ◌∷◌, length, refl, sym, ◌∙◌, ap, subst, arith}
+-- Of the walks of least cost one has the fewest exits: the roads of each room are a list, so the walks of so many exits
+-- can be gone through.
+use Rattle.std.proofs.Common.{◌≡◌, ◌≢◌, ℕ, zero, suc, ◌+◌, ◌<◌, ◌≤◌, ◌⊎◌, inl, inr, List, [], ◌∷◌, length, refl, sym}
+use Rattle.std.proofs.Common.{◌∙◌, ap, subst, arith}
 use Rattle.std.specs.Prelude.{sum_by, Contains}
 use Rattle.std.proofs.lemmas.Bool.{cases_eq, cases_lt}
 use Rattle.std.proofs.lemmas.List.Sums.{sum_by-cons}
 use Rattle.mud_roads.specs.declared.label.Label.{Label}
 use Rattle.mud_roads.specs.declared.label.Step.{Step}
-use Rattle.mud_roads.specs.Walks.{Roads, Walk, total, IsLeast, Goer, Gathers}
+use Rattle.mud_roads.specs.Walks.{Roads, Walk, total, IsLeast, Goer, HasLeast, Gathers}
 use Rattle.mud_roads.specs.Laws.{LeastIsAlike, MeetingIsAlike}
 
 -- it holds, or does not
@@ -84,16 +86,19 @@ decide-walk roads to c zero from k =
     stays (s ∷ ss) w none away = omega (arith, none)
 decide-walk roads to c (suc n) from k =
     elim (one-of P (λ s. decide-walk roads to c n s.to (k + s.cost)) (roads from)) [
-      | inl (s, here, (ss, w, long, sum)) ↦ inl (s ∷ ss, (here, w), ap suc long, omega (arith, sum, sum_by-cons (λ (x : Step). x.cost) s ss))
+      | inl (s, here, (ss, w, long, sum)) ↦
+          inl (s ∷ ss, (here, w), ap suc long, omega (arith, sum, sum_by-cons (λ (x : Step). x.cost) s ss))
       | inr none ↦ inr (λ (ss, w, long, sum). no-step ss w long sum none)
     ]
   where
     P : Step → Type 0
     P s = HasWalk roads to c n s.to (k + s.cost)
 
-    no-step : (ss : List Step) → Walk roads from ss to → length ss ≡ suc n → k + costs ss ≡ c → (HasOne P (roads from) → ⊥) → ⊥
+    no-step : (ss : List Step) → Walk roads from ss to → length ss ≡ suc n → k + costs ss ≡ c
+        → (HasOne P (roads from) → ⊥) → ⊥
     no-step [] w long sum none = omega (arith, long)
-    no-step (s ∷ ss) (here, w) long sum none = none (s, here, (ss, w, omega (arith, long), omega (arith, sum, sum_by-cons (λ (x : Step). x.cost) s ss)))
+    no-step (s ∷ ss) (here, w) long sum none =
+        none (s, here, (ss, w, omega (arith, long), omega (arith, sum, sum_by-cons (λ (x : Step). x.cost) s ss)))
 
 -- ---- labels
 abbrev exits : ℕ → List Step → ℕ
@@ -104,7 +109,12 @@ exits-rise : (hop : ℕ) (ss ts : List Step) → length ss ≤ length ts → exi
 exits-rise hop [] ts h = omega arith
 exits-rise hop (s ∷ ss) [] h = absurd (omega (arith, h))
 exits-rise hop (s ∷ ss) (t ∷ ts) h =
-    omega (arith, exits-rise hop ss ts (omega (arith, h)), sum_by-cons (λ (x : Step). hop) s ss, sum_by-cons (λ (x : Step). hop) t ts)
+    omega (
+      arith,
+      exits-rise hop ss ts (omega (arith, h)),
+      sum_by-cons (λ (x : Step). hop) s ss,
+      sum_by-cons (λ (x : Step). hop) t ts,
+    )
 
 pub least_is_alike : LeastIsAlike
 least_is_alike hop hop' roads from to l least = go least.walked.0 least.walked.1 least.walked.2
@@ -127,16 +137,19 @@ least_is_alike hop hop' roads from to l least = go least.walked.0 least.walked.1
       omega (arith, cost, sum),
     )
 
-    go : (ss : List Step) → Walk roads from ss to → total hop ss ≡ l → (l' : Label) × IsLeast hop' roads from to l' × (l'.cost ≡ l.cost)
+    go : (ss : List Step) → Walk roads from ss to → total hop ss ≡ l
+        → (l' : Label) × IsLeast hop' roads from to l' × (l'.cost ≡ l.cost)
     go ss w is =
         let cost : l.cost ≡ costs ss = sym (ap (λ (x : Label). x.cost) is) in
-        elim (first (λ n. HasWalk roads to (costs ss) n from 0) (λ n. decide-walk roads to (costs ss) n from 0) (suc (length ss))) [
+        elim (first (λ n. HasWalk roads to (costs ss) n from 0)
+        (λ n. decide-walk roads to (costs ss) n from 0) (suc (length ss))) [
           | inl (m, fewest) ↦ make ss cost m fewest
           | inr none ↦ absurd (none (length ss) (omega arith) (ss, w, refl, omega arith))
         ]
 
 -- ---- meetings
-gathers_alike : (hop hop' : ℕ) (party : List Goer) (room cost : ℕ) → Gathers hop party room cost → Gathers hop' party room cost
+gathers_alike : (hop hop' : ℕ) (party : List Goer) (room cost : ℕ) → Gathers (HasLeast hop) party room cost
+    → Gathers (HasLeast hop') party room cost
 gathers_alike hop hop' party room cost g = record {
   all = λ k d h.
       let here = g.all k d h in

@@ -1,5 +1,6 @@
 -- The roads of a player are the steps of the exits that are open to him, by rising number.
-use Rattle.std.proofs.Common.{◌≡◌, ℕ, zero, suc, ◌+◌, ◌<◌, ◌≤◌, ◌⊎◌, inl, inr, true, false, cond, List, [], ◌∷◌, Option, Some, None, refl, sym, ◌∙◌, ap, subst, arith, ⊎_elim}
+use Rattle.std.proofs.Common.{◌≡◌, ℕ, zero, suc, ◌+◌, ◌<◌, ◌≤◌, ◌⊎◌, inl, inr, true, false, cond, List, [], ◌∷◌, Option}
+use Rattle.std.proofs.Common.{Some, None, refl, sym, ◌∙◌, ap, subst, arith, ⊎_elim}
 use Rattle.std.specs.Prelude.{nat_eq, IsTrue, Contains, All, AllPairs}
 use Rattle.std.specs.Option.{option_map, option_map_or, option_and_then}
 use Rattle.std.specs.List.{list_any, filter_map, cons_option}
@@ -39,7 +40,8 @@ contains-cases t s xs (suc i, lt, at) = inr (i, omega (arith, lt), at)
 given : (f : ℕ → Option Step) (xs : List ℕ) (s : Step) → Contains (filter_map f xs) s → IsGiven f xs s
 given f [] s (i, lt, at) = absurd (omega (arith, lt))
 given f (x ∷ xs) s c =
-    let more : IsGiven f xs s → IsGiven f (x ∷ xs) s = λ rest. (rest.0, or_right (nat_eq rest.0 x) (list_any (nat_eq rest.0) xs) rest.1, rest.2) in
+    let more : IsGiven f xs s → IsGiven f (x ∷ xs) s =
+    λ rest. (rest.0, or_right (nat_eq rest.0 x) (list_any (nat_eq rest.0) xs) rest.1, rest.2) in
     let again : Contains (filter_map f xs) s → IsGiven f xs s = λ rest. given f xs s rest in
     step_cases (f x)
     (λ e. more (again (subst (λ (v : Option Step). Contains (cons_option v (filter_map f xs)) s) e c)))
@@ -47,12 +49,14 @@ given f (x ∷ xs) s c =
     ⊎_elim
     (λ (here : t ≡ s). (x, or_left (nat_eq x x) (list_any (nat_eq x) xs) (eq-eqb x x refl), e ∙ ap (λ v. Some v) here))
     (λ later. more (again later))
-    (contains-cases t s (filter_map f xs) (subst (λ (v : Option Step). Contains (cons_option v (filter_map f xs)) s) e c)))
+    (contains-cases t s (filter_map f xs)
+    (subst (λ (v : Option Step). Contains (cons_option v (filter_map f xs)) s) e c)))
 
 later-contains : (t s : Step) (xs : List Step) → Contains xs s → Contains (t ∷ xs) s
 later-contains t s xs (i, lt, at) = (suc i, omega (arith, lt), at)
 
-gives : (f : ℕ → Option Step) (xs : List ℕ) (s : Step) (n : ℕ) → list_any (nat_eq n) xs ≡ true → f n ≡ Some s → Contains (filter_map f xs) s
+gives : (f : ℕ → Option Step) (xs : List ℕ) (s : Step) (n : ℕ) → list_any (nat_eq n) xs ≡ true → f n ≡ Some s
+    → Contains (filter_map f xs) s
 gives f [] s n among is = absurd (true≢false (sym among))
 gives f (x ∷ xs) s n among is =
     let again : list_any (nat_eq n) xs ≡ true → Contains (filter_map f xs) s = λ rest. gives f xs s n rest is in
@@ -63,12 +67,14 @@ gives f (x ∷ xs) s n among is =
     (λ later.
     step_cases (f x)
     (λ e. subst (λ (v : Option Step). Contains (cons_option v (filter_map f xs)) s) (sym e) (again later))
-    (λ t e. subst (λ (v : Option Step). Contains (cons_option v (filter_map f xs)) s) (sym e) (later-contains t s (filter_map f xs) (again later))))
+    (λ t e. subst (λ (v : Option Step). Contains (cons_option v (filter_map f xs)) s) (sym e)
+    (later-contains t s (filter_map f xs) (again later))))
     (or_cases _ _ among)
 
 -- steps that keep the number are as rising as the numbers
 module _ (f : ℕ → Option Step) (numbered : (n : ℕ) (s : Step) → f n ≡ Some s → s.exit ≡ n) where
-  from-low : (low low' : ℕ) (xs : List ℕ) → low ≤ low' → IsRisingFrom low' xs → All (λ s. low ≤ s.exit) (filter_map f xs)
+  from-low : (low low' : ℕ) (xs : List ℕ) → low ≤ low' → IsRisingFrom low' xs
+      → All (λ s. low ≤ s.exit) (filter_map f xs)
   from-low low low' [] le rises = λ k d lt. absurd (omega (arith, lt))
   from-low low low' (x ∷ xs) le rises =
       let rest = from-low low (x + 1) xs (omega (arith, rises.0)) rises.1 in
@@ -77,14 +83,16 @@ module _ (f : ℕ → Option Step) (numbered : (n : ℕ) (s : Step) → f n ≡ 
       (λ t e.
       let same = numbered x t e in
       let head : low ≤ t.exit = omega (arith, rises.0, same) in
-      subst (λ (v : Option Step). All (λ s. low ≤ s.exit) (cons_option v (filter_map f xs))) (sym e) (All-cons (λ s. low ≤ s.exit) t (filter_map f xs) head rest))
+      subst (λ (v : Option Step). All (λ s. low ≤ s.exit) (cons_option v (filter_map f xs))) (sym e)
+      (All-cons (λ s. low ≤ s.exit) t (filter_map f xs) head rest))
 
   steps-rise : (low : ℕ) (xs : List ℕ) → IsRisingFrom low xs → AllPairs (λ a b. a.exit < b.exit) (filter_map f xs)
   steps-rise low [] rises = λ i j d lt within. absurd (omega (arith, within))
   steps-rise low (x ∷ xs) rises =
       let rest = steps-rise (x + 1) xs rises.1 in
       step_cases (f x)
-      (λ e. subst (λ (v : Option Step). AllPairs (λ a b. a.exit < b.exit) (cons_option v (filter_map f xs))) (sym e) rest)
+      (λ e. subst (λ (v : Option Step). AllPairs (λ a b. a.exit < b.exit) (cons_option v (filter_map f xs)))
+      (sym e) rest)
       (λ t e.
       let same = numbered x t e in
       let above : All (λ s. x + 1 ≤ s.exit) (filter_map f xs) = from-low (x + 1) (x + 1) xs (omega arith) rises.1 in
@@ -104,31 +112,38 @@ pub opens-as : (w : State) (p n : ℕ) (s : Step) → open_step w p n ≡ Some s
 opens-as w p n s e =
     bool_cases (passable w p n)
     (λ passes.
-    let there : option_map (step_by n) (passage_of w n) ≡ Some s = sym (ap (λ b. cond b (option_map (step_by n) (passage_of w n)) None) passes) ∙ e in
+    let there : option_map (step_by n) (passage_of w n) ≡ Some s =
+    sym (ap (λ b. cond b (option_map (step_by n) (passage_of w n)) None) passes) ∙ e in
     passage_cases (passage_of w n)
     (λ none. let bad : None ≡ Some s = sym (ap (option_map (step_by n)) none) ∙ there in absurd (cc))
     (λ a is.
     let both : Some (step_by n a) ≡ Some s = sym (ap (option_map (step_by n)) is) ∙ there in
     let step : step_by n a ≡ s = cc in
     record { passage = a; is = is; passes = passes; step = step }))
-    (λ shut. let bad : None ≡ Some s = sym (ap (λ b. cond b (option_map (step_by n) (passage_of w n)) None) shut) ∙ e in absurd (cc))
+    (λ shut. let bad : None ≡ Some s =
+    sym (ap (λ b. cond b (option_map (step_by n) (passage_of w n)) None) shut) ∙ e in absurd (cc))
 
 open-numbered : (w : State) (p n : ℕ) (s : Step) → open_step w p n ≡ Some s → s.exit ≡ n
 open-numbered w p n s e = ap (λ (x : Step). x.exit) (sym (opens-as w p n s e).step)
 
-source-known : (w : State) (n room : ℕ) (a : Passage) → passage_of w n ≡ Some a → source_of w n ≡ Some room → a.source ≡ room
-source-known w n room a is from = let both : Some a.source ≡ Some room = sym (ap (option_map (λ p. p.source)) is) ∙ from in cc
+source-known : (w : State) (n room : ℕ) (a : Passage) → passage_of w n ≡ Some a
+    → source_of w n ≡ Some room → a.source ≡ room
+source-known w n room a is from = let both : Some a.source ≡ Some room =
+    sym (ap (option_map (λ p. p.source)) is) ∙ from in cc
 
 -- an open exit of the room gives a road
-open-road : (w : State) (p room n : ℕ) (s : Step) → source_of w n ≡ Some room → open_step w p n ≡ Some s → IsRoad w p room s
+open-road : (w : State) (p room n : ℕ) (s : Step) → source_of w n ≡ Some room
+    → open_step w p n ≡ Some s → IsRoad w p room s
 open-road w p room n s from e =
     let o = opens-as w p n s e in
     let same : o.passage.source ≡ room = source-known w n room o.passage o.is from in
-    subst (λ (x : Step). IsRoad w p room x) o.step (o.is ∙ ap (λ r. Some (record o.passage { source = r })) same, o.passes)
+    subst (λ (x : Step). IsRoad w p room x) o.step
+    (o.is ∙ ap (λ r. Some (record o.passage { source = r })) same, o.passes)
 
 road-open : (w : State) (p room : ℕ) (s : Step) → IsRoad w p room s → open_step w p s.exit ≡ Some s
 road-open w p room s road =
-    ap (λ b. cond b (option_map (step_by s.exit) (passage_of w s.exit)) None) road.1 ∙ ap (option_map (step_by s.exit)) road.0
+    ap (λ b. cond b (option_map (step_by s.exit) (passage_of w s.exit)) None) road.1
+    ∙ ap (option_map (step_by s.exit)) road.0
 
 -- ---- the roads
 -- a step of the roads is that of an open exit of the room
@@ -162,27 +177,33 @@ room-below w sound n room =
     (λ r e. (in_bounds 0 w.next n r w.objects sound.rising e).1)
 
 -- the ends of an exit are rooms, and its cost is within its limit
-pub passage-well : (w : State) → IsSound w → (n : ℕ) (a : Passage) → passage_of w n ≡ Some a → IsTrue (is_room w a.source) × IsTrue (is_room w a.destination) × (a.cost ≤ 10000)
+pub passage-well : (w : State) → IsSound w → (n : ℕ) (a : Passage) → passage_of w n ≡ Some a
+    → IsTrue (is_room w a.source) × IsTrue (is_room w a.destination) × (a.cost ≤ 10000)
 passage-well w sound n a is =
     record_cases (record_at w n)
     (λ e. let bad : None ≡ Some a = sym (ap (option_and_then (λ r. kind_passage r.kind)) e) ∙ is in absurd (cc))
     (λ r e. of_kind r.kind (sym (ap (option_and_then (λ r. kind_passage r.kind)) e) ∙ is) (sound.placed n r e))
   where
-    of_kind : (k : Kind) → kind_passage k ≡ Some a → IsPlacedWell w k → IsTrue (is_room w a.source) × IsTrue (is_room w a.destination) × (a.cost ≤ 10000)
+    of_kind : (k : Kind) → kind_passage k ≡ Some a → IsPlacedWell w k → IsTrue (is_room w a.source)
+        × IsTrue (is_room w a.destination) × (a.cost ≤ 10000)
     of_kind Room e well = absurd (let bad : None ≡ Some a = e in cc)
     of_kind (Exit b) e well = let same : b ≡ a = cc in subst (λ (v : Passage). IsPlacedWell w (Exit v)) same well
     of_kind (Thing q) e well = absurd (let bad : None ≡ Some a = e in cc)
     of_kind (Player q) e well = absurd (let bad : None ≡ Some a = e in cc)
 
 -- a step leads from a room to a room
-pub steps-rooms : (w : State) → IsSound w → (p room : ℕ) (s : Step) → Contains (roads_of w p room) s → IsTrue (is_room w room) × IsTrue (is_room w s.to)
+pub steps-rooms : (w : State) → IsSound w → (p room : ℕ) (s : Step) → Contains (roads_of w p room) s
+    → IsTrue (is_room w room) × IsTrue (is_room w s.to)
 steps-rooms w sound p room s c =
-    let well = passage-well w sound s.exit (record { source = room; destination = s.to; cost = s.cost }) (road-at w sound p room s c).0 in
+    let well = passage-well w sound s.exit (record { source = room; destination = s.to; cost = s.cost })
+    (road-at w sound p room s c).0 in
     (well.0, well.1)
 
-pub steps-inside : (w : State) → IsSound w → (p room : ℕ) (s : Step) → Contains (roads_of w p room) s → (s.to < w.next) × (s.cost ≤ 10000)
+pub steps-inside : (w : State) → IsSound w → (p room : ℕ) (s : Step) → Contains (roads_of w p room) s
+    → (s.to < w.next) × (s.cost ≤ 10000)
 steps-inside w sound p room s c =
-    let well = passage-well w sound s.exit (record { source = room; destination = s.to; cost = s.cost }) (road-at w sound p room s c).0 in
+    let well = passage-well w sound s.exit (record { source = room; destination = s.to; cost = s.cost })
+    (road-at w sound p room s c).0 in
     (room-below w sound s.to well.1, well.2)
 
 -- nothing leaves a number that was never given
@@ -197,7 +218,8 @@ no-roads-past w sound p room past = go (roads_of w p room) refl
         absurd (let below = room-below w sound room (steps-rooms w sound p room s c).0 in omega (arith, below))
 
 -- a player stands in a room
-pub player-place : (w : State) → IsSound w → (p place : ℕ) → IsTrue (is_player w p) → place_of w p ≡ Some place → IsTrue (is_room w place)
+pub player-place : (w : State) → IsSound w → (p place : ℕ) → IsTrue (is_player w p)
+    → place_of w p ≡ Some place → IsTrue (is_room w place)
 player-place w sound p place player at =
     record_cases (record_at w p)
     (λ e. absurd (true≢false (sym player ∙ ap (λ v. option_map_or (λ r. is_player_kind r.kind) v false) e)))
@@ -205,7 +227,8 @@ player-place w sound p place player at =
     of_kind r.kind (sym (ap (λ v. option_map_or (λ r. is_player_kind r.kind) v false) e) ∙ player)
     (sym (ap (option_and_then (λ r. kind_place r.kind)) e) ∙ at) (sound.placed p r e))
   where
-    of_kind : (k : Kind) → is_player_kind k ≡ true → kind_place k ≡ Some place → IsPlacedWell w k → IsTrue (is_room w place)
+    of_kind : (k : Kind) → is_player_kind k ≡ true → kind_place k ≡ Some place
+        → IsPlacedWell w k → IsTrue (is_room w place)
     of_kind Room e f well = absurd (true≢false (sym e))
     of_kind (Exit b) e f well = absurd (true≢false (sym e))
     of_kind (Thing q) e f well = absurd (true≢false (sym e))

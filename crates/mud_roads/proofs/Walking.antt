@@ -1,5 +1,6 @@
 -- A player who walks keeps his roads, so his walk goes on as it began.
-use Rattle.std.proofs.Common.{◌≡◌, ◌≢◌, ℕ, zero, suc, Bool, true, false, ◌&&◌, ◌||◌, cond, [], ◌∷◌, Option, Some, None, refl, sym, ◌∙◌, ap, subst, ⊎_elim}
+use Rattle.std.proofs.Common.{◌≡◌, ◌≢◌, ℕ, zero, suc, Bool, true, false, ◌&&◌, ◌||◌, cond, [], ◌∷◌, Option, Some, None}
+use Rattle.std.proofs.Common.{refl, sym, ◌∙◌, ap, subst, ⊎_elim}
 use Rattle.std.specs.Prelude.{nat_eq, is_some, is_none, IsTrue}
 use Rattle.std.specs.Option.{option_map, option_map_or, option_and_then}
 use Rattle.std.specs.List.{filter_map}
@@ -14,7 +15,8 @@ use Rattle.mud_world.specs.declared.refusal.Refusal.{Refusal}
 use Rattle.mud_world.specs.declared.refusal.Refusal.TheVariants.{NoSuch, WrongKind, NotHere, LockedExit, LockedRoom}
 use Rattle.mud_world.specs.Truth.{key_true}
 use Rattle.mud_world.specs.Kinds.{kind_at, kind_place, kind_passage, is_player_kind, is_exit_kind}
-use Rattle.mud_world.specs.State.{State, record_at, exists, has, is_exit, is_number, is_player, place_of, comes_to, within, passage_of, destination_of, leaving_of, opens, unlocked}
+use Rattle.mud_world.specs.State.{State, record_at, exists, has, is_exit, is_number, is_player, place_of, comes_to}
+use Rattle.mud_world.specs.State.{within, passage_of, destination_of, leaving_of, opens, unlocked}
 use Rattle.mud_world.specs.Sound.{IsSound}
 use Rattle.mud_world.specs.Legal.{with_record, moved, leaves_from, fails, refusal, after as world_after}
 use Rattle.mud_world.proofs.Records.{record_cases, lookup-set_value_same, lookup-set_value_other}
@@ -43,10 +45,12 @@ module _ (w : State) (p y : ℕ) (r : Record) (at : record_at w p ≡ Some r) wh
   there n apart = lookup-set_value_other p n apart r' w.objects
 
   -- what is asked of a record, but its place, stays as it was
-  kept : {X : Type 0} (f : Option Record → X) → f (Some r') ≡ f (Some r) → (n : ℕ) → f (record_at w' n) ≡ f (record_at w n)
+  kept : {X : Type 0} (f : Option Record → X) → f (Some r') ≡ f (Some r) → (n : ℕ)
+      → f (record_at w' n) ≡ f (record_at w n)
   kept f same n =
       ⊎_elim
-      (λ (e : n ≡ p). ap (λ m. f (record_at w' m)) e ∙ ap f here ∙ same ∙ sym (ap f at) ∙ sym (ap (λ m. f (record_at w m)) e))
+      (λ (e : n ≡ p). ap (λ m. f (record_at w' m)) e ∙ ap f here ∙ same ∙ sym (ap f at)
+      ∙ sym (ap (λ m. f (record_at w m)) e))
       (λ apart. ap f (there n apart))
       (cases_eq n p)
 
@@ -83,20 +87,24 @@ module _ (w : State) (p y : ℕ) (r : Record) (at : record_at w p ≡ Some r) wh
       ∙ sym (ap (λ b. b || option_map_or (λ q. comes_to w n q p) (place_of w o) false) (eq-eqb o p e)))
       (λ apart.
       let again : (λ (q : ℕ). comes_to w' n q p) ≡ (λ (q : ℕ). comes_to w n q p) = λ i q. (kept_comes n q) i in
-      ap (λ v. nat_eq o p || option_map_or (λ q. comes_to w' n q p) (option_and_then (λ r. kind_place r.kind) v) false) (there o apart)
+      ap (λ v. nat_eq o p || option_map_or (λ q. comes_to w' n q p) (option_and_then (λ r. kind_place r.kind) v) false)
+      (there o apart)
       ∙ ap (λ (f : ℕ → Bool). nat_eq o p || option_map_or f (place_of w o) false) again)
       (cases_eq o p)
 
   kept_within : ◌≡◌ {A = ℕ → Bool} (λ o. within w' o p) (λ o. within w o p)
-  kept_within = λ i o. (ap (λ b. b && comes_to w' w.next o p) (kept is_some refl o) ∙ ap (λ b. exists w o && b) (kept_comes w.next o)) i
+  kept_within = λ i o.
+      (ap (λ b. b && comes_to w' w.next o p) (kept is_some refl o) ∙ ap (λ b. exists w o && b) (kept_comes w.next o)) i
 
   kept_opens : (n o : ℕ) → opens w' n (λ a. within w' a p) o ≡ opens w n (λ a. within w a p) o
   kept_opens zero o = kept (λ v. option_map_or (λ r. is_none r.key) v false) refl o
   kept_opens (suc n) o =
       let again : opens w' n (λ a. within w' a p) ≡ opens w n (λ a. within w a p) = λ i o. (kept_opens n o) i in
       ap (λ (f : ℕ → Bool). has w' o (λ r. option_map_or (key_true (λ a. within w' a p) f) r.key true)) again
-      ∙ ap (λ (f : ℕ → Bool). has w' o (λ r. option_map_or (key_true f (opens w n (λ a. within w a p))) r.key true)) kept_within
-      ∙ kept (λ v. option_map_or (λ r. option_map_or (key_true (λ a. within w a p) (opens w n (λ a. within w a p))) r.key true) v false) refl o
+      ∙ ap (λ (f : ℕ → Bool). has w' o (λ r. option_map_or (key_true f (opens w n (λ a. within w a p))) r.key true))
+      kept_within
+      ∙ kept (λ v. option_map_or
+      (λ r. option_map_or (key_true (λ a. within w a p) (opens w n (λ a. within w a p))) r.key true) v false) refl o
 
   kept_unlocked : (n : ℕ) → unlocked w' p n ≡ unlocked w p n
   kept_unlocked n = kept_opens 4 n
@@ -109,15 +117,18 @@ module _ (w : State) (p y : ℕ) (r : Record) (at : record_at w p ≡ Some r) wh
 
   kept_step : (n : ℕ) → open_step w' p n ≡ open_step w p n
   kept_step n =
-      ap (λ b. cond b (option_map (λ a. record { exit = n; to = a.destination; cost = a.cost }) (passage_of w' n)) None) (kept_passable n)
-      ∙ ap (λ v. cond (passable w p n) (option_map (λ a. record { exit = n; to = a.destination; cost = a.cost }) v) None) (kept_passage n)
+      ap (λ b. cond b (option_map (λ a. record { exit = n; to = a.destination; cost = a.cost }) (passage_of w' n)) None)
+      (kept_passable n)
+      ∙ ap (λ v. cond (passable w p n)
+      (option_map (λ a. record { exit = n; to = a.destination; cost = a.cost }) v) None) (kept_passage n)
 
   -- the roads of the one who moves stay as they were
   pub kept-roads : roads_of w' p ≡ roads_of w p
   unfolding roads_of
   kept-roads =
       let step : open_step w' p ≡ open_step w p = λ i n. (kept_step n) i in
-      λ i room. (ap (filter_map (open_step w' p)) (kept_leaving room) ∙ ap (λ (f : ℕ → Option Step). filter_map f (leaving_of w room)) step) i
+      λ i room. (ap (filter_map (open_step w' p)) (kept_leaving room)
+      ∙ ap (λ (f : ℕ → Option Step). filter_map f (leaving_of w room)) step) i
 
   -- and he stands where he went
   pub placed-anew : is_player_kind r.kind ≡ true → place_of w' p ≡ Some y
@@ -140,7 +151,8 @@ passage-exit : (w : State) (n : ℕ) (a : Passage) → passage_of w n ≡ Some a
 passage-exit w n a is =
     record_cases (record_at w n)
     (λ e. let bad : None ≡ Some a = sym (ap (option_and_then (λ r. kind_passage r.kind)) e) ∙ is in absurd (cc))
-    (λ r e. ap (λ v. option_map_or (λ r. is_exit_kind r.kind) v false) e ∙ of_kind r.kind (sym (ap (option_and_then (λ r. kind_passage r.kind)) e) ∙ is))
+    (λ r e. ap (λ v. option_map_or (λ r. is_exit_kind r.kind) v false) e
+    ∙ of_kind r.kind (sym (ap (option_and_then (λ r. kind_passage r.kind)) e) ∙ is))
   where
     of_kind : (k : Kind) → kind_passage k ≡ Some a → is_exit_kind k ≡ true
     of_kind Room e = absurd (let bad : None ≡ Some a = e in cc)
@@ -149,7 +161,8 @@ passage-exit w n a is =
     of_kind (Player q) e = absurd (let bad : None ≡ Some a = e in cc)
 
 -- a player's change by an exit of his roads is legal
-module _ (w : State) (p from : ℕ) (s : Step) (player : IsTrue (is_player w p)) (place : place_of w p ≡ Some from) (road : IsRoad w p from s) where
+module _ (w : State) (p from : ℕ) (s : Step) (player : IsTrue (is_player w p)) (place : place_of w p ≡ Some from)
+    (road : IsRoad w p from s) where
   abbrev ends : Passage
   ends = record { source = from; destination = s.to; cost = s.cost }
 
@@ -158,12 +171,15 @@ module _ (w : State) (p from : ℕ) (s : Step) (player : IsTrue (is_player w p))
 
   both-unlocked : (unlocked w p s.exit ≡ true) × (unlocked w p s.to ≡ true)
   both-unlocked =
-      let is : (unlocked w p s.exit && unlocked w p s.to) ≡ true = sym (ap (λ v. option_map_or (λ (a : Passage). unlocked w p s.exit && unlocked w p a.destination) v false) road.0) ∙ road.1 in
+      let is : (unlocked w p s.exit && unlocked w p s.to) ≡ true = sym
+      (ap (λ v. option_map_or (λ (a : Passage). unlocked w p s.exit && unlocked w p a.destination) v false) road.0)
+      ∙ road.1 in
       and_parts (unlocked w p s.exit) (unlocked w p s.to) is
 
   leaves : leaves_from w p s.exit ≡ true
   leaves =
-      ap (λ v. option_map_or (λ room. is_number room (option_map (λ (a : Passage). a.source) (passage_of w s.exit))) v false) place
+      ap (λ v. option_map_or
+      (λ room. is_number room (option_map (λ (a : Passage). a.source) (passage_of w s.exit))) v false) place
       ∙ ap (λ v. is_number from (option_map (λ (a : Passage). a.source) v)) road.0
       ∙ eq-eqb from from refl
 
@@ -183,7 +199,8 @@ module _ (w : State) (p from : ℕ) (s : Step) (player : IsTrue (is_player w p))
   pub step-legal : refusal w change ≡ None
   step-legal = (refusals_law w change).1.1 none-fails
 
-  pub step-after : (r : Record) → record_at w p ≡ Some r → world_after w change ≡ with_record w p (record r { kind = kind_at s.to r.kind })
+  pub step-after : (r : Record) → record_at w p ≡ Some r
+      → world_after w change ≡ with_record w p (record r { kind = kind_at s.to r.kind })
   step-after r at = ap (λ v. option_map_or (moved w p) v w) leads ∙ moved_by w p s.to r at
 
 -- ---- the whole walk
@@ -197,11 +214,14 @@ walks_law w sound p from to (s ∷ ss) player place walk =
           (λ e. absurd (true≢false (sym player ∙ ap (λ v. option_map_or (λ r. is_player_kind r.kind) v false) e)))
           (λ r at.
           let is = step-after w p from s player place road r at in
-          let kind : is_player_kind r.kind ≡ true = sym (ap (λ v. option_map_or (λ r. is_player_kind r.kind) v false) at) ∙ player in
-          let moved-sound = subst IsSound is (soundness_law w (record { actor = p; deed = WalkDeed s.exit }) sound legal) in
+          let kind : is_player_kind r.kind ≡ true =
+          sym (ap (λ v. option_map_or (λ r. is_player_kind r.kind) v false) at) ∙ player in
+          let moved-sound =
+          subst IsSound is (soundness_law w (record { actor = p; deed = WalkDeed s.exit }) sound legal) in
           let rest : Walk (roads_of (with_record w p (record r { kind = kind_at s.to r.kind })) p) s.to ss to =
           subst (λ (roads : Roads). Walk roads s.to ss to) (sym (kept-roads w p s.to r at)) walk.1 in
           let P : State → Type 0 = λ v. IsWalked v p ss to in
           subst P (sym is)
-          (walks_law (with_record w p (record r { kind = kind_at s.to r.kind })) moved-sound p s.to to ss (kept-player w p s.to r at ∙ player) (placed-anew w p s.to r at kind) rest)),
+          (walks_law (with_record w p (record r { kind = kind_at s.to r.kind })) moved-sound p s.to to ss
+          (kept-player w p s.to r at ∙ player) (placed-anew w p s.to r at kind) rest)),
     )

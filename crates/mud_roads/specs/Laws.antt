@@ -6,15 +6,18 @@ use Rattle.mud_world.specs.Sound.{IsSound}
 use Rattle.mud_world.specs.Legal.{refusal, after as world_after}
 use Rattle.mud_roads.specs.declared.label.Label.{Label}
 use Rattle.mud_roads.specs.declared.label.Step.{Step}
-use Rattle.mud_roads.specs.Walks.{Roads, Walk, total, IsLeast, NoWalk, Least, IsRoute, Goer, IsMeeting, NoMeeting}
+use Rattle.mud_roads.specs.Walks.{Roads, Walk, total, IsLeast, NoWalk, Least, IsRoute, Goer, HasLeast, IsMeeting}
+use Rattle.mud_roads.specs.Walks.{NoMeeting}
 use Rattle.mud_roads.specs.Labels.{AreValid}
 use Rattle.mud_roads.specs.Open.{passable, roads_of}
 
+-- one at most is so
+abbrev pub IsOne : {A : Type 0} → (A → Type 0) → Type 0
+IsOne {A} IsSo = (a b : A) → IsSo a → IsSo b → a ≡ b
+
 -- a room has one least label
 abbrev pub LeastIsOne : Type 0
-LeastIsOne =
-    (hop : ℕ) (roads : Roads) (from to : ℕ) (a b : Option Label) → Least hop roads from to a → Least hop roads from to b
-    → a ≡ b
+LeastIsOne = (hop : ℕ) (roads : Roads) (from to : ℕ) → IsOne (Least hop roads from to)
 
 -- a room with a least label has one whatever an exit counts as, at the same cost
 abbrev pub LeastIsAlike : Type 0
@@ -64,19 +67,17 @@ WalksAreLegal =
 
 -- a room has one canonical route
 abbrev pub RouteIsOne : Type 0
-RouteIsOne =
-    (w : State) → IsSound w → (p from to : ℕ) (ss ts : List Step)
-    → IsRoute 1 (roads_of w p) from to ss → IsRoute 1 (roads_of w p) from to ts → ss ≡ ts
+RouteIsOne = (w : State) → IsSound w → (p from to : ℕ) → IsOne (IsRoute 1 (roads_of w p) from to)
 
 -- a party has one meeting room, at one cost
 abbrev pub MeetingIsOne : Type 0
 MeetingIsOne =
-    (hop : ℕ) (party : List Goer) (r c r' c' : ℕ) → IsMeeting hop party r c → IsMeeting hop party r' c'
-    → (r ≡ r') × (c ≡ c')
+    (hop : ℕ) (party : List Goer) (r c r' c' : ℕ) → IsMeeting (HasLeast hop) party r c
+    → IsMeeting (HasLeast hop) party r' c' → (r ≡ r') × (c ≡ c')
 
 -- the meeting room and its cost are the same whatever an exit counts as, and so is that there is none
 abbrev pub MeetingIsAlike : Type 0
 MeetingIsAlike =
     (hop hop' : ℕ) (party : List Goer)
-    → ((room cost : ℕ) → IsMeeting hop party room cost → IsMeeting hop' party room cost)
-    × (NoMeeting hop party → NoMeeting hop' party)
+    → ((room cost : ℕ) → IsMeeting (HasLeast hop) party room cost → IsMeeting (HasLeast hop') party room cost)
+    × (NoMeeting (HasLeast hop) party → NoMeeting (HasLeast hop') party)

@@ -1,7 +1,7 @@
 -- Walks, least labels, routes and meetings, over any roads. Each exit of a walk counts as `hop`: 1 where the number of
 -- exits matters, 0 where only costs do.
-use Rattle.std.specs.Prelude.{◌≡◌, ℕ, ◌+◌, ◌<◌, ◌≤◌, ◌⊎◌, List, [], ◌∷◌, sum_by, reverse, Contains, All, Any, Option}
-use Rattle.std.specs.Prelude.{None, Some}
+use Rattle.std.specs.Prelude.{◌≡◌, ℕ, ◌+◌, ◌<◌, ◌≤◌, ◌⊎◌, List, [], ◌∷◌, sum_by, map, reverse, Contains, All, Any}
+use Rattle.std.specs.Prelude.{Option, None, Some}
 use Rattle.mud_roads.specs.declared.label.Label.{Label}
 use Rattle.mud_roads.specs.declared.label.Step.{Step}
 
@@ -13,6 +13,10 @@ Roads = ℕ → List Step
 abbrev pub Walk : Roads → ℕ → List Step → ℕ → Type 0
 Walk roads from [] to = from ≡ to
 Walk roads from (s ∷ ss) to = Contains (roads from) s × Walk roads s.to ss to
+
+-- the exits of a walk
+abbrev pub exits_of : List Step → List ℕ
+exits_of ss = map (λ s. s.exit) ss
 
 -- what a walk costs, and how many exits it has
 abbrev pub total : ℕ → List Step → Label
@@ -62,16 +66,20 @@ IsRoute hop roads from to ss = RouteBack hop roads from to (reverse ss)
 abbrev pub Goer : Type 0
 Goer = Roads × ℕ
 
--- all come to the room, and the greatest of their least costs is this one
-pub record Gathers (hop : ℕ) (party : List Goer) (room cost : ℕ) : Type 0 where
-  pub all : All (λ p. (l : Label) × IsLeast hop p.0 p.1 room l × (l.cost ≤ cost)) party
-  pub one : Any (λ p. (l : Label) × IsLeast hop p.0 p.1 room l × (l.cost ≡ cost)) party
+-- his least label of a room, or that he has none
+abbrev pub HasLeast : ℕ → Goer → ℕ → Option Label → Type 0
+HasLeast hop p room l = Least hop p.0 p.1 room l
 
--- of the rooms where all come, the one of least greatest cost, then of lowest number
-pub record IsMeeting (hop : ℕ) (party : List Goer) (room cost : ℕ) : Type 0 where
-  pub gathers : Gathers hop party room cost
-  pub best : (r c : ℕ) → Gathers hop party r c → (cost < c) ⊎ ((cost ≡ c) × (room ≤ r))
+-- each of the party has a label of the room, and the greatest of their costs is this one
+pub record Gathers {A : Type 0} (Has : A → ℕ → Option Label → Type 0) (party : List A) (room cost : ℕ) : Type 0 where
+  pub all : All (λ p. (l : Label) × Has p room (Some l) × (l.cost ≤ cost)) party
+  pub one : Any (λ p. (l : Label) × Has p room (Some l) × (l.cost ≡ cost)) party
 
--- there is no room where all come
-abbrev pub NoMeeting : ℕ → List Goer → Type 0
-NoMeeting hop party = (r c : ℕ) → Gathers hop party r c → ⊥
+-- of the rooms of which each has a label, the one of least greatest cost, then of lowest number
+pub record IsMeeting {A : Type 0} (Has : A → ℕ → Option Label → Type 0) (party : List A) (room cost : ℕ) : Type 0 where
+  pub gathers : Gathers Has party room cost
+  pub best : (r c : ℕ) → Gathers Has party r c → (cost < c) ⊎ ((cost ≡ c) × (room ≤ r))
+
+-- there is no room of which each has a label
+abbrev pub NoMeeting : {A : Type 0} → (A → ℕ → Option Label → Type 0) → List A → Type 0
+NoMeeting Has party = (r c : ℕ) → Gathers Has party r c → ⊥

@@ -1,5 +1,7 @@
 -- The facts last, and at rest the labels are least.
-use Rattle.std.proofs.Common.{◌≡◌, ◌≢◌, cond, ℕ, zero, suc, ◌*◌, ◌<◌, ◌≤◌, ◌⊎◌, inl, inr, Bool, true, false, List, [], ◌∷◌, length, set, Option, None, Some, refl, sym, ◌∙◌, ap, subst, arith, get_or-set_same, get_or-set_other, length-set}
+use Rattle.std.proofs.Common.{◌≡◌, ◌≢◌, cond, ℕ, zero, suc, ◌*◌, ◌<◌, ◌≤◌, ◌⊎◌, inl, inr, Bool, true, false, List, []}
+use Rattle.std.proofs.Common.{◌∷◌, length, set, Option, None, Some, refl, sym, ◌∙◌, ap, subst, arith, get_or-set_same}
+use Rattle.std.proofs.Common.{get_or-set_other, length-set}
 use Rattle.std.specs.Prelude.{Contains, count_by, reverse}
 use Rattle.std.proofs.lemmas.List.Sums.{sum_by-cons, get_or-le-sum_by}
 use Rattle.std.proofs.lemmas.List.{get_or_past}
@@ -13,17 +15,18 @@ use Rattle.mud_roads.proofs.Bounds.{valid_is_least}
 use Rattle.mud_roads.proofs.Routes.{label-ext}
 use Rattle.mud_search.specs.declared.slot.Slot.{Slot}
 use Rattle.mud_search.specs.declared.slot.Slot.TheVariants.{Unknown, Open, Held, Finished}
-use Rattle.mud_search.specs.Boards.{slot_at, label_at, is_below, falls, offered, offers, settled, IsBoardOf}
-use Rattle.mud_search.specs.Facts.{visited, is_in, IsWalked}
+use Rattle.mud_search.specs.Boards.{slot_at, label_at, is_below, falls, offered, offers, settled, Below, IsBoardOf}
+use Rattle.mud_search.specs.Trails.{visited, is_in, IsWalked}
 use Rattle.mud_search.specs.Slots.{label_of, is_open, is_held}
-use Rattle.mud_search.specs.Tasks.{Below}
 use Rattle.mud_search.proofs.Inside.{AreWithin}
-use Rattle.mud_search.proofs.Trails.{Falls, trail-falls, trail-reaches, trail-walk, trail-short, trail-cost, total-reverse, exits-length}
+use Rattle.mud_search.proofs.Trails.{Falls, trail-falls, trail-reaches, trail-walk, trail-short, trail-cost}
+use Rattle.mud_search.proofs.Trails.{total-reverse, exits-length}
 
 pub label-set_same : (slots : List Slot) (d : ℕ) (v : Slot) → d < length slots → label_at (set slots d v) d ≡ label_of v
 label-set_same slots d v h = ap label_of (get_or-set_same slots d v Unknown h)
 
-pub label-set_other : (slots : List Slot) (d : ℕ) (v : Slot) (room : ℕ) → room ≢ d → label_at (set slots d v) room ≡ label_at slots room
+pub label-set_other : (slots : List Slot) (d : ℕ) (v : Slot) (room : ℕ) → room ≢ d
+    → label_at (set slots d v) room ≡ label_at slots room
 label-set_other slots d v room h = ap label_of (get_or-set_other slots d room v Unknown h)
 
 pub falls-set : (slots : List Slot) (d : ℕ) (v : Slot) (k : Label) → d < length slots → label_of v ≡ Some k
@@ -62,30 +65,39 @@ faithful-set roads from rooms slots sound d v k h is low walked done =
         walked = λ room l e.
             elim (cases_eq room d) [
               | inl same ↦
-                  let kl : k ≡ l = some-inj k l (sym is ∙ sym (label-set_same slots d v within) ∙ ap now (sym same) ∙ e) in
+                  let kl : k ≡ l =
+                  some-inj k l (sym is ∙ sym (label-set_same slots d v within) ∙ ap now (sym same) ∙ e) in
                   let P : Label → Type 0 = λ j. IsWalked roads now from room j in
                   let Q : ℕ → Type 0 = λ r. IsWalked roads now from r k in
                   subst P kl (subst Q (sym same) walked)
               | inr other ↦
-                  let old : IsWalked roads (label_at slots) from room l = sound.faithful.walked room l (sym (label-set_other slots d v room other) ∙ e) in
+                  let old : IsWalked roads (label_at slots) from room l =
+                  sound.faithful.walked room l (sym (label-set_other slots d v room other) ∙ e) in
                   (old.0, trail-falls roads (label_at slots) now from down old.0 room old.1, old.2)
             ];
         start =
             elim (cases_eq from d) [
               | inl same ↦
-                  let zero_label : k ≡ start_label = start-least k (low start_label (start_label, ap (label_at slots) (sym same) ∙ sound.faithful.start, (omega arith, λ x. omega arith))) in
+                  let zero_label : k ≡ start_label = start-least k
+                  (low start_label (
+                    start_label,
+                    ap (label_at slots) (sym same) ∙ sound.faithful.start,
+                    (omega arith, λ x. omega arith),
+                  )) in
                   ap now same ∙ label-set_same slots d v within ∙ is ∙ ap Some zero_label
               | inr other ↦ label-set_other slots d v from other ∙ sound.faithful.start
             ];
         finished = λ room l s e c.
             elim (cases_eq room d) [
               | inl same ↦
-                  let at : v ≡ Finished l = sym (get_or-set_same slots d v Unknown within) ∙ ap (slot_at (set slots d v)) (sym same) ∙ e in
+                  let at : v ≡ Finished l =
+                  sym (get_or-set_same slots d v Unknown within) ∙ ap (slot_at (set slots d v)) (sym same) ∙ e in
                   let kl : k ≡ l = some-inj k l (sym is ∙ ap label_of at) in
                   let P : Label → Type 0 = λ j. Reaches now s.to (after 1 j s) in
                   let Q : ℕ → Type 0 = λ r. Contains (roads r) s in
                   subst P kl (done s (at ∙ ap Finished (sym kl)) (subst Q same c))
-              | inr other ↦ down s.to (after 1 l s) (sound.faithful.finished room l s (sym (get_or-set_other slots d room v Unknown other) ∙ e) c)
+              | inr other ↦ down s.to (after 1 l s)
+                  (sound.faithful.finished room l s (sym (get_or-set_other slots d room v Unknown other) ∙ e) c)
             ];
       };
     }
@@ -114,7 +126,8 @@ at_most-from_test a b h = (grind (arith, nat_tests), λ e. grind (arith, nat_tes
 
 total-cons : (s : Step) (ss : List Step) → total 1 (s ∷ ss) ≡ after 1 (total 1 ss) s
 total-cons s ss =
-    label-ext (total 1 (s ∷ ss)) (after 1 (total 1 ss) s) (omega (arith, sum_by-cons (λ (x : Step). x.cost) s ss)) (omega (arith, sum_by-cons (λ (x : Step). 1) s ss))
+    label-ext (total 1 (s ∷ ss)) (after 1 (total 1 ss) s) (omega (arith, sum_by-cons (λ (x : Step). x.cost) s ss))
+    (omega (arith, sum_by-cons (λ (x : Step). 1) s ss))
 
 pub bool-cases : (b : Bool) → (b ≡ true) ⊎ (b ≡ false)
 bool-cases true = inl refl
@@ -141,7 +154,8 @@ faithful-lowered roads from rooms slots sound inside by l s was c less =
     let fresh : is_in s.to (visited from old.0) ≡ false =
     elim (bool-cases (is_in s.to (visited from old.0))) [
       | inl seen ↦
-          let r : Reaches (label_at slots) s.to (total 1 old.0) = trail-reaches roads (label_at slots) from sound.faithful.start old.0 by old.1 s.to seen in
+          let r : Reaches (label_at slots) s.to (total 1 old.0) =
+          trail-reaches roads (label_at slots) from sound.faithful.start old.0 by old.1 s.to seen in
           let b : Below (after 1 l s) r.0 = less r.0 r.1 in
           let p : AtMost r.0 (total 1 old.0) = r.2 in
           let cost : (total 1 old.0).cost ≡ l.cost = ap (λ (k : Label). k.cost) old.2 in
@@ -156,7 +170,8 @@ faithful-lowered roads from rooms slots sound inside by l s was c less =
     (s ∷ old.0, (refl, fresh, reach, (by, c, trail-falls roads (label_at slots) now from down old.0 by old.1)), sum)
     (λ t e d. absurd (cc))
   where
-    clash : (l : Label) (s : Step) (k t : Label) → Below (after 1 l s) k → AtMost k t → t.cost ≡ l.cost → t.exits ≡ l.exits → ⊥
+    clash : (l : Label) (s : Step) (k t : Label) → Below (after 1 l s) k → AtMost k t
+        → t.cost ≡ l.cost → t.exits ≡ l.exits → ⊥
     clash l s k t b p e f = omega arith
 
 -- what is kept from one list of slots to the next, where the steps of a room are followed
@@ -173,14 +188,17 @@ self-loop l k s e b =
     let c : Below (after 1 l s) l = subst P e b in
     omega (arith, c.1 (omega arith))
 
-pub follows-offered : (roads : Roads) (from rooms : ℕ) (slots : List Slot) → IsBoardOf roads from rooms slots → AreWithin roads rooms
+pub follows-offered : (roads : Roads) (from rooms : ℕ) (slots : List Slot)
+    → IsBoardOf roads from rooms slots → AreWithin roads rooms
     → (by : ℕ) (l : Label) (s : Step) → label_at slots by ≡ Some l → Contains (roads by) s
-    → Follows roads from rooms by l slots (offered l s slots) × Reaches (label_at (offered l s slots)) s.to (after 1 l s)
+    → Follows roads from rooms by l slots (offered l s slots)
+    × Reaches (label_at (offered l s slots)) s.to (after 1 l s)
 follows-offered roads from rooms slots sound inside by l s was c =
     go (label_at slots s.to) refl (falls (after 1 l s) (label_at slots s.to)) refl
   where
     go : (o : Option Label) → label_at slots s.to ≡ o → (b : Bool) → falls (after 1 l s) (label_at slots s.to) ≡ b
-        → Follows roads from rooms by l slots (offered l s slots) × Reaches (label_at (offered l s slots)) s.to (after 1 l s)
+        → Follows roads from rooms by l slots (offered l s slots)
+        × Reaches (label_at (offered l s slots)) s.to (after 1 l s)
     go o at true lower =
         let h : s.to < rooms = (inside by s c).0 in
         let within : s.to < length slots = omega (arith, sound.whole) in
@@ -231,7 +249,8 @@ follows-offers roads from rooms inside by l [] those slots sound was =
     (record { sound = sound; still = was; kept = refl; down = λ room a r. r }, λ s (k, h, e). absurd (omega arith))
 follows-offers roads from rooms inside by l (s ∷ ss) those slots sound was =
     let one = follows-offered roads from rooms slots sound inside by l s was (those s (here s ss)) in
-    let rest = follows-offers roads from rooms inside by l ss (λ t c. those t (there s ss t c)) (offered l s slots) one.0.sound one.0.still in (
+    let rest = follows-offers roads from rooms inside by l ss (λ t c. those t (there s ss t c))
+    (offered l s slots) one.0.sound one.0.still in (
       record {
         sound = rest.0.sound;
         still = rest.0.still;
@@ -259,15 +278,18 @@ faithful-settled roads from rooms inside room l steps are slots sound was h =
     (λ s e c. all.1 s (subst (P s) (sym are) c))
 
 -- no label is greater than the longest walk that visits no room twice
-pub label-bound : (roads : Roads) (from rooms : ℕ) (slots : List Slot) → IsBoardOf roads from rooms slots → AreWithin roads rooms
+pub label-bound : (roads : Roads) (from rooms : ℕ) (slots : List Slot)
+    → IsBoardOf roads from rooms slots → AreWithin roads rooms
     → (room : ℕ) (l : Label) → label_at slots room ≡ Some l → (l.exits < rooms) × (l.cost ≤ 10000 * l.exits)
 label-bound roads from rooms slots sound inside room l e =
     let at = sound.faithful.walked room l e in
-    let start : from < rooms = omega (arith, labelled-within slots from start_label sound.faithful.start, sound.whole) in
+    let start : from < rooms =
+    omega (arith, labelled-within slots from start_label sound.faithful.start, sound.whole) in
     let cost : (total 1 at.0).cost ≡ l.cost = ap (λ (k : Label). k.cost) at.2 in
     let exits : length at.0 ≡ l.exits = sym (exits-length at.0) ∙ ap (λ (k : Label). k.exits) at.2 in
     let short : length at.0 < rooms = trail-short roads (label_at slots) from rooms inside start at.0 room at.1 in
-    let dear : (total 1 at.0).cost ≤ 10000 * length at.0 = trail-cost roads (label_at slots) from rooms inside at.0 room at.1 in
+    let dear : (total 1 at.0).cost ≤ 10000 * length at.0 =
+    trail-cost roads (label_at slots) from rooms inside at.0 room at.1 in
     (omega arith, omega arith)
   where
     labelled-within : (slots : List Slot) (room : ℕ) (l : Label) → label_at slots room ≡ Some l → room < length slots
@@ -285,7 +307,8 @@ pub record AtRest (slots : List Slot) : Type 0 where
   pub opened : count_by is_open slots ≡ 0
   pub held : count_by is_held slots ≡ 0
 
-one-counted : (p : Slot → Bool) (slots : List Slot) (room : ℕ) → p Unknown ≡ false → p (slot_at slots room) ≡ true → 0 < count_by p slots
+one-counted : (p : Slot → Bool) (slots : List Slot) (room : ℕ) → p Unknown ≡ false
+    → p (slot_at slots room) ≡ true → 0 < count_by p slots
 one-counted p slots room u h =
     elim (cases_lt room (length slots)) [
       | inl within ↦
@@ -309,7 +332,8 @@ still-from_rest slots rest = record {
 }
 
 -- at rest a labelled room is finished
-rest-finished : (slots : List Slot) → IsStill slots → (room : ℕ) (l : Label) → label_at slots room ≡ Some l → slot_at slots room ≡ Finished l
+rest-finished : (slots : List Slot) → IsStill slots → (room : ℕ) (l : Label) → label_at slots room ≡ Some l
+    → slot_at slots room ≡ Finished l
 rest-finished slots rest room l e = go (slot_at slots room) refl
   where
     go : (v : Slot) → slot_at slots room ≡ v → slot_at slots room ≡ Finished l
@@ -335,17 +359,21 @@ rest-least roads from rooms slots sound rest room = go (label_at slots room) ref
         let walked = sound.faithful.walked room l at in
         let sum : total 1 (reverse walked.0) ≡ l = total-reverse walked.0 ∙ walked.2 in
         let P : Label → Type 0 = λ k. IsLeast 1 roads from room k in
-        subst P sum ((valid_is_least 1 roads from (label_at slots) valid).0 room (reverse walked.0) (trail-walk roads (label_at slots) from walked.0 room walked.1) (at ∙ ap Some (sym sum)))
+        subst P sum ((valid_is_least 1 roads from (label_at slots) valid).0 room (reverse walked.0)
+        (trail-walk roads (label_at slots) from walked.0 room walked.1) (at ∙ ap Some (sym sum)))
 
 below-trans : (a j k : Label) → Below a j → AtMost j k → Below a k
 below-trans a j k p q = (omega arith, λ e. omega arith)
 
-falls-offered : (l : Label) (s : Step) (slots : List Slot) → s.to < length slots → Falls (label_at slots) (label_at (offered l s slots))
+falls-offered : (l : Label) (s : Step) (slots : List Slot) → s.to < length slots
+    → Falls (label_at slots) (label_at (offered l s slots))
 falls-offered l s slots within = go (falls (after 1 l s) (label_at slots s.to)) refl
   where
-    go : (b : Bool) → falls (after 1 l s) (label_at slots s.to) ≡ b → Falls (label_at slots) (label_at (offered l s slots))
+    go : (b : Bool) → falls (after 1 l s) (label_at slots s.to) ≡ b
+        → Falls (label_at slots) (label_at (offered l s slots))
     go true lower = rw lower (falls-set slots s.to (Open (after 1 l s)) (after 1 l s) within refl (λ a r.
-        let b : Below (after 1 l s) r.0 = below-from_test (after 1 l s) r.0 (sym (ap (falls (after 1 l s)) r.1) ∙ lower) in
+        let b : Below (after 1 l s) r.0 =
+        below-from_test (after 1 l s) r.0 (sym (ap (falls (after 1 l s)) r.1) ∙ lower) in
         let p : AtMost r.0 a = r.2 in
         (omega arith, λ e. omega arith)))
     go false higher = rw higher (λ room a r. r)
@@ -359,7 +387,8 @@ pub record Fell (l : Label) (ss : List Step) (slots : List Slot) (q : ℕ) (v : 
   pub less : (k : Label) → label_at slots q ≡ Some k → Below (after 1 l step) k
 
 -- a room's slot is as before, or it fell
-pub offers-slot : (l : Label) (ss : List Step) (slots : List Slot) → ((s : Step) → Contains ss s → s.to < length slots) → (q : ℕ)
+pub offers-slot : (l : Label) (ss : List Step) (slots : List Slot)
+    → ((s : Step) → Contains ss s → s.to < length slots) → (q : ℕ)
     → (slot_at (offers l ss slots) q ≡ slot_at slots q) ⊎ Fell l ss slots q (slot_at (offers l ss slots) q)
 offers-slot l [] slots inside q = inl refl
 offers-slot l (s ∷ ss) slots inside q =
@@ -389,19 +418,22 @@ offers-slot l (s ∷ ss) slots inside q =
 
     offered-slot : (l : Label) (s : Step) (slots : List Slot) → s.to < length slots → (q : ℕ)
         → (slot_at (offered l s slots) q ≡ slot_at slots q)
-        ⊎ ((s.to ≡ q) × (slot_at (offered l s slots) q ≡ Open (after 1 l s)) × ((k : Label) → label_at slots q ≡ Some k → Below (after 1 l s) k))
+        ⊎ ((s.to ≡ q) × (slot_at (offered l s slots) q ≡ Open (after 1 l s))
+        × ((k : Label) → label_at slots q ≡ Some k → Below (after 1 l s) k))
     offered-slot l s slots within q = go (falls (after 1 l s) (label_at slots s.to)) refl
       where
         go : (b : Bool) → falls (after 1 l s) (label_at slots s.to) ≡ b
             → (slot_at (offered l s slots) q ≡ slot_at slots q)
-            ⊎ ((s.to ≡ q) × (slot_at (offered l s slots) q ≡ Open (after 1 l s)) × ((k : Label) → label_at slots q ≡ Some k → Below (after 1 l s) k))
+            ⊎ ((s.to ≡ q) × (slot_at (offered l s slots) q ≡ Open (after 1 l s))
+            × ((k : Label) → label_at slots q ≡ Some k → Below (after 1 l s) k))
         go true e =
             elim (cases_eq q s.to) [
               | inl same ↦
                   inr (
                     sym same,
                     rw (e, same) (get_or-set_same slots s.to (Open (after 1 l s)) Unknown within),
-                    λ k is. below-from_test (after 1 l s) k (sym (ap (falls (after 1 l s)) (ap (label_at slots) (sym same) ∙ is)) ∙ e),
+                    λ k is. below-from_test (after 1 l s) k
+                        (sym (ap (falls (after 1 l s)) (ap (label_at slots) (sym same) ∙ is)) ∙ e),
                   )
               | inr other ↦ inl (rw e (get_or-set_other slots s.to q (Open (after 1 l s)) Unknown other))
             ]

@@ -1,5 +1,6 @@
 -- The first of the open rooms.
-use Rattle.std.proofs.Common.{◌≡◌, ℕ, ◌+◌, ◌<◌, ◌≤◌, Bool, true, false, List, [], length, Option, None, Some, inl, inr, refl, sym, ◌∙◌, ap, subst, arith, cond}
+use Rattle.std.proofs.Common.{◌≡◌, ℕ, ◌+◌, ◌<◌, ◌≤◌, Bool, true, false, List, [], length, Option, None, Some, inl, inr}
+use Rattle.std.proofs.Common.{refl, sym, ◌∙◌, ap, subst, arith, cond}
 use Rattle.std.specs.Prelude.{IfSome, IfNone}
 use Rattle.std.proofs.lemmas.Bool.{cases_eq, cases_lt}
 use Rattle.std.proofs.lemmas.List.{get_or_past}
@@ -17,6 +18,13 @@ BestSoFar boards n None = (m r : ℕ) (l : Label) → m < n → slot_of boards m
 BestSoFar boards n (Some t) =
     (t.member < n) × (slot_of boards t.member t.room ≡ Open t.label)
     × ((m r : ℕ) (l : Label) → m < n → slot_of boards m r ≡ Open l → IsTaskBefore t m r l)
+
+-- labels alike in both are one
+same-cost : (a b : Label) → a ≡ b → a.cost ≡ b.cost
+same-cost a b e = ap (λ (l : Label). l.cost) e
+
+same-exits : (a b : Label) → a ≡ b → a.exits ≡ b.exits
+same-exits a b e = ap (λ (l : Label). l.exits) e
 
 less-from : (a b : Label) → is_below a b ≡ true → (a.cost ≤ b.cost) × (a.cost ≡ b.cost → a.exits < b.exits)
 less-from a b h = (grind (arith, nat_tests), λ e. grind (arith, nat_tests))
@@ -55,21 +63,26 @@ best-new boards n best b label room is first lower = (
       elim (cases_eq m n) [
         | inl same ↦
             let f : IsBefore label room l r = first r l (ap (λ (k : ℕ). slot_of boards k r) (sym same) ∙ e) in
-            (f.0, λ p. ((f.1 p).0, λ q. (omega arith, λ x. (f.1 p).1 q)))
+            ((f.0, λ p. (f.1 p).0), λ e. (omega arith, λ x. (f.1 (same-cost label l e)).1 (same-exits label l e)))
         | inr other ↦ beyond best b lower m r l (omega arith) e
       ],
 )
   where
     beyond : (o : Option Task) → BestSoFar boards n o → ((t : Task) → o ≡ Some t → is_below label t.label ≡ true)
-        → (m r : ℕ) (l : Label) → m < n → slot_of boards m r ≡ Open l → IsTaskBefore (record { member = n; room = room; label = label }) m r l
+        → (m r : ℕ) (l : Label) → m < n → slot_of boards m r ≡ Open l
+        → IsTaskBefore (record { member = n; room = room; label = label }) m r l
     beyond None b lower m r l h e = absurd (b m r l h e)
     beyond (Some t) b lower m r l h e =
         let below : is_below label t.label ≡ true = lower t refl in
         let before : IsTaskBefore t m r l = b.2 m r l h e in
-        let less : (label.cost ≤ t.label.cost) × (label.cost ≡ t.label.cost → label.exits < t.label.exits) = less-from label t.label below in
-        let p0 : t.label.cost ≤ l.cost = before.0 in
-        let p1 : t.label.cost ≡ l.cost → t.label.exits ≤ l.exits = λ q. (before.1 q).0 in
-        (omega arith, λ p. (omega (arith, less.1 (omega arith), p1 (omega arith)), λ q. absurd (omega (arith, less.1 (omega arith), p1 (omega arith)))))
+        let less : (label.cost ≤ t.label.cost) × (label.cost ≡ t.label.cost → label.exits < t.label.exits) =
+        less-from label t.label below in
+        let p0 : t.label.cost ≤ l.cost = before.0.0 in
+        let p1 : t.label.cost ≡ l.cost → t.label.exits ≤ l.exits = before.0.1 in (
+          (omega arith, λ p. omega (arith, less.1 (omega arith), p1 (omega arith))),
+          λ e. let cost = same-cost label l e in let exits = same-exits label l e in
+              absurd (omega (arith, cost, exits, less.1 (omega (arith, cost)), p1 (omega (arith, cost)))),
+        )
 
 -- the best so far stays
 pub best-keep : (boards : List (List Slot)) (n : ℕ) (t : Task) → BestSoFar boards n (Some t)
@@ -82,10 +95,13 @@ best-keep boards n t b label room first higher = (
       elim (cases_eq m n) [
         | inl same ↦
             let f : IsBefore label room l r = first r l (ap (λ (k : ℕ). slot_of boards k r) (sym same) ∙ e) in
-            let most : (t.label.cost ≤ label.cost) × (t.label.cost ≡ label.cost → t.label.exits ≤ label.exits) = most-from label t.label higher in
+            let most : (t.label.cost ≤ label.cost) × (t.label.cost ≡ label.cost → t.label.exits ≤ label.exits) =
+            most-from label t.label higher in
             let f1 : label.cost ≡ l.cost → label.exits ≤ l.exits = λ q. (f.1 q).0 in
-            let early : t.member < n = b.0 in
-            (omega (arith, f.0), λ p. (omega (arith, f.0, most.1 (omega (arith, f.0)), f1 (omega (arith, f.0))), λ q. (omega arith, λ x. absurd (omega arith))))
+            let early : t.member < n = b.0 in (
+              (omega (arith, f.0), λ p. omega (arith, f.0, most.1 (omega (arith, f.0)), f1 (omega (arith, f.0)))),
+              λ e. (omega arith, λ x. absurd (omega arith)),
+            )
         | inr other ↦ b.2 m r l (omega arith) e
       ],
 )
@@ -108,10 +124,15 @@ best-more boards n (Some t) (Some f) b found = go (is_below f.0 t.label) refl
   where
     go : (w : Bool) → is_below f.0 t.label ≡ w → BestSoFar boards (n + 1) (lesser (Some t) n (Some f))
     go true e =
-        let P : Bool → Type 0 = λ x. BestSoFar boards (n + 1) (cond x (Some (record { member = n; room = f.1; label = f.0 })) (Some t)) in
-        subst P (sym e) (best-new boards n (Some t) b f.0 f.1 found.some found.least (λ u same. ap (λ (k : Label). is_below f.0 k) (ap (λ (k : Task). k.label) (some-inj u t (sym same))) ∙ e))
+        let P : Bool → Type 0 =
+        λ x. BestSoFar boards (n + 1) (cond x (Some (record { member = n; room = f.1; label = f.0 })) (Some t)) in
+        subst P (sym e)
+        (best-new boards n (Some t) b f.0 f.1 found.some found.least
+        (λ u same. ap (λ (k : Label). is_below f.0 k)
+        (ap (λ (k : Task). k.label) (some-inj u t (sym same))) ∙ e))
     go false e =
-        let P : Bool → Type 0 = λ x. BestSoFar boards (n + 1) (cond x (Some (record { member = n; room = f.1; label = f.0 })) (Some t)) in
+        let P : Bool → Type 0 =
+        λ x. BestSoFar boards (n + 1) (cond x (Some (record { member = n; room = f.1; label = f.0 })) (Some t)) in
         subst P (sym e) (best-keep boards n t b f.0 f.1 found.least e)
 
 -- an open room is one of a member's
@@ -125,7 +146,8 @@ open-member boards m r l e =
     ]
 
 -- past the last member the best is the first of all
-pub best-all-some : (boards : List (List Slot)) (n : ℕ) (best : Option Task) → length boards ≤ n → BestSoFar boards n best
+pub best-all-some : (boards : List (List Slot)) (n : ℕ) (best : Option Task)
+    → length boards ≤ n → BestSoFar boards n best
     → IfSome best (λ t. IsFirst (slot_of boards) t)
 best-all-some boards n None h b = tt
 best-all-some boards n (Some t) h b = record {
@@ -133,7 +155,8 @@ best-all-some boards n (Some t) h b = record {
   before = λ m r l e. b.2 m r l (omega (arith, open-member boards m r l e)) e;
 }
 
-pub best-all-none : (boards : List (List Slot)) (n : ℕ) (best : Option Task) → length boards ≤ n → BestSoFar boards n best
+pub best-all-none : (boards : List (List Slot)) (n : ℕ) (best : Option Task)
+    → length boards ≤ n → BestSoFar boards n best
     → IfNone best ((m r : ℕ) (l : Label) → slot_of boards m r ≡ Open l → ⊥)
 best-all-none boards n None h b = λ m r l e. b m r l (omega (arith, open-member boards m r l e)) e
 best-all-none boards n (Some t) h b = tt

@@ -1,9 +1,11 @@
 -- The facts of a frontier last.
-use Rattle.std.proofs.Common.{◌≡◌, ◌≢◌, ℕ, ◌+◌, ◌^◌, ◌<◌, ◌≤◌, ◌⊎◌, inl, inr, Bool, true, false, List, [], length, map, get_or, set, replicate, None, Some, refl, sym, ◌∙◌, ap, subst, arith, get_or-set_same, get_or-set_other, length-set}
+use Rattle.std.proofs.Common.{◌≡◌, ◌≢◌, ℕ, ◌+◌, ◌^◌, ◌<◌, ◌≤◌, ◌⊎◌, inl, inr, Bool, true, false, List, [], length, map}
+use Rattle.std.proofs.Common.{get_or, set, replicate, None, Some, refl, sym, ◌∙◌, ap, subst, arith, get_or-set_same}
+use Rattle.std.proofs.Common.{get_or-set_other, length-set}
 use Rattle.std.specs.Bool.{OnTrue, OnFalse}
 use Rattle.std.proofs.Math.ListN.{get_or-map}
 use Rattle.std.proofs.lemmas.List.Sums.{get_or-le-sum_by}
-use Rattle.std.specs.Prelude.{Contains, sum_by, count_by, All, slice_get}
+use Rattle.std.specs.Prelude.{Contains, sum_by, count_by, All, slice_get, reverse}
 use Rattle.std.proofs.lemmas.Bool.{cases_eq, cases_lt}
 use Rattle.std.proofs.lemmas.List.{get_or_past, get_or-replicate, length-replicate, length-map}
 use Rattle.std.proofs.lemmas.List.Elements.{Contains-get_or, All-get_or}
@@ -19,14 +21,17 @@ use Rattle.mud_world.specs.Sound.{IsSound}
 use Rattle.mud_search.proofs.Inside.{world-within, place-within}
 use Rattle.mud_search.specs.declared.slot.Slot.{Slot}
 use Rattle.mud_search.specs.declared.slot.Slot.TheVariants.{Unknown, Open, Held, Finished}
-use Rattle.mud_search.specs.Boards.{slot_at, label_at, settled, offers, IsBoardOf, IsKept, board_of, slot_of, begun_at, potential, weight, lists_of}
+use Rattle.mud_search.specs.Boards.{slot_at, label_at, settled, offers, IsBoardOf, IsKept, board_of, slot_of, begun_at}
+use Rattle.mud_search.specs.Boards.{potential, weight, lists_of, Below}
 use Rattle.mud_search.specs.Slots.{label_of, is_open, is_held}
 use Rattle.mud_search.specs.Facts.{IsFrontier}
 use Rattle.mud_search.specs.Tasks.{IsBegun, IsDone}
-use Rattle.mud_search.specs.Least.{AreLeast, AreBounded, label_in, labelling}
-use Rattle.mud_search.specs.Rooms.{rooms, labels_in}
-use Rattle.mud_search.proofs.Trails.{Falls}
-use Rattle.mud_search.proofs.Faithful.{faithful-relabelled, faithful-settled, label-bound, rest-least, IsStill, still-from_rest, follows-offers, falls-set, some-inj, offers-slot}
+use Rattle.mud_search.specs.Least.{AreLeast, AreBounded, label_in}
+use Rattle.mud_search.specs.Rooms.{labels_in}
+use Rattle.mud_search.specs.Tables.{table}
+use Rattle.mud_search.proofs.Trails.{Falls, trail-walk, total-reverse}
+use Rattle.mud_search.proofs.Faithful.{faithful-relabelled, faithful-settled, label-bound, rest-least, IsStill}
+use Rattle.mud_search.proofs.Faithful.{still-from_rest, follows-offers, falls-set, some-inj, offers-slot}
 use Rattle.mud_search.proofs.Firsts.{open-member}
 use Rattle.mud_search.proofs.Potential.{weight-settled_left, potential-set_less}
 
@@ -58,7 +63,8 @@ frontier-set w ts boards f m b h sound = record {
       elim (cases_eq n m) [
         | inl same ↦
             let P : List Slot → Type 0 = λ x. IsBoardOf (roads_of w t.player) t.place w.next x in
-            let e : board_of (set boards m b) n ≡ b = ap (λ (k : ℕ). get_or (set boards m b) k []) same ∙ get_or-set_same boards m b [] h in
+            let e : board_of (set boards m b) n ≡ b =
+            ap (λ (k : ℕ). get_or (set boards m b) k []) same ∙ get_or-set_same boards m b [] h in
             subst P (sym e) (sound t (ap (slice_get ts) (sym same) ∙ is))
         | inr other ↦
             let P : List Slot → Type 0 = λ x. IsBoardOf (roads_of w t.player) t.place w.next x in
@@ -79,13 +85,15 @@ labelled-within slots room l e =
 
 -- a room may change hands
 pub frontier-relabelled : (w : State) (ts : List Knowledge) (boards : List (List Slot)) → IsKept w ts boards
-    → (m room : ℕ) (v : Slot) (l : Label) → m < length boards → label_at (board_of boards m) room ≡ Some l → label_of v ≡ Some l → ((k : Label) → v ≢ Finished k)
+    → (m room : ℕ) (v : Slot) (l : Label) → m < length boards → label_at (board_of boards m) room ≡ Some l
+    → label_of v ≡ Some l → ((k : Label) → v ≢ Finished k)
     → IsKept w ts (with_slot boards m room v)
 frontier-relabelled w ts boards f m room v l h was is not_done =
     frontier-set w ts boards f m (set (board_of boards m) room v) h (λ t e.
     let sound = f.faithful m t e in
     let within : room < w.next = omega (arith, sound.whole, labelled-within (board_of boards m) room l was) in
-    faithful-relabelled (roads_of w t.player) t.place w.next (board_of boards m) sound room v l within was is (λ s d c. absurd (not_done l d)))
+    faithful-relabelled (roads_of w t.player) t.place w.next (board_of boards m) sound room v l within was is
+    (λ s d c. absurd (not_done l d)))
 
 -- a blank board
 blank-at : (n room : ℕ) → slot_at (replicate n Unknown) room ≡ Unknown
@@ -102,10 +110,12 @@ begun-first n t h =
     get_or-set_same blank t.place (Open start_label) Unknown within
 
 begun-other : (n : ℕ) (t : Knowledge) (room : ℕ) → room ≢ t.place → slot_at (begun_at n t) room ≡ Unknown
-begun-other n t room other = get_or-set_other (replicate n Unknown) t.place room (Open start_label) Unknown other ∙ blank-at n room
+begun-other n t room other =
+    get_or-set_other (replicate n Unknown) t.place room (Open start_label) Unknown other ∙ blank-at n room
 
 -- at first the place alone is labelled
-pub begun-faithful : (w : State) (t : Knowledge) → t.place < w.next → IsBoardOf (roads_of w t.player) t.place w.next (begun_at w.next t)
+pub begun-faithful : (w : State) (t : Knowledge) → t.place < w.next
+    → IsBoardOf (roads_of w t.player) t.place w.next (begun_at w.next t)
 begun-faithful w t h =
     let slots : List Slot = begun_at w.next t in
     let blank : List Slot = replicate w.next Unknown in
@@ -117,7 +127,8 @@ begun-faithful w t h =
         walked = λ room l e.
             elim (cases_eq room t.place) [
               | inl same ↦
-                  let label : Some start_label ≡ Some l = sym (ap label_of first) ∙ ap (label_at slots) (sym same) ∙ e in
+                  let label : Some start_label ≡ Some l =
+                  sym (ap label_of first) ∙ ap (label_at slots) (sym same) ∙ e in
                   ([], sym same, some-inj start_label l label)
               | inr other ↦
                   let bad : None ≡ Some l = sym (ap label_of (unknown room other)) ∙ e in
@@ -139,8 +150,13 @@ begun-faithful w t h =
     some-inj : (a b : Label) → Some a ≡ Some b → a ≡ b
     some-inj a b e = cc
 
+-- what is below another isn't above it
+not-below : (a k : Label) → Below a k → AtMost k a → ⊥
+not-below a k p q = let same : k.cost ≡ a.cost = omega (arith, p.0, q.0) in omega (arith, p.1 (sym same), q.1 same)
+
 -- what a settled room needs, and what it leaves
-module _ (w : State) (ts : List Knowledge) (boards : List (List Slot)) (f : IsKept w ts boards) (m room : ℕ) (h : m < length boards) (steps : List Step)
+module _ (w : State) (ts : List Knowledge) (boards : List (List Slot)) (f : IsKept w ts boards) (m room : ℕ)
+    (h : m < length boards) (steps : List Step)
     (are : (t : Knowledge) → slice_get ts m ≡ Some t → steps ≡ roads_of w t.player room) where
   within-ts : m < length ts
   within-ts = omega (arith, f.count)
@@ -151,9 +167,11 @@ module _ (w : State) (ts : List Knowledge) (boards : List (List Slot)) (f : IsKe
   is-who : slice_get ts m ≡ Some who
   is-who = slice_get-get_or ts m nobody within-ts
 
-  pub put-bound : (l : Label) → label_at (board_of boards m) room ≡ Some l → (l.cost + 10000 < 2 ^ 32) × (l.exits + 1 < 2 ^ 32)
+  pub put-bound : (l : Label) → label_at (board_of boards m) room ≡ Some l
+      → (l.cost + 10000 < 2 ^ 32) × (l.exits + 1 < 2 ^ 32)
   put-bound l e =
-      let bound = label-bound (roads_of w who.player) who.place w.next (board_of boards m) (f.faithful m who is-who) (world-within w who f.sound) room l e in
+      let bound = label-bound (roads_of w who.player) who.place w.next (board_of boards m) (f.faithful m who is-who)
+      (world-within w who f.sound) room l e in
       let few : w.next ≤ 8192 = f.sound.limit in
       (omega (arith, bound.0, bound.1), omega (arith, bound.0))
 
@@ -162,75 +180,96 @@ module _ (w : State) (ts : List Knowledge) (boards : List (List Slot)) (f : IsKe
       let P : List Step → Type 0 = λ ss. All (λ s. (s.to < length (board_of boards m)) × (s.cost ≤ 10000)) ss in
       let Q : ℕ → Type 0 = λ n. All (λ s. (s.to < n) × (s.cost ≤ 10000)) (roads_of w who.player room) in
       let R : Step → Type 0 = λ s. (s.to < w.next) × (s.cost ≤ 10000) in
-      let all : All R (roads_of w who.player room) = λ k d lt. world-within w who f.sound room (get_or (roads_of w who.player room) k d) (Contains-get_or (roads_of w who.player room) k d lt) in
+      let all : All R (roads_of w who.player room) = λ k d lt. world-within w who f.sound room
+      (get_or (roads_of w who.player room) k d) (Contains-get_or (roads_of w who.player room) k d lt) in
       subst P (sym (are who is-who)) (subst Q (sym (f.faithful m who is-who).whole) all)
 
-  pub put-kept : (l : Label) → label_at (board_of boards m) room ≡ Some l → IsKept w ts (set boards m (settled room l steps (board_of boards m)))
+  pub put-kept : (l : Label) → label_at (board_of boards m) room ≡ Some l
+      → IsKept w ts (set boards m (settled room l steps (board_of boards m)))
   put-kept l e =
       frontier-set w ts boards f m (settled room l steps (board_of boards m)) h (λ t is.
       let sound = f.faithful m t is in
       let within : room < w.next = omega (arith, sound.whole, labelled-within (board_of boards m) room l e) in
-      faithful-settled (roads_of w t.player) t.place w.next (world-within w t f.sound) room l steps (are t is) (board_of boards m) sound e within)
+      faithful-settled (roads_of w t.player) t.place w.next (world-within w t f.sound) room l steps (are t is)
+      (board_of boards m) sound e within)
 
   pub put-lighter : (l : Label) → (slot_of boards m room ≡ Open l) ⊎ (slot_of boards m room ≡ Held l)
       → potential (set boards m (settled room l steps (board_of boards m))) < potential boards
   put-lighter l left =
       let sound = f.faithful m who is-who in
-      let was : label_at (board_of boards m) room ≡ Some l = elim left [ inl e ↦ ap label_of e | inr e ↦ ap label_of e ] in
+      let was : label_at (board_of boards m) room ≡ Some l =
+      elim left [ inl e ↦ ap label_of e | inr e ↦ ap label_of e ] in
       let heavy : weight (Finished l) < weight (slot_of boards m room) =
       elim left [ inl e ↦ omega (arith, ap weight e) | inr e ↦ omega (arith, ap weight e) ] in
       let within : room < w.next = omega (arith, sound.whole, labelled-within (board_of boards m) room l was) in
       potential-set_less boards m (settled room l steps (board_of boards m)) h
-      (weight-settled_left (roads_of w who.player) who.place w.next (world-within w who f.sound) f.sound.limit room l steps (are who is-who) (board_of boards m) sound was heavy within)
+      (weight-settled_left (roads_of w who.player) who.place w.next (world-within w who f.sound) f.sound.limit room l
+      steps (are who is-who) (board_of boards m) sound was heavy within)
 
   pub put-done : (l : Label) → label_at (board_of boards m) room ≡ Some l
-      → IsDone (slot_of boards) (slot_of (set boards m (settled room l steps (board_of boards m)))) (record { member = m; room = room; label = l }) steps
+      → IsDone (slot_of boards) (slot_of (set boards m (settled room l steps (board_of boards m))))
+      (record { member = m; room = room; label = l }) steps
   put-done l was =
       let sound = f.faithful m who is-who in
       let slots = board_of boards m in
       let inside = world-within w who f.sound in
       let P : Step → List Step → Type 0 = λ s ss. Contains ss s in
-      let those : (s : Step) → Contains steps s → Contains (roads_of w who.player room) s = λ s c. subst (P s) (are who is-who) c in
+      let those : (s : Step) → Contains steps s → Contains (roads_of w who.player room) s =
+      λ s c. subst (P s) (are who is-who) c in
       let all = follows-offers (roads_of w who.player) who.place w.next inside room l steps those slots sound was in
-      let within : room < length (offers l steps slots) = omega (arith, sound.whole, all.0.sound.whole, labelled-within slots room l was) in
-      let here : board_of (set boards m (settled room l steps slots)) m ≡ settled room l steps slots = get_or-set_same boards m (settled room l steps slots) [] h in
+      let within : room < length (offers l steps slots) =
+      omega (arith, sound.whole, all.0.sound.whole, labelled-within slots room l was) in
+      let here : board_of (set boards m (settled room l steps slots)) m ≡ settled room l steps slots =
+      get_or-set_same boards m (settled room l steps slots) [] h in
       let down : Falls (label_at (offers l steps slots)) (label_at (settled room l steps slots)) =
       falls-set (offers l steps slots) room (Finished l) l within refl (λ a r.
       let Q : Label → Type 0 = λ j. AtMost j a in
       subst Q (some-inj r.0 l (sym r.1 ∙ all.0.still)) r.2) in
-      let at : (r : ℕ) → slot_at (board_of (set boards m (settled room l steps slots)) m) r ≡ slot_at (settled room l steps slots) r = λ r. ap (λ b. slot_at b r) here in
+      let at : (r : ℕ) → slot_at (board_of (set boards m (settled room l steps slots)) m) r ≡ slot_at
+      (settled room l steps slots) r = λ r. ap (λ b. slot_at b r) here in
       let R : ℕ → Label → List Slot → Type 0 = λ r a b. Reaches (label_at b) r a in
       record {
         was = was;
         finished = at room ∙ get_or-set_same (offers l steps slots) room (Finished l) Unknown within;
         others = λ n r other. ap (λ b. slot_at b r) (get_or-set_other boards m n (settled room l steps slots) [] other);
         fell = λ r other.
-            let e : slot_at (settled room l steps slots) r ≡ slot_at (offers l steps slots) r = get_or-set_other (offers l steps slots) room r (Finished l) Unknown other in
+            let e : slot_at (settled room l steps slots) r ≡ slot_at (offers l steps slots) r =
+            get_or-set_other (offers l steps slots) room r (Finished l) Unknown other in
             elim (offers-slot l steps slots (λ s c. omega (arith, sound.whole, (inside room s (those s c)).0)) r) [
               | inl same ↦ inl (at r ∙ e ∙ same)
-              | inr f ↦ inr (f.step, f.among, f.leads, at r ∙ e ∙ f.now, f.less)
+              | inr f ↦ inr (
+                f.step,
+                f.among,
+                f.leads,
+                at r ∙ e
+                    ∙ f.now,
+                λ k. not-below (after 1 l f.step) k.0 (f.less k.0 k.1) k.2,
+              )
             ];
         reached = λ s c. subst (R s.to (after 1 l s)) (sym here) (down s.to (after 1 l s) (all.1 s c));
-        kept = λ r a q. subst (R r a) (sym here) (down r a (all.0.down r a q));
       }
 
 -- at first all is sound
-pub frontier-begun : (w : State) (ts : List Knowledge) → IsSound w → All (IsTraveller w) ts → length ts ≤ 8 → IsKept w ts (begun w.next ts)
+pub frontier-begun : (w : State) (ts : List Knowledge) → IsSound w → All (IsTraveller w) ts → length ts ≤ 8
+    → IsKept w ts (begun w.next ts)
 frontier-begun w ts g these few = record {
   sound = g;
   count = length-map ts (begun_at w.next);
   few = few;
   faithful = λ m t is.
       let P : List Slot → Type 0 = λ b. IsBoardOf (roads_of w t.player) t.place w.next b in
-      let got : slice_get (map (begun_at w.next) ts) m ≡ Some (begun_at w.next t) = slice_get-map (begun_at w.next) ts m ∙ ap (option_map (begun_at w.next)) is in
+      let got : slice_get (map (begun_at w.next) ts) m ≡ Some (begun_at w.next t) =
+      slice_get-map (begun_at w.next) ts m ∙ ap (option_map (begun_at w.next)) is in
       let place : t.place < w.next = at-place t m is in
-      subst P (sym (get_or_from_slice_get (map (begun_at w.next) ts) m (begun_at w.next t) [] got)) (begun-faithful w t place);
+      subst P (sym (get_or_from_slice_get (map (begun_at w.next) ts) m (begun_at w.next t) [] got))
+      (begun-faithful w t place);
 }
   where
     at-place : (t : Knowledge) (m : ℕ) → slice_get ts m ≡ Some t → t.place < w.next
     at-place t m is =
         let P : Knowledge → Type 0 = λ x. IsTraveller w x in
-        place-within w t g (subst P (get_or_from_slice_get ts m t t is) (All-get_or P ts m t (slice_get_within ts m t is) these))
+        place-within w t g
+        (subst P (get_or_from_slice_get ts m t t is) (All-get_or P ts m t (slice_get_within ts m t is) these))
 
 -- a room that is held may be opened again, and nothing else
 pub frontier-released : (w : State) (ts : List Knowledge) (boards : List (List Slot)) → IsKept w ts boards
@@ -246,8 +285,10 @@ frontier-released w ts boards f m room l b h false t u =
     subst P (sym u.1) (frontier-set w ts boards f m (board_of boards m) h (λ t e. f.faithful m t e))
 
 -- the labels of slots are the slots' labels
-pub label-of_boards : (boards : List (List Slot)) (m room : ℕ) → label_in (labelling (lists_of boards)) m room ≡ label_at (board_of boards m) room
-label-of_boards boards m room = ap (λ b. get_or b room None) (get_or-map (map label_of) boards m []) ∙ get_or-map label_of (board_of boards m) room Unknown
+pub label-of_boards : (boards : List (List Slot)) (m room : ℕ)
+    → label_in (table (lists_of boards)) m room ≡ label_at (board_of boards m) room
+label-of_boards boards m room = ap (λ b. get_or b room None) (get_or-map (map label_of) boards m [])
+    ∙ get_or-map label_of (board_of boards m) room Unknown
 
 -- none past the last member
 pub label-past : (boards : List (List Slot)) (m room : ℕ) → length boards ≤ m → label_at (board_of boards m) room ≡ None
@@ -257,20 +298,24 @@ label-past boards m room past = ap (λ (b : List Slot). label_at b room) (get_or
 pub frontier-still : (w : State) (ts : List Knowledge) (boards : List (List Slot)) → IsKept w ts boards
     → ((m room : ℕ) (l : Label) → slot_of boards m room ≡ Open l → ⊥)
     → ((m room : ℕ) (l : Label) → slot_of boards m room ≡ Held l → ⊥)
-    → AreLeast w ts (labels_in (rooms boards))
+    → AreLeast w ts (labels_in (table boards))
 frontier-still w ts boards f unopened unheld m room t is =
-    rest-least (roads_of w t.player) t.place w.next (board_of boards m) (f.faithful m t is) (record { unopened = unopened m; unheld = unheld m }) room
+    rest-least (roads_of w t.player) t.place w.next (board_of boards m) (f.faithful m t is)
+    (record { unopened = unopened m; unheld = unheld m }) room
 
 -- no label is too great
-pub frontier-bounded : (w : State) (ts : List Knowledge) (boards : List (List Slot)) → IsKept w ts boards → AreBounded (labels_in (rooms boards))
+pub frontier-bounded : (w : State) (ts : List Knowledge) (boards : List (List Slot)) → IsKept w ts boards
+    → AreBounded (labels_in (table boards))
 frontier-bounded w ts boards f m room l was =
     let h : m < length ts = omega (arith, f.count, labelled-member boards m room l was) in
     let t = member-of ts m h in
-    let bound = label-bound (roads_of w t.0.player) t.0.place w.next (board_of boards m) (f.faithful m t.0 t.1) (world-within w t.0 f.sound) room l was in
+    let bound = label-bound (roads_of w t.0.player) t.0.place w.next (board_of boards m) (f.faithful m t.0 t.1)
+    (world-within w t.0 f.sound) room l was in
     let few : w.next ≤ 8192 = f.sound.limit in
     (omega (arith, bound.0, bound.1), omega (arith, bound.0))
   where
-    labelled-member : (boards : List (List Slot)) (m r : ℕ) (l : Label) → label_at (board_of boards m) r ≡ Some l → m < length boards
+    labelled-member : (boards : List (List Slot)) (m r : ℕ) (l : Label)
+        → label_at (board_of boards m) r ≡ Some l → m < length boards
     labelled-member boards m r l e =
         elim (cases_lt m (length boards)) [
           | inl h ↦ h
@@ -281,7 +326,8 @@ frontier-bounded w ts boards f m room l was =
 
 -- and so where the counts are 0
 pub frontier-rest : (w : State) (ts : List Knowledge) (boards : List (List Slot)) → IsKept w ts boards
-    → sum_by (count_by is_open) boards ≡ 0 → sum_by (count_by is_held) boards ≡ 0 → AreLeast w ts (labels_in (rooms boards))
+    → sum_by (count_by is_open) boards ≡ 0 → sum_by (count_by is_held) boards ≡ 0
+    → AreLeast w ts (labels_in (table boards))
 frontier-rest w ts boards f opened held =
     frontier-still w ts boards f
     (λ m room l e. (none m (open-member boards m room l e)).unopened room l e)
@@ -298,12 +344,14 @@ frontier-rest w ts boards f opened held =
         elim (cases_lt m (length boards)) [
           | inl h ↦ h
           | inr past ↦
-              let bad : Unknown ≡ Held l = sym (ap (λ (b : List Slot). slot_at b r) (get_or_past boards m [] past)) ∙ e in
+              let bad : Unknown ≡ Held l =
+              sym (ap (λ (b : List Slot). slot_at b r) (get_or_past boards m [] past)) ∙ e in
               absurd (cc)
         ]
 
 -- at first the places alone are known
-pub begun-is : (w : State) (ts : List Knowledge) → IsSound w → All (IsTraveller w) ts → IsBegun ts (slot_of (begun w.next ts))
+pub begun-is : (w : State) (ts : List Knowledge) → IsSound w → All (IsTraveller w) ts
+    → IsBegun ts (slot_of (begun w.next ts))
 begun-is w ts g these = record {
   place = λ m t is. ap (λ b. slot_at b t.place) (board m t is) ∙ begun-first w.next t (inside m t is);
   others = λ m room apart.
@@ -318,15 +366,18 @@ begun-is w ts g these = record {
 }
   where
     board : (m : ℕ) (t : Knowledge) → slice_get ts m ≡ Some t → board_of (begun w.next ts) m ≡ begun_at w.next t
-    board m t is = get_or_from_slice_get (begun w.next ts) m (begun_at w.next t) [] (slice_get-map (begun_at w.next) ts m ∙ ap (option_map (begun_at w.next)) is)
+    board m t is = get_or_from_slice_get (begun w.next ts) m (begun_at w.next t) []
+        (slice_get-map (begun_at w.next) ts m ∙ ap (option_map (begun_at w.next)) is)
 
     inside : (m : ℕ) (t : Knowledge) → slice_get ts m ≡ Some t → t.place < w.next
     inside m t is =
         let P : Knowledge → Type 0 = λ x. IsTraveller w x in
-        place-within w t g (subst P (get_or_from_slice_get ts m t t is) (All-get_or P ts m t (slice_get_within ts m t is) these))
+        place-within w t g
+        (subst P (get_or_from_slice_get ts m t t is) (All-get_or P ts m t (slice_get_within ts m t is) these))
 
 -- what is kept, as it is told
-pub frontier-facts : (w : State) (ts : List Knowledge) (boards : List (List Slot)) → IsKept w ts boards → IsFrontier w ts (slot_of boards)
+pub frontier-facts : (w : State) (ts : List Knowledge) (boards : List (List Slot)) → IsKept w ts boards
+    → IsFrontier w ts (slot_of boards)
 frontier-facts w ts boards f = record {
   sound = f.sound;
   few = f.few;
@@ -344,5 +395,14 @@ frontier-facts w ts boards f = record {
             let count = f.count in
             absurd (known (ap (λ b. slot_at b room) (get_or_past boards m [] (omega (arith, count, past)))))
       ];
-  faithful = λ m t is. (f.faithful m t is).faithful;
+  faithful = λ m t is.
+      let traced = (f.faithful m t is).faithful in
+      record {
+        walked = λ room l e.
+            let at = traced.walked room l e in
+            let labels = label_at (board_of boards m) in
+            (reverse at.0, trail-walk (roads_of w t.player) labels t.place at.0 room at.1, total-reverse at.0 ∙ at.2);
+        start = traced.start;
+        finished = traced.finished;
+      };
 }

@@ -1,13 +1,17 @@
 -- Rooms keep their entries and their labels where entries change places.
-use Rattle.std.proofs.Common.{◌≡◌, ◌≢◌, ℕ, ◌+◌, ◌<◌, ◌≤◌, inl, inr, true, nat_lt, Option, Some, None, List, length, get_or, set, sym, ◌∙◌, ap, subst, refl, arith, get_or-set_same, get_or-set_other, length-set, replicate}
+use Rattle.std.proofs.Common.{◌≡◌, ◌≢◌, ℕ, ◌+◌, ◌<◌, ◌≤◌, inl, inr, true, nat_lt, Option, Some, None, List, length}
+use Rattle.std.proofs.Common.{get_or, set, sym, ◌∙◌, ap, subst, refl, arith, get_or-set_same, get_or-set_other}
+use Rattle.std.proofs.Common.{length-set, replicate}
 use Rattle.std.proofs.lemmas.Bool.{cases_lt, cases_eq}
 use Rattle.std.proofs.lemmas.Bool.Decides.{nat_tests}
-use Rattle.std.proofs.lemmas.List.{length-map, ext_get_or, get_or-map, get_or_past, set-get_or, set-set, get_or_read, get_or-replicate, length-replicate}
+use Rattle.std.proofs.lemmas.List.{length-map, ext_get_or, get_or-map, get_or_past, set-get_or, set-set, get_or_read}
+use Rattle.std.proofs.lemmas.List.{get_or-replicate, length-replicate}
 use Rattle.mud_roads.specs.declared.label.Label.{Label}
 use Rattle.mud_search.specs.declared.queue.Entry.{Entry}
 use Rattle.mud_search.specs.Queues.{entry_at, place_at, label_there, waiting_labels, IsMatched, IsSwapped}
 
-pub length_labels : (es : List Entry) (ps : List ℕ) (w : ℕ) → IsMatched es ps → length (waiting_labels es ps w) ≡ length es
+pub length_labels : (es : List Entry) (ps : List ℕ) (w : ℕ) → IsMatched es ps
+    → length (waiting_labels es ps w) ≡ length es
 length_labels es ps w m = length-map ps (λ p. label_there es w p) ∙ m.whole
 
 -- the label of a room by its place
@@ -21,7 +25,8 @@ place_of_entry : (es : List Entry) (ps : List ℕ) (p r : ℕ) → IsMatched es 
 place_of_entry es ps p r m within is = rw is at (m.here p within)
 
 -- the label of a room by where its entry stands
-pub label_of_entry : (es : List Entry) (ps : List ℕ) (w p r : ℕ) → IsMatched es ps → p < length es → (entry_at es p).room ≡ r
+pub label_of_entry : (es : List Entry) (ps : List ℕ) (w p r : ℕ) → IsMatched es ps
+    → p < length es → (entry_at es p).room ≡ r
     → get_or (waiting_labels es ps w) r None ≡ label_there es w p
 label_of_entry es ps w p r m within is =
     let at = place_of_entry es ps p r m within is in
@@ -35,9 +40,11 @@ same_there es fs w v p q same both = cc
 -- what has to be known of a changed queue's entries, but that of one room, for the labels to stay
 abbrev pub IsKept : List Entry → List Entry → ℕ → ℕ → ℕ → Type 0
 IsKept es fs w v room =
-    (p : ℕ) → p < length fs → (entry_at fs p).room ≢ room → (q : ℕ) × (q < length es) × (entry_at fs p ≡ entry_at es q) × (nat_lt p v ≡ nat_lt q w)
+    (p : ℕ) → p < length fs → (entry_at fs p).room ≢ room → (q : ℕ) × (q < length es)
+    × (entry_at fs p ≡ entry_at es q) × (nat_lt p v ≡ nat_lt q w)
 
-kept_label : (es fs : List Entry) (ps qs : List ℕ) (w v room : ℕ) → IsMatched es ps → IsMatched fs qs → length fs ≡ length es
+kept_label : (es fs : List Entry) (ps qs : List ℕ) (w v room : ℕ) → IsMatched es ps
+    → IsMatched fs qs → length fs ≡ length es
     → IsKept es fs w v room → (r : ℕ) → r < length fs → r ≢ room
     → get_or (waiting_labels fs qs v) r None ≡ get_or (waiting_labels es ps w) r None
 kept_label es fs ps qs w v room m n whole kept r within other =
@@ -45,10 +52,12 @@ kept_label es fs ps qs w v room m n whole kept r within other =
     let p : ℕ = place_at qs r in
     let found = kept p there.0 (λ e. other (sym there.1 ∙ e)) in
     let old : (entry_at es found.0).room ≡ r = ap (λ (e : Entry). e.room) (sym found.2) ∙ there.1 in
-    label_at_place fs qs v r n within ∙ same_there es fs w v p found.0 found.2 found.3 ∙ sym (label_of_entry es ps w found.0 r m found.1 old)
+    label_at_place fs qs v r n within ∙ same_there es fs w v p found.0 found.2 found.3
+    ∙ sym (label_of_entry es ps w found.0 r m found.1 old)
 
 -- then the labels are those of before, but for that of the room
-pub kept_labels : (es fs : List Entry) (ps qs : List ℕ) (w v room : ℕ) (l : Option Label) → IsMatched es ps → IsMatched fs qs → length fs ≡ length es
+pub kept_labels : (es fs : List Entry) (ps qs : List ℕ) (w v room : ℕ) (l : Option Label) → IsMatched es ps
+    → IsMatched fs qs → length fs ≡ length es
     → IsKept es fs w v room → room < length es → get_or (waiting_labels fs qs v) room None ≡ l
     → waiting_labels fs qs v ≡ set (waiting_labels es ps w) room l
 kept_labels es fs ps qs w v room l m n whole kept within is =
@@ -57,14 +66,16 @@ kept_labels es fs ps qs w v room l m n whole kept within is =
     (λ r h.
     elim (cases_eq r room) [
       | inl same ↦
-          rw same (is ∙ sym (get_or-set_same (waiting_labels es ps w) room l None (omega (arith, length_labels es ps w m))))
+          rw same (is ∙ sym
+          (get_or-set_same (waiting_labels es ps w) room l None (omega (arith, length_labels es ps w m))))
       | inr other ↦
           kept_label es fs ps qs w v room m n whole kept r (omega (arith, length_labels fs qs v n)) other
           ∙ sym (get_or-set_other (waiting_labels es ps w) room r l None other)
     ])
 
 -- two that wait change places
-pub swapped_labels : (es fs : List Entry) (ps qs : List ℕ) (w i j : ℕ) → IsMatched es ps → IsMatched fs qs → IsSwapped es fs i j
+pub swapped_labels : (es fs : List Entry) (ps qs : List ℕ) (w i j : ℕ) → IsMatched es ps
+    → IsMatched fs qs → IsSwapped es fs i j
     → w ≤ length es → i < w → j < w → waiting_labels fs qs w ≡ waiting_labels es ps w
 swapped_labels es fs ps qs w i j m n s fits one other =
     let room : ℕ = (entry_at es i).room in
@@ -78,16 +89,19 @@ swapped_labels es fs ps qs w i j m n s fits one other =
             | inr not_other ↦ (p, omega (arith, s.whole), s.rest p not_one not_other, refl)
           ]
     ] in
-    let old : get_or (waiting_labels es ps w) room None ≡ label_there es w i = label_of_entry es ps w i room m (omega arith) refl in
+    let old : get_or (waiting_labels es ps w) room None ≡ label_there es w i =
+    label_of_entry es ps w i room m (omega arith) refl in
     let new : get_or (waiting_labels fs qs w) room None ≡ label_there fs w j =
     label_of_entry fs qs w j room n (omega (arith, s.whole)) (ap (λ (e : Entry). e.room) s.other) in
     let both : nat_lt j w ≡ nat_lt i w = grind (arith, nat_tests) in
-    kept_labels es fs ps qs w w room (get_or (waiting_labels es ps w) room None) m n s.whole kept (m.here i (omega arith)).0
+    kept_labels es fs ps qs w w room (get_or (waiting_labels es ps w) room None) m n s.whole
+    kept (m.here i (omega arith)).0
     (new ∙ same_there es fs w w j i s.other both ∙ sym old)
     ∙ set-get_or (waiting_labels es ps w) room None
 
 -- a room comes to those that wait, and gets some label
-pub admitted_labels : (es fs : List Entry) (ps qs : List ℕ) (w at room : ℕ) → IsMatched es ps → IsMatched fs qs → IsSwapped es fs at w
+pub admitted_labels : (es fs : List Entry) (ps qs : List ℕ) (w at room : ℕ) → IsMatched es ps
+    → IsMatched fs qs → IsSwapped es fs at w
     → w ≤ at → at < length es → (entry_at es at).room ≡ room
     → waiting_labels fs qs (w + 1) ≡ set (waiting_labels es ps w) room (get_or (waiting_labels fs qs (w + 1)) room None)
 admitted_labels es fs ps qs w at room m n s behind within is =
@@ -101,10 +115,12 @@ admitted_labels es fs ps qs w at room m n s behind within is =
             | inr not_at ↦ (p, omega (arith, s.whole), s.rest p not_at not_last, grind (arith, nat_tests))
           ]
     ] in
-    kept_labels es fs ps qs w (w + 1) room (get_or (waiting_labels fs qs (w + 1)) room None) m n s.whole kept (place_of_entry es ps at room m within is).0 refl
+    kept_labels es fs ps qs w (w + 1) room (get_or (waiting_labels fs qs (w + 1)) room None) m n s.whole kept
+    (place_of_entry es ps at room m within is).0 refl
 
 -- a room leaves those that wait
-pub dismissed_labels : (es fs : List Entry) (ps qs : List ℕ) (w last at : ℕ) → IsMatched es ps → IsMatched fs qs → IsSwapped es fs at last
+pub dismissed_labels : (es fs : List Entry) (ps qs : List ℕ) (w last at : ℕ) → IsMatched es ps
+    → IsMatched fs qs → IsSwapped es fs at last
     → w ≡ last + 1 → w ≤ length es → at < w
     → waiting_labels fs qs last ≡ set (waiting_labels es ps w) (entry_at es at).room None
 dismissed_labels es fs ps qs w last at m n s more fits within =
@@ -124,7 +140,8 @@ dismissed_labels es fs ps qs w last at m n s more fits within =
     (label_of_entry fs qs last last room n (omega (arith, s.whole)) (ap (λ (e : Entry). e.room) s.other) ∙ out)
 
 -- a room that waits gets another label
-pub written_matched : (es : List Entry) (ps : List ℕ) (at : ℕ) (e : Entry) → IsMatched es ps → at < length es → (entry_at es at).room ≡ e.room
+pub written_matched : (es : List Entry) (ps : List ℕ) (at : ℕ) (e : Entry) → IsMatched es ps → at < length es
+    → (entry_at es at).room ≡ e.room
     → IsMatched (set es at e) ps
 written_matched es ps at e m within is =
     let rooms : (p : ℕ) → (entry_at (set es at e) p).room ≡ (entry_at es p).room =
@@ -141,7 +158,8 @@ written_matched es ps at e m within is =
       there = λ r h. rw (whole, rooms (place_at ps r)) (m.there r (rw whole at h));
     }
 
-pub written_labels : (es : List Entry) (ps : List ℕ) (w at : ℕ) (e : Entry) → IsMatched es ps → w ≤ length es → at < w → (entry_at es at).room ≡ e.room
+pub written_labels : (es : List Entry) (ps : List ℕ) (w at : ℕ) (e : Entry) → IsMatched es ps → w ≤ length es → at < w
+    → (entry_at es at).room ≡ e.room
     → waiting_labels (set es at e) ps w ≡ set (waiting_labels es ps w) e.room (Some e.label)
 written_labels es ps w at e m fits within is =
     let inside : at < length es = omega arith in
@@ -156,11 +174,13 @@ written_labels es ps w at e m fits within is =
     ] in
     let front : nat_lt at w ≡ true = grind (arith, nat_tests) in
     let label : label_there (set es at e) w at ≡ Some e.label = cc in
-    kept_labels es (set es at e) ps ps w w e.room (Some e.label) m n whole kept (place_of_entry es ps at e.room m inside is).0
+    kept_labels es (set es at e) ps ps w w e.room (Some e.label) m n whole kept
+    (place_of_entry es ps at e.room m inside is).0
     (label_of_entry (set es at e) ps w at e.room n (omega arith) (ap (λ (x : Entry). x.room) here) ∙ label)
 
 -- nobody waits where the front is empty
-pub empty_labels : (es : List Entry) (ps : List ℕ) (r : ℕ) → IsMatched es ps → get_or (waiting_labels es ps 0) r None ≡ None
+pub empty_labels : (es : List Entry) (ps : List ℕ) (r : ℕ) → IsMatched es ps
+    → get_or (waiting_labels es ps 0) r None ≡ None
 empty_labels es ps r m =
     elim (cases_lt r (length es)) [
       | inl within ↦
@@ -170,7 +190,8 @@ empty_labels es ps r m =
     ]
 
 -- what is written where two entries change places
-swapped_entries : (es : List Entry) (i j : ℕ) (a b : Entry) → i < length es → j < length es → a ≡ entry_at es i → b ≡ entry_at es j
+swapped_entries : (es : List Entry) (i j : ℕ) (a b : Entry) → i < length es → j < length es
+    → a ≡ entry_at es i → b ≡ entry_at es j
     → IsSwapped es (set (set es i b) j a) i j
 swapped_entries es i j a b one other is_a is_b =
     let whole : length (set es i b) ≡ length es = length-set es i b in
@@ -182,7 +203,8 @@ swapped_entries es i j a b one other is_a is_b =
         | inr apart ↦ get_or-set_other (set es i b) j i a _ apart ∙ get_or-set_same es i b _ one ∙ is_b
       ];
       other = last ∙ is_a;
-      rest = λ k not_one not_other. get_or-set_other (set es i b) j k a _ not_other ∙ get_or-set_other es i k b _ not_one;
+      rest = λ k not_one not_other. get_or-set_other (set es i b) j k a _ not_other
+          ∙ get_or-set_other es i k b _ not_one;
     }
 
 -- a list of places in which two were written, the second in the end
@@ -198,11 +220,13 @@ two_places ps r q i j one other =
     )
 
 -- two entries of one room are one
-one_entry : (es : List Entry) (ps : List ℕ) (i j : ℕ) → IsMatched es ps → i < length es → j < length es → (entry_at es i).room ≡ (entry_at es j).room → i ≡ j
+one_entry : (es : List Entry) (ps : List ℕ) (i j : ℕ) → IsMatched es ps → i < length es → j < length es
+    → (entry_at es i).room ≡ (entry_at es j).room → i ≡ j
 one_entry es ps i j m one other same = sym (m.here i one).1 ∙ ap (place_at ps) same ∙ (m.here j other).1
 
 -- where two entries change places and their rooms with them, all stay matched
-matched_from_swap : (es fs : List Entry) (ps qs : List ℕ) (i j : ℕ) → IsMatched es ps → IsSwapped es fs i j → i < length es → j < length es
+matched_from_swap : (es fs : List Entry) (ps qs : List ℕ) (i j : ℕ) → IsMatched es ps → IsSwapped es fs i j
+    → i < length es → j < length es
     → length qs ≡ length ps
     → place_at qs (entry_at es i).room ≡ j
     → ((entry_at es j).room ≢ (entry_at es i).room → place_at qs (entry_at es j).room ≡ i)
@@ -220,13 +244,15 @@ matched_from_swap es fs ps qs i j m s one other whole to_j to_i kept =
             | inl e ↦ rw (e, s.other, s.whole) (hi.0, to_j)
             | inr not_j ↦
                 elim (cases_eq k i) [
-                  | inl e ↦ rw (e, s.one, s.whole) (hj.0, to_i (λ same. not_j (e ∙ one_entry es ps i j m one other (sym same))))
+                  | inl e ↦ rw (e, s.one, s.whole)
+                      (hj.0, to_i (λ same. not_j (e ∙ one_entry es ps i j m one other (sym same))))
                   | inr not_i ↦
                       let within : k < length es = omega (arith, s.whole) in
                       let at = m.here k within in
                       rw (s.rest k not_i not_j, s.whole) (
                         at.0,
-                        kept (entry_at es k).room (λ same. not_j (one_entry es ps k j m within other same)) (λ same. not_i (one_entry es ps k i m within one same)) ∙ at.1,
+                        kept (entry_at es k).room (λ same. not_j (one_entry es ps k j m within other same))
+                            (λ same. not_i (one_entry es ps k i m within one same)) ∙ at.1,
                       )
                 ]
           ];
@@ -239,12 +265,19 @@ matched_from_swap es fs ps qs i j m s one other whole to_j to_i kept =
                   | inr not_j ↦
                       let at = m.there r (rw s.whole at h) in
                       let stays : place_at qs r ≡ place_at ps r = kept r not_j not_i in
-                      rw (stays, s.whole, s.rest (place_at ps r) (λ same. not_i (sym at.1 ∙ ap (λ (p : ℕ). (entry_at es p).room) same)) (λ same. not_j (sym at.1 ∙ ap (λ (p : ℕ). (entry_at es p).room) same))) at
+                      rw (
+                        stays,
+                        s.whole,
+                        s.rest (place_at ps r)
+                            (λ same. not_i (sym at.1 ∙ ap (λ (p : ℕ). (entry_at es p).room) same))
+                            (λ same. not_j (sym at.1 ∙ ap (λ (p : ℕ). (entry_at es p).room) same)),
+                      ) at
                 ]
           ];
     }
 
-pub swapped_matched : (es : List Entry) (ps : List ℕ) (i j : ℕ) (a b : Entry) → IsMatched es ps → i < length es → j < length es
+pub swapped_matched : (es : List Entry) (ps : List ℕ) (i j : ℕ) (a b : Entry) → IsMatched es ps
+    → i < length es → j < length es
     → a ≡ entry_at es i → b ≡ entry_at es j
     → IsMatched (set (set es i b) j a) (set (set ps b.room i) a.room j)
 swapped_matched es ps i j a b m one other is_a is_b =
@@ -252,12 +285,14 @@ swapped_matched es ps i j a b m one other is_a is_b =
     let second : b.room ≡ (entry_at es j).room = ap (λ (e : Entry). e.room) is_b in
     let hi = m.here i one in
     let hj = m.here j other in
-    let two = two_places ps (entry_at es j).room (entry_at es i).room i j (omega (arith, m.whole)) (omega (arith, m.whole)) in
+    let two = two_places ps (entry_at es j).room (entry_at es i).room i j
+    (omega (arith, m.whole)) (omega (arith, m.whole)) in
     let s : IsSwapped es (set (set es i b) j a) i j = swapped_entries es i j a b one other is_a is_b in
     let P : ℕ → Type 0 = λ x. IsMatched (set (set es i b) j a) (set (set ps x i) (entry_at es i).room j) in
     let Q : ℕ → Type 0 = λ y. IsMatched (set (set es i b) j a) (set (set ps b.room i) y j) in
     subst Q (sym first) (subst P (sym second)
-    (matched_from_swap es (set (set es i b) j a) ps (set (set ps (entry_at es j).room i) (entry_at es i).room j) i j m s one other
+    (matched_from_swap es (set (set es i b) j a) ps
+    (set (set ps (entry_at es j).room i) (entry_at es i).room j) i j m s one other
     (length-set (set ps (entry_at es j).room i) (entry_at es i).room j ∙ length-set ps (entry_at es j).room i)
     two.0 two.1 two.2))
 
@@ -272,7 +307,8 @@ none_wait es ps n whole =
     get_or-map (λ p. label_there es 0 p) ps r 0 None (omega arith) ∙ out ∙ sym (get_or-replicate n r None None within))
 
 -- a room whose place is behind the front doesn't wait, and stays so
-pub absent_stays : (es : List Entry) (ps : List ℕ) (w r p : ℕ) → IsMatched es ps → r < length es → p ≡ get_or ps r p → w ≤ p
+pub absent_stays : (es : List Entry) (ps : List ℕ) (w r p : ℕ) → IsMatched es ps
+    → r < length es → p ≡ get_or ps r p → w ≤ p
     → waiting_labels es ps w ≡ set (waiting_labels es ps w) r None
 absent_stays es ps w r p m within is behind =
     let place : p ≡ place_at ps r = get_or_read ps r p (omega (arith, m.whole)) is 0 in
@@ -281,7 +317,8 @@ absent_stays es ps w r p m within is behind =
     sym (set-get_or (waiting_labels es ps w) r None) ∙ ap (set (waiting_labels es ps w) r) none
 
 -- what has a label waits
-there_within : (es : List Entry) (w p : ℕ) (l : Label) → label_there es w p ≡ Some l → (p < w) × ((entry_at es p).label ≡ l)
+there_within : (es : List Entry) (w p : ℕ) (l : Label) → label_there es w p ≡ Some l
+    → (p < w) × ((entry_at es p).label ≡ l)
 there_within es w p l is =
     elim (cases_lt p w) [
       | inl h ↦
@@ -292,7 +329,8 @@ there_within es w p l is =
           absurd (cc)
     ]
 
-pub waits_at : (es : List Entry) (ps : List ℕ) (w r : ℕ) (l : Label) → IsMatched es ps → get_or (waiting_labels es ps w) r None ≡ Some l
+pub waits_at : (es : List Entry) (ps : List ℕ) (w r : ℕ) (l : Label) → IsMatched es ps
+    → get_or (waiting_labels es ps w) r None ≡ Some l
     → (place_at ps r < w) × ((entry_at es (place_at ps r)).label ≡ l) × ((entry_at es (place_at ps r)).room ≡ r)
 waits_at es ps w r l m is =
     elim (cases_lt r (length es)) [
@@ -300,12 +338,14 @@ waits_at es ps w r l m is =
           let found = there_within es w (place_at ps r) l (sym (label_at_place es ps w r m within) ∙ is) in
           (found.0, found.1, (m.there r within).1)
       | inr past ↦
-          let none : get_or (waiting_labels es ps w) r None ≡ None = get_or_past (waiting_labels es ps w) r None (omega (arith, length_labels es ps w m)) in
+          let none : get_or (waiting_labels es ps w) r None ≡ None =
+          get_or_past (waiting_labels es ps w) r None (omega (arith, length_labels es ps w m)) in
           absurd (cc)
     ]
 
 -- so all labels but that of a room that came are those of before
-pub admitted_set : (es fs : List Entry) (ps qs : List ℕ) (w at room : ℕ) → IsMatched es ps → IsMatched fs qs → IsSwapped es fs at w
+pub admitted_set : (es fs : List Entry) (ps qs : List ℕ) (w at room : ℕ) → IsMatched es ps
+    → IsMatched fs qs → IsSwapped es fs at w
     → room < length es → at ≡ get_or ps room at → w ≤ at → (l : Option Label)
     → set (waiting_labels fs qs (w + 1)) room l ≡ set (waiting_labels es ps w) room l
 admitted_set es fs ps qs w at room m n s within is behind l =

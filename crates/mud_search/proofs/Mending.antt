@@ -1,11 +1,13 @@
 -- The order of those that wait, while an entry rises or sinks.
-use Rattle.std.proofs.Common.{◌≡◌, ◌≢◌, ℕ, zero, suc, ◌+◌, ◌-◌, ◌*◌, ◌/◌, ◌<◌, ◌≤◌, inl, inr, refl, Some, None, List, length, set, sym, ◌∙◌, ap, subst, arith, get_or, get_or-set_other}
+use Rattle.std.proofs.Common.{◌≡◌, ◌≢◌, ℕ, zero, suc, ◌+◌, ◌-◌, ◌*◌, ◌/◌, ◌<◌, ◌≤◌, inl, inr, refl, Some, None, List}
+use Rattle.std.proofs.Common.{length, set, sym, ◌∙◌, ap, subst, arith, get_or, get_or-set_other}
 use Rattle.std.proofs.lemmas.List.{get_or_read}
 use Rattle.std.proofs.lemmas.Bool.{cases_lt, cases_eq}
 use Rattle.mud_roads.specs.declared.label.Label.{Label}
 use Rattle.mud_search.specs.declared.queue.Entry.{Entry}
 use Rattle.mud_search.specs.Boards.{IsBefore}
-use Rattle.mud_search.specs.Queues.{entry_at, place_at, waiting_labels, IsQueue, IsNoLater, IsOrderedBut, IsOrderedDownTo, IsSwapped}
+use Rattle.mud_search.specs.Queues.{entry_at, place_at, waiting_labels, IsQueue, IsNoLater, IsOrderedBut}
+use Rattle.mud_search.specs.Queues.{IsOrderedDownTo, IsSwapped}
 use Rattle.mud_search.proofs.Heaps.{waits_at}
 use Rattle.mud_search.proofs.Orders.{no_later_itself, no_later_trans}
 
@@ -26,7 +28,8 @@ between es i j a b one other is_a is_b h =
     moved _ _ a b (sym (get_or_read es i a one is_a _)) (sym (get_or_read es j b other is_b _)) h
 
 -- the first of all stands in front
-pub front_first : (es : List Entry) (w : ℕ) → IsOrdered es w → (fuel i : ℕ) → i ≤ fuel → i < w → IsNoLater (entry_at es 0) (entry_at es i)
+pub front_first : (es : List Entry) (w : ℕ) → IsOrdered es w → (fuel i : ℕ) → i ≤ fuel → i < w
+    → IsNoLater (entry_at es 0) (entry_at es i)
 front_first es w o zero i le within =
     let none : i ≡ 0 = omega arith in
     let P : ℕ → Type 0 = λ k. IsNoLater (entry_at es 0) (entry_at es k) in
@@ -51,13 +54,15 @@ first_of_all es ps w e q some is r l waits =
     let p : ℕ = place_at ps r in
     let here : e ≡ entry_at es 0 = get_or_read es 0 e (omega arith) is _ in
     let first : IsNoLater e (entry_at es p) =
-    moved e (entry_at es p) (entry_at es 0) (entry_at es p) here refl (front_first es w q.ordered p p (omega arith) found.0) in
+    moved e (entry_at es p) (entry_at es 0) (entry_at es p) here refl
+    (front_first es w q.ordered p p (omega arith) found.0) in
     let P : Label → Type 0 = λ k. IsBefore e.label e.room k (entry_at es p).room in
     let Q : ℕ → Type 0 = λ k. IsBefore e.label e.room l k in
     subst Q found.2 (subst P found.1 first)
 
 -- an entry rises one step
-pub risen : (es fs : List Entry) (w at above : ℕ) → 0 < at → at < w → above ≡ (at - 1) / 2 → IsOrderedBut es w at → IsSwapped es fs at above
+pub risen : (es fs : List Entry) (w at above : ℕ) → 0 < at → at < w → above ≡ (at - 1) / 2
+    → IsOrderedBut es w at → IsSwapped es fs at above
     → IsNoLater (entry_at es at) (entry_at es above) → IsOrderedBut fs w above
 risen es fs w at above pos within is o s before =
     record {
@@ -66,22 +71,28 @@ risen es fs w at above pos within is o s before =
           elim (cases_eq ((i - 1) / 2) at) [
             | inl under ↦
                 moved _ _ (entry_at es above) (entry_at es i) (ap (entry_at fs) under ∙ s.one) same
-                (let P : ℕ → Type 0 = λ k. IsNoLater (entry_at es k) (entry_at es i) in subst P (sym is) (o.past i some less under pos))
+                (let P : ℕ → Type 0 = λ k. IsNoLater (entry_at es k) (entry_at es i) in
+                subst P (sym is) (o.past i some less under pos))
             | inr other ↦
                 moved _ _ (entry_at es ((i - 1) / 2)) (entry_at es i) (s.rest ((i - 1) / 2) other not_under) same
                 (o.rest i some less (omega arith) other)
           ];
       past = λ i some less under top.
-          let above_same : entry_at fs ((above - 1) / 2) ≡ entry_at es ((above - 1) / 2) = s.rest ((above - 1) / 2) (omega arith) (omega arith) in
-          let first : IsNoLater (entry_at es ((above - 1) / 2)) (entry_at es above) = o.rest above top (omega arith) (omega arith) (omega arith) in
+          let above_same : entry_at fs ((above - 1) / 2) ≡ entry_at es ((above - 1) / 2) =
+          s.rest ((above - 1) / 2) (omega arith) (omega arith) in
+          let first : IsNoLater (entry_at es ((above - 1) / 2)) (entry_at es above) =
+          o.rest above top (omega arith) (omega arith) (omega arith) in
           elim (cases_eq i at) [
             | inl same ↦
-                moved _ _ (entry_at es ((above - 1) / 2)) (entry_at es above) above_same (ap (entry_at fs) same ∙ s.one) first
+                moved _ _ (entry_at es ((above - 1) / 2)) (entry_at es above) above_same
+                (ap (entry_at fs) same ∙ s.one) first
             | inr other ↦
-                let second : IsNoLater (entry_at es ((i - 1) / 2)) (entry_at es i) = o.rest i some less other (omega arith) in
+                let second : IsNoLater (entry_at es ((i - 1) / 2)) (entry_at es i) =
+                o.rest i some less other (omega arith) in
                 let P : ℕ → Type 0 = λ k. IsNoLater (entry_at es k) (entry_at es i) in
                 moved _ _ (entry_at es ((above - 1) / 2)) (entry_at es i) above_same (s.rest i other (omega arith))
-                (no_later_trans (entry_at es ((above - 1) / 2)) (entry_at es above) (entry_at es i) first (subst P under second))
+                (no_later_trans (entry_at es ((above - 1) / 2)) (entry_at es above)
+                (entry_at es i) first (subst P under second))
           ];
     }
 
@@ -112,31 +123,38 @@ risen_enough es w at above pos is o after =
 -- an entry sinks one step
 pub sunk : (es fs : List Entry) (w at below : ℕ) → 0 < below → below < w → (below - 1) / 2 ≡ at
     → ((i : ℕ) → 0 < i → i < w → (i - 1) / 2 ≡ at → IsNoLater (entry_at es below) (entry_at es i))
-    → IsNoLater (entry_at es below) (entry_at es at) → IsOrderedDownTo es w at → IsSwapped es fs at below → IsOrderedDownTo fs w below
+    → IsNoLater (entry_at es below) (entry_at es at) → IsOrderedDownTo es w at
+    → IsSwapped es fs at below → IsOrderedDownTo fs w below
 sunk es fs w at below pos within is first before o s =
     record {
       rest = λ i some less apart.
           elim (cases_eq ((i - 1) / 2) at) [
             | inl under ↦
                 elim (cases_eq i below) [
-                  | inl same ↦ moved _ _ (entry_at es below) (entry_at es at) (ap (entry_at fs) under ∙ s.one) (ap (entry_at fs) same ∙ s.other) before
+                  | inl same ↦ moved _ _ (entry_at es below) (entry_at es at) (ap (entry_at fs) under ∙ s.one)
+                      (ap (entry_at fs) same ∙ s.other) before
                   | inr other ↦
-                      moved _ _ (entry_at es below) (entry_at es i) (ap (entry_at fs) under ∙ s.one) (s.rest i (omega arith) other) (first i some less under)
+                      moved _ _ (entry_at es below) (entry_at es i) (ap (entry_at fs) under ∙ s.one)
+                      (s.rest i (omega arith) other) (first i some less under)
                 ]
             | inr not_under ↦
-                let above_same : entry_at fs ((i - 1) / 2) ≡ entry_at es ((i - 1) / 2) = s.rest ((i - 1) / 2) not_under apart in
+                let above_same : entry_at fs ((i - 1) / 2) ≡ entry_at es ((i - 1) / 2) =
+                s.rest ((i - 1) / 2) not_under apart in
                 elim (cases_eq i at) [
                   | inl same ↦
                       let over : (i - 1) / 2 ≡ (at - 1) / 2 = omega arith in
-                      moved _ _ (entry_at es ((at - 1) / 2)) (entry_at es below) (above_same ∙ ap (entry_at es) over) (ap (entry_at fs) same ∙ s.one)
+                      moved _ _ (entry_at es ((at - 1) / 2)) (entry_at es below) (above_same ∙ ap (entry_at es) over)
+                      (ap (entry_at fs) same ∙ s.one)
                       (o.past below pos within is (omega arith))
                   | inr other ↦
-                      moved _ _ (entry_at es ((i - 1) / 2)) (entry_at es i) above_same (s.rest i other (omega arith)) (o.rest i some less not_under)
+                      moved _ _ (entry_at es ((i - 1) / 2)) (entry_at es i) above_same (s.rest i other (omega arith))
+                      (o.rest i some less not_under)
                 ]
           ];
       past = λ i some less under top.
           let P : ℕ → Type 0 = λ k. IsNoLater (entry_at es k) (entry_at es i) in
-          moved _ _ (entry_at es below) (entry_at es i) (ap (entry_at fs) is ∙ s.one) (s.rest i (omega arith) (omega arith))
+          moved _ _ (entry_at es below) (entry_at es i) (ap (entry_at fs) is ∙ s.one)
+          (s.rest i (omega arith) (omega arith))
           (subst P under (o.rest i some less (omega arith)));
     }
 
@@ -152,7 +170,8 @@ sunk_enough es w at below first after o i some less =
     elim (cases_eq ((i - 1) / 2) at) [
       | inl under ↦
           let P : ℕ → Type 0 = λ k. IsNoLater (entry_at es k) (entry_at es i) in
-          subst P (sym under) (no_later_trans (entry_at es at) (entry_at es below) (entry_at es i) after (first i some less under))
+          subst P (sym under)
+          (no_later_trans (entry_at es at) (entry_at es below) (entry_at es i) after (first i some less under))
       | inr other ↦ o.rest i some less other
     ]
 
@@ -163,45 +182,56 @@ ordered_but es w at within o =
       rest = λ i some less apart not_under. o i some less;
       past = λ i some less under top.
           let P : ℕ → Type 0 = λ k. IsNoLater (entry_at es k) (entry_at es i) in
-          no_later_trans (entry_at es ((at - 1) / 2)) (entry_at es at) (entry_at es i) (o at top within) (subst P under (o i some less));
+          no_later_trans (entry_at es ((at - 1) / 2)) (entry_at es at) (entry_at es i) (o at top within)
+          (subst P under (o i some less));
     }
 
 -- one more waits, the last
-pub admitted_order : (es fs : List Entry) (w at : ℕ) → w ≤ at → IsOrdered es w → IsSwapped es fs at w → IsOrderedBut fs (w + 1) w
+pub admitted_order : (es fs : List Entry) (w at : ℕ) → w ≤ at → IsOrdered es w
+    → IsSwapped es fs at w → IsOrderedBut fs (w + 1) w
 admitted_order es fs w at behind o s =
     record {
       rest = λ i some less apart not_under.
-          moved _ _ (entry_at es ((i - 1) / 2)) (entry_at es i) (s.rest ((i - 1) / 2) (omega arith) (omega arith)) (s.rest i (omega arith) apart)
+          moved _ _ (entry_at es ((i - 1) / 2)) (entry_at es i) (s.rest ((i - 1) / 2) (omega arith) (omega arith))
+          (s.rest i (omega arith) apart)
           (o i some (omega arith));
       past = λ i some less under top. absurd (omega arith);
     }
 
 -- one fewer waits, and the last stands in its place
-pub dismissed_order : (es fs : List Entry) (w last at : ℕ) → w ≡ last + 1 → at < last → IsOrdered es w → IsSwapped es fs at last → IsOrderedBut fs last at
+pub dismissed_order : (es fs : List Entry) (w last at : ℕ) → w ≡ last + 1 → at < last → IsOrdered es w
+    → IsSwapped es fs at last → IsOrderedBut fs last at
 dismissed_order es fs w last at more within o s =
     let but : IsOrderedBut es w at = ordered_but es w at (omega arith) o in
     record {
       rest = λ i some less apart not_under.
-          moved _ _ (entry_at es ((i - 1) / 2)) (entry_at es i) (s.rest ((i - 1) / 2) not_under (omega arith)) (s.rest i apart (omega arith))
+          moved _ _ (entry_at es ((i - 1) / 2)) (entry_at es i) (s.rest ((i - 1) / 2) not_under (omega arith))
+          (s.rest i apart (omega arith))
           (o i some (omega arith));
       past = λ i some less under top.
-          moved _ _ (entry_at es ((at - 1) / 2)) (entry_at es i) (s.rest ((at - 1) / 2) (omega arith) (omega arith)) (s.rest i (omega arith) (omega arith))
+          moved _ _ (entry_at es ((at - 1) / 2)) (entry_at es i) (s.rest ((at - 1) / 2) (omega arith) (omega arith))
+          (s.rest i (omega arith) (omega arith))
           (but.past i some (omega arith) under top);
     }
 
 -- one fewer waits, the last
-pub dismissed_last : (es fs : List Entry) (w last at : ℕ) → w ≡ last + 1 → at ≡ last → IsOrdered es w → IsSwapped es fs at last → IsOrdered fs last
+pub dismissed_last : (es fs : List Entry) (w last at : ℕ) → w ≡ last + 1 → at ≡ last → IsOrdered es w
+    → IsSwapped es fs at last → IsOrdered fs last
 dismissed_last es fs w last at more is o s i some less =
-    moved _ _ (entry_at es ((i - 1) / 2)) (entry_at es i) (s.rest ((i - 1) / 2) (omega arith) (omega arith)) (s.rest i (omega arith) (omega arith))
+    moved _ _ (entry_at es ((i - 1) / 2)) (entry_at es i) (s.rest ((i - 1) / 2) (omega arith) (omega arith))
+    (s.rest i (omega arith) (omega arith))
     (o i some (omega arith))
 
 -- whatever is written at a place, the others are in order
 pub written_order : (es : List Entry) (w at : ℕ) (e : Entry) → IsOrderedBut es w at → IsOrderedBut (set es at e) w at
 written_order es w at e o =
-    let kept : (k : ℕ) → k ≢ at → entry_at (set es at e) k ≡ entry_at es k = λ k apart. get_or-set_other es at k e _ apart in
+    let kept : (k : ℕ) → k ≢ at → entry_at (set es at e) k ≡ entry_at es k =
+    λ k apart. get_or-set_other es at k e _ apart in
     record {
       rest = λ i some less apart not_under.
-          moved _ _ (entry_at es ((i - 1) / 2)) (entry_at es i) (kept ((i - 1) / 2) not_under) (kept i apart) (o.rest i some less apart not_under);
+          moved _ _ (entry_at es ((i - 1) / 2)) (entry_at es i) (kept ((i - 1) / 2) not_under) (kept i apart)
+          (o.rest i some less apart not_under);
       past = λ i some less under top.
-          moved _ _ (entry_at es ((at - 1) / 2)) (entry_at es i) (kept ((at - 1) / 2) (omega arith)) (kept i (omega arith)) (o.past i some less under top);
+          moved _ _ (entry_at es ((at - 1) / 2)) (entry_at es i) (kept ((at - 1) / 2) (omega arith))
+          (kept i (omega arith)) (o.past i some less under top);
     }

@@ -1,5 +1,6 @@
 -- What is left to do falls.
-use Rattle.std.proofs.Common.{◌≡◌, ℕ, ◌+◌, ◌*◌, ◌<◌, ◌≤◌, Bool, true, false, List, [], ◌∷◌, length, set, Some, refl, sym, ◌∙◌, ap, subst, arith}
+use Rattle.std.proofs.Common.{◌≡◌, ℕ, ◌+◌, ◌*◌, ◌<◌, ◌≤◌, Bool, true, false, List, [], ◌∷◌, length, set, Some, refl}
+use Rattle.std.proofs.Common.{sym, ◌∙◌, ap, subst, arith}
 use Rattle.std.specs.Prelude.{Contains, sum_by}
 use Rattle.std.proofs.lemmas.List.Sums.{sum_by-set}
 use Rattle.mud_roads.specs.declared.label.Label.{Label}
@@ -7,18 +8,20 @@ use Rattle.mud_roads.specs.declared.label.Step.{Step}
 use Rattle.mud_roads.specs.Walks.{Roads, after}
 use Rattle.mud_search.specs.declared.slot.Slot.{Slot}
 use Rattle.mud_search.specs.declared.slot.Slot.TheVariants.{Unknown, Open, Held, Finished}
-use Rattle.mud_search.specs.Boards.{slot_at, label_at, falls, offered, offers, settled, IsBoardOf, weight, potential, board_of}
+use Rattle.mud_search.specs.Boards.{slot_at, label_at, falls, offered, offers, settled, IsBoardOf, weight, potential}
+use Rattle.mud_search.specs.Boards.{board_of, Below}
 use Rattle.mud_search.specs.Slots.{label_of}
-use Rattle.mud_search.specs.Tasks.{Below}
 use Rattle.mud_search.proofs.Inside.{AreWithin}
-use Rattle.mud_search.proofs.Faithful.{below-from_test, faithful-lowered, label-bound, label-set_same, follows-offered, follows-offers, some-inj, here, there}
+use Rattle.mud_search.proofs.Faithful.{below-from_test, faithful-lowered, label-bound, label-set_same, follows-offered}
+use Rattle.mud_search.proofs.Faithful.{follows-offers, some-inj, here, there}
 
 -- a lighter slot makes the whole lighter
 pub weight-set : (slots : List Slot) (d : ℕ) (v : Slot) → d < length slots → weight v ≤ weight (slot_at slots d)
     → sum_by weight (set slots d v) ≤ sum_by weight slots
 weight-set slots d v h low = omega (arith, sum_by-set weight slots d v Unknown h)
 
-rank-falls : (a k : Label) → a.exits < 8192 → Below a k → 3 * (a.cost * 8192 + a.exits) + 2 ≤ 3 * (k.cost * 8192 + k.exits)
+rank-falls : (a k : Label) → a.exits < 8192 → Below a k
+    → 3 * (a.cost * 8192 + a.exits) + 2 ≤ 3 * (k.cost * 8192 + k.exits)
 rank-falls a k small b = grind arith
 
 -- a lesser label is lighter
@@ -29,20 +32,26 @@ weight-lower (Open k) a small dear less = omega (arith, rank-falls a k small (le
 weight-lower (Held k) a small dear less = omega (arith, rank-falls a k small (less k refl))
 weight-lower (Finished k) a small dear less = omega (arith, rank-falls a k small (less k refl))
 
-weight-offered : (roads : Roads) (from rooms : ℕ) (slots : List Slot) → IsBoardOf roads from rooms slots → AreWithin roads rooms → rooms ≤ 8192
+weight-offered : (roads : Roads) (from rooms : ℕ) (slots : List Slot) → IsBoardOf roads from rooms slots
+    → AreWithin roads rooms → rooms ≤ 8192
     → (by : ℕ) (l : Label) (s : Step) → label_at slots by ≡ Some l → Contains (roads by) s
     → sum_by weight (offered l s slots) ≤ sum_by weight slots
-weight-offered roads from rooms slots sound inside few by l s was c = go (falls (after 1 l s) (label_at slots s.to)) refl
+weight-offered roads from rooms slots sound inside few by l s was c =
+    go (falls (after 1 l s) (label_at slots s.to)) refl
   where
-    go : (b : Bool) → falls (after 1 l s) (label_at slots s.to) ≡ b → sum_by weight (offered l s slots) ≤ sum_by weight slots
+    go : (b : Bool) → falls (after 1 l s) (label_at slots s.to) ≡ b
+        → sum_by weight (offered l s slots) ≤ sum_by weight slots
     go true lower =
         let h : s.to < rooms = (inside by s c).0 in
         let within : s.to < length slots = omega (arith, sound.whole) in
         let less : (k : Label) → label_at slots s.to ≡ Some k → Below (after 1 l s) k = λ k e.
         below-from_test (after 1 l s) k (sym (ap (falls (after 1 l s)) e) ∙ lower) in
-        let next : IsBoardOf roads from rooms (set slots s.to (Open (after 1 l s))) = faithful-lowered roads from rooms slots sound inside by l s was c less in
-        let bound = label-bound roads from rooms (set slots s.to (Open (after 1 l s))) next inside s.to (after 1 l s) (label-set_same slots s.to (Open (after 1 l s)) within) in
-        rw lower (weight-set slots s.to (Open (after 1 l s)) within (weight-lower (slot_at slots s.to) (after 1 l s) (omega (arith, bound.0)) bound.1 less))
+        let next : IsBoardOf roads from rooms (set slots s.to (Open (after 1 l s))) =
+        faithful-lowered roads from rooms slots sound inside by l s was c less in
+        let bound = label-bound roads from rooms (set slots s.to (Open (after 1 l s))) next inside s.to (after 1 l s)
+        (label-set_same slots s.to (Open (after 1 l s)) within) in
+        rw lower (weight-set slots s.to (Open (after 1 l s)) within
+        (weight-lower (slot_at slots s.to) (after 1 l s) (omega (arith, bound.0)) bound.1 less))
     go false higher = rw higher (omega arith)
 
 pub weight-offers : (roads : Roads) (from rooms : ℕ) → AreWithin roads rooms → rooms ≤ 8192 → (by : ℕ) (l : Label)
@@ -55,7 +64,8 @@ weight-offers roads from rooms inside few by l (s ∷ ss) those slots sound was 
     omega (
       arith,
       weight-offered roads from rooms slots sound inside few by l s was (those s (here s ss)),
-      weight-offers roads from rooms inside few by l ss (λ t c. those t (there s ss t c)) (offered l s slots) one.0.sound one.0.still,
+      weight-offers roads from rooms inside few by l ss (λ t c. those t (there s ss t c))
+          (offered l s slots) one.0.sound one.0.still,
     )
 
 weight-finished : (v : Slot) (l : Label) → label_of v ≡ Some l → weight (Finished l) ≤ weight v
@@ -75,7 +85,8 @@ weight-settled roads from rooms inside few room l steps are slots sound was h =
     omega (
       arith,
       weight-offers roads from rooms inside few room l steps (λ s c. subst (P s) are c) slots sound was,
-      weight-set (offers l steps slots) room (Finished l) within (weight-finished (slot_at (offers l steps slots) room) l all.0.still),
+      weight-set (offers l steps slots) room (Finished l) within
+          (weight-finished (slot_at (offers l steps slots) room) l all.0.still),
     )
 
 -- one member's slots lighter make all lighter
@@ -84,9 +95,11 @@ pub potential-set : (boards : List (List Slot)) (m : ℕ) (b : List Slot) → m 
 potential-set boards m b h low = omega (arith, sum_by-set (sum_by weight) boards m b [] h)
 
 -- a room that is settled, and was not finished, makes the whole lighter
-pub weight-settled_left : (roads : Roads) (from rooms : ℕ) → AreWithin roads rooms → rooms ≤ 8192 → (room : ℕ) (l : Label)
+pub weight-settled_left : (roads : Roads) (from rooms : ℕ) → AreWithin roads rooms
+    → rooms ≤ 8192 → (room : ℕ) (l : Label)
     → (steps : List Step) → steps ≡ roads room
-    → (slots : List Slot) → IsBoardOf roads from rooms slots → label_at slots room ≡ Some l → weight (Finished l) < weight (slot_at slots room) → room < rooms
+    → (slots : List Slot) → IsBoardOf roads from rooms slots → label_at slots room ≡ Some l
+    → weight (Finished l) < weight (slot_at slots room) → room < rooms
     → sum_by weight (settled room l steps slots) < sum_by weight slots
 weight-settled_left roads from rooms inside few room l steps are slots sound was heavy h =
     let P : Step → List Step → Type 0 = λ s ss. Contains ss s in

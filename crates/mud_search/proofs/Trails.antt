@@ -1,5 +1,6 @@
 -- Trails: what they bound, and how they last.
-use Rattle.std.proofs.Common.{◌≡◌, ℕ, suc, ◌*◌, ◌<◌, ◌≤◌, ◌⊎◌, inl, inr, Bool, true, false, List, [], ◌∷◌, ◌++◌, length, Option, Some, refl, ap, subst, arith}
+use Rattle.std.proofs.Common.{◌≡◌, ℕ, suc, ◌*◌, ◌<◌, ◌≤◌, ◌⊎◌, inl, inr, Bool, true, false, List, [], ◌∷◌, ◌++◌, length}
+use Rattle.std.proofs.Common.{Option, Some, refl, ap, subst, arith}
 use Rattle.std.specs.Prelude.{sum_by, reverse, ◌==◌, ◌||◌}
 use Rattle.std.specs.List.{IsDistinct, AllByRecursion as ByRecursion}
 use Rattle.std.proofs.lemmas.List.{reverse-append}
@@ -15,7 +16,7 @@ use Rattle.mud_roads.specs.Walks.{Roads, Walk, AtMost, total}
 use Rattle.mud_roads.specs.Labels.{start_label, Reaches}
 use Rattle.mud_roads.proofs.Bounds.{reaches-weaken}
 use Rattle.mud_roads.proofs.Routes.{walk-snoc, label-ext}
-use Rattle.mud_search.specs.Facts.{visited, is_in, Trail}
+use Rattle.mud_search.specs.Trails.{visited, is_in, Trail}
 use Rattle.mud_search.proofs.Inside.{AreWithin}
 
 -- what reaches a room under the one labels does under the other
@@ -47,7 +48,8 @@ or-none false b h = (refl, h)
 
 -- each room on a trail has a label no greater than the trail's
 pub trail-reaches : (roads : Roads) (labels : ℕ → Option Label) (from : ℕ) → labels from ≡ Some start_label
-    → (ss : List Step) (to : ℕ) → Trail roads labels from ss to → (q : ℕ) → is_in q (visited from ss) ≡ true → Reaches labels q (total 1 ss)
+    → (ss : List Step) (to : ℕ) → Trail roads labels from ss to → (q : ℕ) → is_in q (visited from ss) ≡ true
+    → Reaches labels q (total 1 ss)
 trail-reaches roads labels from start [] to t q is =
     let same : from ≡ q = grind (arith, nat_tests) in
     let P : ℕ → Type 0 = λ r. Reaches labels r (total 1 []) in
@@ -59,7 +61,8 @@ trail-reaches roads labels from start (s ∷ ss) to (e, new, r, (by, c, t)) q is
           let P : ℕ → Type 0 = λ k. Reaches labels k (total 1 (s ∷ ss)) in
           subst P same r
       | inr earlier ↦
-          reaches-weaken labels q (total 1 ss) (total 1 (s ∷ ss)) (trail-reaches roads labels from start ss by t q earlier) (total-longer s ss)
+          reaches-weaken labels q (total 1 ss) (total 1 (s ∷ ss))
+          (trail-reaches roads labels from start ss by t q earlier) (total-longer s ss)
     ]
 
 apart-from_none : (q : ℕ) (rs : List ℕ) → is_in q rs ≡ false → ByRecursion (λ y. eqb q y ≡ false) rs
@@ -100,14 +103,17 @@ pub trail-walk : (roads : Roads) (labels : ℕ → Option Label) (from : ℕ)
     → (ss : List Step) (to : ℕ) → Trail roads labels from ss to → Walk roads from (reverse ss) to
 trail-walk roads labels from [] to t = t
 trail-walk roads labels from (s ∷ ss) to (e, new, r, (by, c, t)) =
-    let w : Walk roads from (reverse ss ++ s ∷ []) s.to = walk-snoc roads (reverse ss) from by s (trail-walk roads labels from ss by t) c in
+    let w : Walk roads from (reverse ss ++ s ∷ []) s.to =
+    walk-snoc roads (reverse ss) from by s (trail-walk roads labels from ss by t) c in
     let P : ℕ → Type 0 = λ k. Walk roads from (reverse (s ∷ ss)) k in
     subst P e (rw (← reverse-append (s ∷ []) ss) at w)
 
 pub total-reverse : (ss : List Step) → total 1 (reverse ss) ≡ total 1 ss
 total-reverse ss =
-    let costs : sum_by (λ (s : Step). s.cost) (reverse ss) ≡ sum_by (λ (s : Step). s.cost) ss = sum_by-IsPermutation (λ (s : Step). s.cost) ss (reverse ss) (IsPermutation-reverse ss) in
-    let exits : sum_by (λ (s : Step). 1) (reverse ss) ≡ sum_by (λ (s : Step). 1) ss = sum_by-IsPermutation (λ (s : Step). 1) ss (reverse ss) (IsPermutation-reverse ss) in
+    let costs : sum_by (λ (s : Step). s.cost) (reverse ss) ≡ sum_by (λ (s : Step). s.cost) ss =
+    sum_by-IsPermutation (λ (s : Step). s.cost) ss (reverse ss) (IsPermutation-reverse ss) in
+    let exits : sum_by (λ (s : Step). 1) (reverse ss) ≡ sum_by (λ (s : Step). 1) ss =
+    sum_by-IsPermutation (λ (s : Step). 1) ss (reverse ss) (IsPermutation-reverse ss) in
     label-ext (total 1 (reverse ss)) (total 1 ss) costs exits
 
 -- a trail has fewer steps than there are rooms
@@ -117,5 +123,6 @@ trail-short roads labels from rooms w f ss to t =
     omega (
       arith,
       length-visited from ss,
-      length-le_from_distinct_below (visited from ss) rooms (trail-distinct roads labels from ss to t) (trail-below roads labels from rooms w f ss to t),
+      length-le_from_distinct_below (visited from ss) rooms (trail-distinct roads labels from ss to t)
+          (trail-below roads labels from rooms w f ss to t),
     )

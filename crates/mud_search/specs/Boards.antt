@@ -1,4 +1,5 @@
--- The slots in memory, a list for each member, and what is done to them. Private clauses alone cite this file.
+-- The slots in memory, a list for each member, and what is done to them. Private clauses alone cite this file, but for
+-- the invariant of a frontier, `IsKept`.
 use Rattle.std.specs.Prelude.{◌≡◌, ◌⊎◌, ℕ, ◌+◌, ◌*◌, ◌<◌, ◌≤◌, ◌^◌, Bool, true, ◌==◌, ◌&&◌, ◌||◌, nat_lt, if◌then◌else◌}
 use Rattle.std.specs.Prelude.{List, [], ◌∷◌, map, length, Option, None, Some, slice_get, slice_index_or, slice_set}
 use Rattle.std.specs.Prelude.{replicate, sum_by, count_by}
@@ -13,7 +14,7 @@ use Rattle.mud_search.specs.declared.slot.Slot.{Slot}
 use Rattle.mud_search.specs.declared.slot.Slot.TheVariants.{Unknown, Open, Held, Finished}
 use Rattle.mud_search.specs.declared.task.Task.{Task}
 use Rattle.mud_search.specs.Slots.{is_open, is_held, label_of}
-use Rattle.mud_search.specs.Facts.{IsFaithful}
+use Rattle.mud_search.specs.Trails.{IsTraced}
 
 -- ---- one member's slots
 
@@ -44,6 +45,10 @@ pub record IsBoard (slots : List Slot) (order : List (Option Label)) (opened hel
 abbrev pub IsBefore : Label → ℕ → Label → ℕ → Type 0
 IsBefore a r b q =
     (a.cost ≤ b.cost) × (a.cost ≡ b.cost → (a.exits ≤ b.exits) × (a.exits ≡ b.exits → r ≤ q))
+
+-- less, in cost or in exits
+abbrev pub Below : Label → Label → Type 0
+Below a b = (a.cost ≤ b.cost) × (a.cost ≡ b.cost → a.exits < b.exits)
 
 -- a lesser cost, or the same and fewer exits
 abbrev pub is_below : Label → Label → Bool
@@ -91,9 +96,10 @@ lists_of boards = map (map label_of) boards
 -- there is a slot for each room, and they are faithful to the roads
 pub record IsBoardOf (roads : Roads) (from rooms : ℕ) (slots : List Slot) : Type 0 where
   pub whole : length slots ≡ rooms
-  pub faithful : IsFaithful roads from (slot_at slots)
+  pub faithful : IsTraced roads from (slot_at slots)
 
--- the world is sound, there are at most 8 members, and each has a board that is faithful to his roads
+-- the world is sound, there are at most 8 members, and each has a board that is faithful to his roads.
+-- A reader need not look into this: `Frontier::facts` says what is to be known of it
 pub record IsKept (w : State) (ts : List Knowledge) (boards : List (List Slot)) : Type 0 where
   pub sound : IsSound w
   pub count : length boards ≡ length ts

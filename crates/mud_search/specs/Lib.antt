@@ -4,4 +4,6 @@ pub mod Least
 pub mod Queues
 pub mod Rooms
 pub mod Slots
+pub mod Tables
 pub mod Tasks
+pub mod Trails

@@ -6,17 +6,13 @@ use Rattle.mud_search.specs.declared.slot.Slot.TheVariants.{Unknown, Open, Held,
 
 -- whether it is open
 abbrev pub is_open : Slot → Bool
-is_open Unknown = false
 is_open (Open l) = true
-is_open (Held l) = false
-is_open (Finished l) = false
+is_open slot = false
 
 -- whether it is held
 abbrev pub is_held : Slot → Bool
-is_held Unknown = false
-is_held (Open l) = false
 is_held (Held l) = true
-is_held (Finished l) = false
+is_held slot = false
 
 -- its label, if it has one
 abbrev pub label_of : Slot → Option Label

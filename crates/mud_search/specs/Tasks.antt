@@ -1,9 +1,9 @@
 -- What the calls of a frontier do to its slots.
-use Rattle.std.specs.Prelude.{◌≡◌, ◌≢◌, ◌⊎◌, ℕ, ◌<◌, ◌≤◌, List, Contains, Some, slice_get}
+use Rattle.std.specs.Prelude.{◌≡◌, ◌≢◌, ◌⊎◌, ℕ, ◌≤◌, List, Contains, Some, slice_get}
 use Rattle.mud_roads.specs.declared.label.Label.{Label}
 use Rattle.mud_roads.specs.declared.label.Step.{Step}
 use Rattle.mud_roads.specs.Open.{Knowledge}
-use Rattle.mud_roads.specs.Walks.{after}
+use Rattle.mud_roads.specs.Walks.{AtMost, after}
 use Rattle.mud_roads.specs.Labels.{start_label, Reaches}
 use Rattle.mud_search.specs.declared.slot.Slot.{Slot}
 use Rattle.mud_search.specs.declared.slot.Slot.TheVariants.{Unknown, Open, Finished}
@@ -22,25 +22,18 @@ pub record IsChanged (old new : ℕ → ℕ → Slot) (m room : ℕ) (v : Slot) 
 
 -- a lesser label, or the same and an earlier member, or the same and no greater room
 abbrev pub IsTaskBefore : Task → ℕ → ℕ → Label → Type 0
-IsTaskBefore a m r b =
-    (a.label.cost ≤ b.cost)
-    × (a.label.cost ≡ b.cost → (a.label.exits ≤ b.exits)
-    × (a.label.exits ≡ b.exits → (a.member ≤ m) × (a.member ≡ m → a.room ≤ r)))
+IsTaskBefore a m r b = AtMost a.label b × (a.label ≡ b → (a.member ≤ m) × (a.member ≡ m → a.room ≤ r))
 
 -- the task's room is open with its label, and no open room comes before
 pub record IsFirst (slots : ℕ → ℕ → Slot) (t : Task) : Type 0 where
   pub is_open : slots t.member t.room ≡ Open t.label
   pub before : (m r : ℕ) (l : Label) → slots m r ≡ Open l → IsTaskBefore t m r l
 
--- less, in cost or in exits
-abbrev pub Below : Label → Label → Type 0
-Below a b = (a.cost ≤ b.cost) × (a.cost ≡ b.cost → a.exits < b.exits)
-
--- a step leads to the room, which is now open with its label, less than the one before
+-- a step leads to the room, which had no label as small as the step's, and is now open with that
 abbrev pub HasFallen : (ℕ → Slot) → (ℕ → Slot) → Label → List Step → ℕ → Type 0
 HasFallen old new l steps room =
     (s : Step) × Contains steps s × (s.to ≡ room) × (new room ≡ Open (after 1 l s))
-    × ((k : Label) → labels_of old room ≡ Some k → Below (after 1 l s) k)
+    × (Reaches (labels_of old) room (after 1 l s) → ⊥)
 
 -- what a settled task leaves: its room is finished; another is as before or has fallen; no step leads to a greater
 -- label than its own
@@ -51,5 +44,3 @@ pub record IsDone (old new : ℕ → ℕ → Slot) (t : Task) (steps : List Step
   pub fell : (room : ℕ) → room ≢ t.room
       → (new t.member room ≡ old t.member room) ⊎ HasFallen (old t.member) (new t.member) t.label steps room
   pub reached : (s : Step) → Contains steps s → Reaches (labels_of (new t.member)) s.to (after 1 t.label s)
-  pub kept : (room : ℕ) (l : Label) → Reaches (labels_of (old t.member)) room l
-      → Reaches (labels_of (new t.member)) room l

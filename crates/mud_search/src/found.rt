@@ -1,8 +1,10 @@
 //! The labels that were found.
 
 ghost use Rattle.std.specs.Prelude.{◌≡◌};
-ghost use Rattle.mud_search.specs.Least.{labelling, label_in};
-ghost use Rattle.mud_search.specs.Boards.{lists_of};
+ghost use Rattle.std.specs.Prelude.{map};
+ghost use Rattle.mud_search.specs.Slots.{label_of};
+ghost use Rattle.mud_search.specs.Tables.{table};
+ghost use Rattle.mud_search.specs.Least.{label_in};
 
 use crate::board::Board;
 use mud_roads::Label;
@@ -16,20 +18,24 @@ pub struct Labels {
 }
 
 impl Model for Labels {
-    ghost use Rattle.mud_search.specs.Least.{Labelling, labelling, labelling_code};
-    ghost use Rattle.mud_search.specs.Boards.{lists_of};
+    ghost use Rattle.std.specs.Prelude.{Option, map};
+    ghost use Rattle.std.specs.Coded.{coded_option};
+    ghost use Rattle.mud_roads.specs.declared.label.Label.{Label};
+    ghost use Rattle.mud_roads.specs.contracts.label.Label as label;
+    ghost use Rattle.mud_search.specs.Slots.{label_of};
+    ghost use Rattle.mud_search.specs.Tables.{Table, table, table_code};
 
-    ghost Value = { Labelling };
+    ghost Value = { Table (Option Label) };
 
-    ghost coded = { labelling_code };
+    ghost coded = { table_code (coded_option label.the_row.coded) };
 
-    ghost view = { λ l. labelling (lists_of l.boards.items) };
+    ghost view = { λ l. table (map (map label_of) l.boards.items) };
 }
 
 impl Labels {
     // The labels that the boards have.
     pub(crate) fn of(boards: Vec<Board>) -> Labels
-        ensures { result ≡ labelling (lists_of boards.items) }
+        ensures { result ≡ table (map (map label_of) boards.items) }
     {
         Labels { boards }
     }

@@ -4,7 +4,8 @@ ghost use Rattle.std.specs.Prelude.{◌≡◌, ◌≢◌, ℕ, ◌<◌, ◌≤�
 ghost use Rattle.mud_roads.specs.declared.label.Label.{Label};
 ghost use Rattle.mud_roads.specs.Open.{Knowledge, IsTraveller, roads_of};
 ghost use Rattle.mud_search.specs.Slots.{is_open, is_held, labels_of};
-ghost use Rattle.mud_search.specs.Rooms.{boards_in, slot_in, labels_in, how_many};
+ghost use Rattle.mud_search.specs.Tables.{lists_in, how_many};
+ghost use Rattle.mud_search.specs.Rooms.{slot_in, labels_in};
 ghost use Rattle.mud_search.specs.Facts.{IsFrontier};
 ghost use Rattle.mud_search.specs.Tasks.{IsBegun, IsFirst, IsChanged, IsDone};
 ghost use Rattle.mud_search.specs.Least.{label_in, AreLeast, AreBounded};
@@ -31,14 +32,16 @@ pub struct Frontier<J: Job> {
 }
 
 impl<J: Job> Model for Frontier<J> {
-    ghost use Rattle.mud_search.specs.Rooms.{Rooms, rooms, rooms_code};
+    ghost use Rattle.mud_search.specs.declared.slot.Slot.{Slot};
+    ghost use Rattle.mud_search.specs.contracts.slot.Slot as slot;
+    ghost use Rattle.mud_search.specs.Tables.{Table, table, table_code};
     ghost use Rattle.mud_search.specs.Boards.{IsKept};
 
-    ghost Value = { Rooms };
+    ghost Value = { Table Slot };
 
-    ghost coded = { rooms_code };
+    ghost coded = { table_code slot.the_row.coded };
 
-    ghost view = { λ f. rooms f.boards.items };
+    ghost view = { λ f. table f.boards.items };
 
     ghost invariant = { λ f. IsKept J.world J.travellers f.boards.items };
 }
@@ -116,7 +119,7 @@ impl<J: Job> Frontier<J> {
             → (labels_of (slot_in self.old task.now.member) task.now.room ≢ Some task.now.label)
             × (self.new ≡ self.old) }
         ensures less { IsLeft (slot_in self.old) task.now
-            → potential (boards_in self.new) < potential (boards_in self.old) }
+            → potential (lists_in self.new) < potential (lists_in self.old) }
     {
         if task.member < self.boards.len()
             && self.boards[task.member].settle(task.room, task.label, steps)
@@ -165,7 +168,7 @@ impl<J: Job> Frontier<J> {
     // A held room, if there is one.
     fn first_held(&self) -> Option<Task>
         ensures some { IfSome result (λ t. slot_in self.now t.member t.room ≡ Slot.Held t.label) }
-        ensures member { IfSome result (λ t. t.member < length (boards_in self.now)) }
+        ensures member { IfSome result (λ t. t.member < length (lists_in self.now)) }
         ensures none { IfNone result ((m r : ℕ) (l : Label) → slot_in self.now m r ≡ Slot.Held l → ⊥) }
     {
         for member in 0..self.boards.len() {

@@ -8,5 +8,4 @@ returns c = finds-one (record {
   no_fault = c.no_text_with_a_fault.ensures;
   one_certificate = c.one_certificate.ensures;
   one_bad_line = c.one_bad_line.ensures;
-  no_bad_line = c.no_bad_line.ensures;
 })

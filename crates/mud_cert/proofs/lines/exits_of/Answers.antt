@@ -1,7 +1,7 @@
 -- A piece more is under way with the shorter rest; at its end all is read, and a piece that fails, fails all.
 use Rattle.std.proofs.Common.{◌≡◌, ◌<◌, length, None, sym, arith}
 use Rattle.std.proofs.lemmas.Grind.{common_steps}
-use Rattle.mud_cert.specs.Text.{exit_text}
+use Rattle.mud_cert.specs.Lines.{exit_text}
 use Rattle.mud_cert.specs.Certificate.{IsNumber}
 use Rattle.mud_cert.specs.Reading.{exit_at}
 use Rattle.mud_cert.proofs.Pieces.{under-start, shorter, under-more, under-fails, under-done}
@@ -12,10 +12,13 @@ pub loop-rest-init : goal.loop-rest-init
 loop-rest-init c = rw c.new-exits.ensures.items (under-start exit_at c.args.bytes.now)
 
 pub loop-rest-preserved : goal.loop-rest-preserved
-loop-rest-preserved c = rw c.in_ok-push.ensures.items (under-more exit_at exit_text IsNumber exit-reader _ c.loop-rest.rest.now _ c.in-Some.exit c.in-Some.behind.now (sym c.in-Some.ensures) c.loop-rest.invariant)
+loop-rest-preserved c = rw c.in_ok-push.ensures.items
+    (under-more exit_at exit_text IsNumber exit-reader _ c.loop-rest.rest.now _ c.in-Some.exit c.in-Some.behind.now
+    (sym c.in-Some.ensures) c.loop-rest.invariant)
 
 pub loop-rest-smaller : goal.loop-rest-smaller
-loop-rest-smaller c = shorter exit_at exit_text IsNumber exit-reader c.loop-rest.rest.now c.in-Some.exit c.in-Some.behind.now (sym c.in-Some.ensures)
+loop-rest-smaller c = shorter exit_at exit_text IsNumber exit-reader c.loop-rest.rest.now c.in-Some.exit
+    c.in-Some.behind.now (sym c.in-Some.ensures)
 
 pub returns-in_default : goal.returns-in_default
 returns-in_default c =

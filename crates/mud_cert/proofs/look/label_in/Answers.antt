@@ -1,4 +1,5 @@
-use Rattle.std.proofs.Common.{rules, ◌≡◌, ℕ, ◌<◌, ◌≤◌, ◌⊎◌, inl, inr, length, List, get_or, sym, subst, arith, nat_cmp, Less, Equal, Greater}
+use Rattle.std.proofs.Common.{rules, ◌≡◌, ℕ, ◌<◌, ◌≤◌, ◌⊎◌, inl, inr, length, List, get_or, sym, subst, arith, nat_cmp}
+use Rattle.std.proofs.Common.{Less, Equal, Greater}
 use Rattle.std.proofs.lemmas.Bool.{cases_lt}
 use Rattle.std.proofs.lemmas.Bool.Decides.{nat_tests}
 use Rattle.std.specs.Ordering.{ordering_index}
@@ -20,7 +21,8 @@ greater-apart x y e f = grind (arith, nat_tests)
 index-le : (x y r : ℕ) → x ≤ y → ordering_index (nat_cmp x r) ≤ ordering_index (nat_cmp y r)
 index-le x y r h = grind (arith, nat_tests)
 
-at-most : (es : List (ℕ × Label)) (i j : ℕ) (d : ℕ × Label) → Rises es → i ≤ j → j < length es → (get_or es i d).0 ≤ (get_or es j d).0
+at-most : (es : List (ℕ × Label)) (i j : ℕ) (d : ℕ × Label) → Rises es → i ≤ j → j < length es
+    → (get_or es i d).0 ≤ (get_or es j d).0
 at-most es i j d r le lt = go (cases_lt i j)
   where
     go : (i < j) ⊎ (j ≤ i) → (get_or es i d).0 ≤ (get_or es j d).0
@@ -33,11 +35,16 @@ at-most es i j d r le lt = go (cases_lt i j)
 pub returns-in-Ok : goal.returns-in-Ok
 returns-in-Ok c =
     let p = c.in-Ok.ensures.position (λ (e : ℕ × Label). e.0) (answers_always _ _ _ (λ f a r g k. search rules)) in
-    sym (label-found c.args.labels.now c.args.room c.in-Ok.at (0, record { cost = 0; exits = 0 }) c.requires c.in-Ok.ensures.bound (same-from _ _ (p (0, record { cost = 0; exits = 0 }))))
+    sym (label-found c.args.labels.now c.args.room c.in-Ok.at (0, record { cost = 0; exits = 0 }) c.requires
+    c.in-Ok.ensures.bound (same-from _ _ (p (0, record { cost = 0; exits = 0 }))))
 
 pub returns-in-Err : goal.returns-in-Err
 returns-in-Err c =
     let p = c.in-Err.ensures.position (λ (e : ℕ × Label). e.0) (answers_always _ _ _ (λ f a r g k. search rules)) in
     let q = p (λ i j d le lt. index-le _ _ _ (at-most c.args.labels.now i j d c.requires le lt)) in
     sym (label-missing c.args.labels.now c.args.room (λ i d lt e.
-    elim (cases_lt i c.in-Err.field-0) as (λ s. ⊥) [ inl h ↦ less-apart _ _ (q.0 i d (omega arith) h) e | inr h ↦ greater-apart _ _ (q.1 i d h lt) e ]))
+    elim (cases_lt i c.in-Err.field-0) as (λ s. ⊥) [
+      | inl h ↦ less-apart _ _ (q.0 i d (omega arith) h) e
+      | inr h ↦
+          greater-apart _ _ (q.1 i d h lt) e
+    ]))

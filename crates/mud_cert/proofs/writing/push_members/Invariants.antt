@@ -4,4 +4,5 @@ use Rattle.mud_cert.specs.Text.{text_of, member_lines}
 use Rattle.mud_cert.proofs.writing.push_members.Given as goal
 
 abbrev pub invariant-loop-member : goal.invariant-loop-member
-invariant-loop-member l = string_bytes l.out ≡ string_bytes l.initial.out ++ text_of (flat_map (member_lines l.form) (take l.member-index l.members))
+invariant-loop-member l = string_bytes l.out ≡ string_bytes l.initial.out
+    ++ text_of (flat_map (member_lines l.form) (take l.member-index l.members))

@@ -15,10 +15,12 @@ new-requires c =
     record {
       player = omega (arith, player, c.requires.inside.player, c.requires.few);
       from = omega (arith, from, c.requires.inside.from, c.requires.few);
-      entries = entries-limits (label_in c.args.labels.now c.args.member) c.args.next c.in_ok-entries.entries.items c.requires.few c.in_ok-entries.ensures
+      entries = entries-limits (label_in c.args.labels.now c.args.member) c.args.next c.in_ok-entries.entries.items
+          c.requires.few c.in_ok-entries.ensures
           (λ room l e. c.requires.bounded c.args.member room l e);
       rising = c.in_ok-entries.ensures.rising;
-      exits = exits-limits c.args.next c.args.journey.now.way c.in_ok-walk.walk c.requires.few c.requires.inside.exits (c.in_ok-walk.ensures ∙ way);
+      exits = exits-limits c.args.next c.args.journey.now.way c.in_ok-walk.walk c.requires.few c.requires.inside.exits
+          (c.in_ok-walk.ensures ∙ way);
     }
 
 pub returns-clause-account : goal.returns-clause-account

@@ -19,12 +19,15 @@ loop-member-preserved c =
     let e = c.in_ok-account_of.field-0 in
     let old = c.loop-member.invariant in
     let items = c.in_ok-push.ensures.items in
-    let P : List Account → Type 0 = λ xs. (n : ℕ) (j : Journey) (a : Account) → n < length xs → IsListed (labels n) c.args.next (get_or js n j) (get_or xs n a) in
+    let P : List Account → Type 0 = λ xs. (n : ℕ) (j : Journey) (a : Account) → n < length xs
+    → IsListed (labels n) c.args.next (get_or js n j) (get_or xs n a) in
     record {
       long = ap length items ∙ length_push es e ∙ ap (λ (n : ℕ). n + 1) old.long;
       each = subst P (sym items)
           (listed-push labels c.args.next js es m e old.long old.each (λ j.
           let Q : Journey → Type 0 = λ x. IsListed (labels m) c.args.next x e in
-          subst Q (sym (read-at js m c.index-journeys-member.result j c.loop-member-test.true c.index-journeys-member.is)) c.in_ok-account_of.ensures.account));
+          subst Q (sym
+          (read-at js m c.index-journeys-member.result j c.loop-member-test.true c.index-journeys-member.is))
+          c.in_ok-account_of.ensures.account));
       limits = subst (All IsAccount) (sym items) (All-push IsAccount es e old.limits c.in_ok-account_of.ensures.limits);
     }

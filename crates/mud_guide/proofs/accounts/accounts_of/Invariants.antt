@@ -9,6 +9,7 @@ use Rattle.mud_guide.proofs.accounts.accounts_of.Given as goal
 abbrev pub invariant-loop-member : goal.invariant-loop-member
 invariant-loop-member l = record {
   long : length l.accounts.items ≡ l.member;
-  each : (m : ℕ) (j : Journey) (a : Account) → m < length l.accounts.items → IsListed (label_in l.labels m) l.next (slice_index_or l.journeys m j) (slice_index_or l.accounts.items m a);
+  each : (m : ℕ) (j : Journey) (a : Account) → m < length l.accounts.items
+      → IsListed (label_in l.labels m) l.next (slice_index_or l.journeys m j) (slice_index_or l.accounts.items m a);
   limits : All IsAccount l.accounts.items;
 }

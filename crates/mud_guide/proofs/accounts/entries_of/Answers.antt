@@ -13,8 +13,10 @@ loop-room-preserved c =
     elim c.match-get.branch [
       | in-Some+in_ok-push w ↦
           subst P (sym (ap (λ v. v.items) w.entries-is ∙ w.in_ok-push.ensures.items))
-          (entries-push labels c.loop-room.room w.in-Some.label c.loop-room.entries.items c.loop-room.invariant (sym c.get.ensures ∙ w.in-Some.is))
+          (entries-push labels c.loop-room.room w.in-Some.label c.loop-room.entries.items c.loop-room.invariant
+          (sym c.get.ensures ∙ w.in-Some.is))
       | in_default w ↦
           subst P (sym (ap (λ v. v.items) w.entries-is))
-          (entries-skip labels c.loop-room.room c.loop-room.entries.items c.loop-room.invariant (sym c.get.ensures ∙ w.in_default.is))
+          (entries-skip labels c.loop-room.room c.loop-room.entries.items c.loop-room.invariant
+          (sym c.get.ensures ∙ w.in_default.is))
     ]

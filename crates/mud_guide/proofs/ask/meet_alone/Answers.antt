@@ -7,4 +7,6 @@ use Rattle.mud_guide.proofs.ask.meet_alone.Goals as goal
 pub meet_by-requires-clause-distinct : goal.meet_by-requires-clause-distinct
 meet_by-requires-clause-distinct c =
     let P : List Knowledge → Type 0 = λ ts. AllPairs (λ s t. s.player ≢ t.player) ts in
-    subst P (sym c.as_slice-2.ensures.value) (apart-from c.in_ok-travellers.travellers.items c.args.party.now c.in_ok-travellers.ensures.players c.requires.distinct)
+    subst P (sym c.as_slice-2.ensures.value)
+    (apart-from c.in_ok-travellers.travellers.items c.args.party.now
+    c.in_ok-travellers.ensures.players c.requires.distinct)

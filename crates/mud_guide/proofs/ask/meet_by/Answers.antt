@@ -17,18 +17,23 @@ certify-requires-clause-inside c =
     let N : ℕ → Type 0 = λ n. All (IsInside n) c.as_slice-2.result.now in
     let P : List Journey → Type 0 = λ js. All (IsInside w.next) js in
     subst N (sym c.next_number-next.ensures.next)
-    (subst P (sym c.as_slice-2.ensures.value) (journeys-inside w sound c.room_of.result c.args.party.now c.in_ok-journeys.journeys.items c.requires.travellers c.in_ok-journeys.ensures))
+    (subst P (sym c.as_slice-2.ensures.value)
+    (journeys-inside w sound c.room_of.result c.args.party.now c.in_ok-journeys.journeys.items
+    c.requires.travellers c.in_ok-journeys.ensures))
 
 pub certify-requires-clause-conclusion : goal.certify-requires-clause-conclusion
 certify-requires-clause-conclusion c =
     let w = c.args.world.now in
     let R : Knowledge → Journey → Type 0 = λ t j. IsJourney w c.room_of.result t.player j in
     let long : length c.as_slice-2.result.now ≡ length c.args.party.now =
-    ap length c.as_slice-2.ensures.value ∙ allzip-length R c.args.party.now c.in_ok-journeys.journeys.items c.in_ok-journeys.ensures in
+    ap length c.as_slice-2.ensures.value
+    ∙ allzip-length R c.args.party.now c.in_ok-journeys.journeys.items c.in_ok-journeys.ensures in
     let found = c.meeting_place-place.ensures in (
       omega (arith, long, c.requires.two),
       omega (arith, long, c.requires.few),
-      meeting-limits w c.next_number-next.ensures.sound (label_in c.args.labels.now) c.requires.bounded (length c.args.party.now) (omega (arith, c.requires.two)) c.meeting_place-place.result found.room found.greatest,
+      meeting-limits w c.next_number-next.ensures.sound (label_in c.args.labels.now) c.requires.bounded
+          (length c.args.party.now) (omega (arith, c.requires.two))
+          c.meeting_place-place.result found.room found.greatest,
     )
 
 pub returns : goal.returns
@@ -40,10 +45,13 @@ returns c =
     let cert = c.in_ok-cert.cert in
     let made = c.in_ok-cert.ensures in
     let N : ℕ → Type 0 = λ n. AreListed (label_in c.args.labels.now) n js cert.members in
-    let J : List Journey → Type 0 = λ xs. AreListed (label_in c.args.labels.now) c.next_number-next.result xs cert.members in
+    let J : List Journey → Type 0 =
+    λ xs. AreListed (label_in c.args.labels.now) c.next_number-next.result xs cert.members in
     let O : Option ℕ → Type 0 = λ o. AllZip (λ t j. IsJourney w o t.player j) c.args.party.now js in
-    meet-answer w sound c.args.version c.args.party.now (label_in c.args.labels.now) c.meeting_place-place.result js cert _
-    c.requires.travellers c.requires.distinct (omega (arith, c.requires.two)) c.requires.least found.place found.room found.greatest
+    meet-answer w sound c.args.version c.args.party.now (label_in c.args.labels.now)
+    c.meeting_place-place.result js cert _
+    c.requires.travellers c.requires.distinct (omega (arith, c.requires.two))
+    c.requires.least found.place found.greatest
     (subst O c.room_of.ensures c.in_ok-journeys.ensures)
     (record {
       version = made.version;

@@ -24,7 +24,9 @@ certify-requires-clause-inside c =
     let P : List Journey → Type 0 = λ js. All (IsInside w.next) js in
     subst N (sym c.next_number-next.ensures.next)
     (subst P (sym c.from_ref.ensures.value)
-    (all-one (IsInside w.next) j (journey-inside w sound c.args.traveller.now.player c.requires.traveller.player (Some c.args.room) j c.in_ok-journey.ensures)))
+    (all-one (IsInside w.next) j
+    (journey-inside w sound c.args.traveller.now.player c.requires.traveller.player
+    (Some c.args.room) j c.in_ok-journey.ensures)))
 
 pub certify-requires-clause-conclusion : goal.certify-requires-clause-conclusion
 certify-requires-clause-conclusion c =
@@ -32,7 +34,9 @@ certify-requires-clause-conclusion c =
     let P : Option ℕ → Type 0 = λ o. IfSome o IsAmount in (
       c.from_ref.ensures.len,
       number-is w c.next_number-next.ensures.sound c.args.room c.requires.room,
-      subst P (sym (c.cost_of.ensures ∙ ap (λ (j : Journey). option_map cost_of j.way) c.journey.view_is)) (cost-limits w c.args.traveller.now c.in_ok-journey.journey c.args.room (label_in c.args.labels.now) c.requires.traveller c.in_ok-journey.ensures c.requires.least c.requires.bounded),
+      subst P (sym (c.cost_of.ensures ∙ ap (λ (j : Journey). option_map cost_of j.way) c.journey.view_is))
+          (cost-limits w c.args.traveller.now c.in_ok-journey.journey c.args.room (label_in c.args.labels.now)
+          c.requires.traveller c.in_ok-journey.ensures c.requires.least c.requires.bounded),
     )
 
 pub returns : goal.returns
@@ -42,15 +46,18 @@ returns c =
     let cert = c.in_ok-cert.cert in
     let made = c.in_ok-cert.ensures in
     let N : ℕ → Type 0 = λ n. AreListed (label_in c.args.labels.now) n (j ∷ []) cert.members in
-    let J : List Journey → Type 0 = λ xs. AreListed (label_in c.args.labels.now) c.next_number-next.result xs cert.members in
+    let J : List Journey → Type 0 =
+    λ xs. AreListed (label_in c.args.labels.now) c.next_number-next.result xs cert.members in
     let says : Option ℕ → Conclusion = λ o. Route c.args.room o in
-    route-answer w c.next_number-next.ensures.sound c.args.version c.args.traveller.now (label_in c.args.labels.now) c.args.room j cert _
+    route-answer w c.next_number-next.ensures.sound c.args.version c.args.traveller.now
+    (label_in c.args.labels.now) c.args.room j cert _
     c.requires.traveller c.requires.least c.requires.room c.in_ok-journey.ensures
     (record {
       version = made.version;
       form = made.form;
       members = subst N c.next_number-next.ensures.next (subst J c.from_ref.ensures.value made.members);
-      conclusion = made.conclusion ∙ ap says (c.cost_of.ensures ∙ ap (λ (x : Journey). option_map cost_of x.way) c.journey.view_is);
+      conclusion = made.conclusion
+          ∙ ap says (c.cost_of.ensures ∙ ap (λ (x : Journey). option_map cost_of x.way) c.journey.view_is);
       limits = made.limits;
     })
     refl c.in_ok-text.ensures refl

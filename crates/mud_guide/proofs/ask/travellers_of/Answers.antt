@@ -13,7 +13,8 @@ loop-player-preserved c =
     let who : Knowledge → ℕ = λ t. t.player in
     record {
       travellers = subst (All (IsTraveller c.args.world.now)) (sym c.in_ok-push.ensures.items)
-          (All-push (IsTraveller c.args.world.now) before c.in_ok-of.field-0 c.loop-player.invariant.travellers c.in_ok-of.ensures.traveller);
+          (All-push (IsTraveller c.args.world.now) before c.in_ok-of.field-0 c.loop-player.invariant.travellers
+          c.in_ok-of.ensures.traveller);
       players = ap (map who) c.in_ok-push.ensures.items ∙ map-append who before (c.in_ok-of.field-0 ∷ [])
           ∙ ap (λ (ns : List ℕ). ns ++ c.in_ok-of.field-0.player ∷ []) c.loop-player.invariant.players
           ∙ ap (λ (n : ℕ). take at party ++ n ∷ []) c.in_ok-of.ensures.player

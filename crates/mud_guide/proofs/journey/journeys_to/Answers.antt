@@ -18,5 +18,8 @@ loop-member-preserved c =
     let new = c.in_ok-journey_to.field-0 in
     let Q : List Journey → Type 0 = λ ys. AllZip R (take m ts ++ t ∷ []) ys in
     subst P (sym (take_more ts m nobody c.loop-member-test.true))
-    (subst Q (sym c.in_ok-push.ensures.items) (allzip-push R (take m ts) c.loop-member.journeys.items t new c.loop-member.invariant
-    (subst (λ (x : Knowledge). R x new) (sym (read-at ts m c.index-travellers-member.result nobody c.loop-member-test.true c.index-travellers-member.is)) c.in_ok-journey_to.ensures)))
+    (subst Q (sym c.in_ok-push.ensures.items)
+    (allzip-push R (take m ts) c.loop-member.journeys.items t new c.loop-member.invariant
+    (subst (λ (x : Knowledge). R x new)
+    (sym (read-at ts m c.index-travellers-member.result nobody c.loop-member-test.true
+    c.index-travellers-member.is)) c.in_ok-journey_to.ensures)))

@@ -11,16 +11,19 @@ returns-clause-place c =
     let ts = c.args.party.now in
     let S : ℕ → Type 0 = λ n. IfSome c.best.result (IsBest labels (length ts) n) in
     let N : ℕ → Type 0 = λ n. IfNone c.best.result (NoneGather labels (length ts) n) in
-    place-is c.args.world.now ts labels c.requires.least c.next_number.ensures.sound c.requires.travellers c.requires.some c.best.result
+    place-is c.args.world.now ts labels c.requires.least c.next_number.ensures.sound c.requires.travellers
+    c.requires.some c.best.result
     (subst S c.next_number.ensures.next c.best.ensures.some) (subst N c.next_number.ensures.next c.best.ensures.none)
 
 pub returns-clause-room : goal.returns-clause-room
 returns-clause-room c =
     let S : ℕ → Type 0 = λ n. IfSome c.best.result (IsBest (label_in c.args.labels.now) (length c.args.party.now) n) in
-    best-room c.args.world.now c.args.party.now (label_in c.args.labels.now) c.requires.least c.next_number.ensures.sound c.requires.travellers c.requires.some c.best.result
+    best-room c.args.world.now c.args.party.now (label_in c.args.labels.now) c.requires.least
+    c.next_number.ensures.sound c.requires.travellers c.requires.some c.best.result
     (subst S c.next_number.ensures.next c.best.ensures.some)
 
 pub returns-clause-greatest : goal.returns-clause-greatest
 returns-clause-greatest c =
     let S : ℕ → Type 0 = λ n. IfSome c.best.result (IsBest (label_in c.args.labels.now) (length c.args.party.now) n) in
-    best-greatest (label_in c.args.labels.now) (length c.args.party.now) c.args.world.now.next c.best.result (subst S c.next_number.ensures.next c.best.ensures.some)
+    best-greatest (label_in c.args.labels.now) (length c.args.party.now) c.args.world.now.next c.best.result
+    (subst S c.next_number.ensures.next c.best.ensures.some)

@@ -11,7 +11,8 @@ abbrev pub invariant-loop-arrival : goal.invariant-loop-arrival
 invariant-loop-arrival l = record {
   inside : l.at < l.world.next;
   reached : (k : Label) × (label_in l.labels l.member l.at ≡ Some k);
-  goes : (more : List Step) → RouteBack 1 (roads_of l.world l.traveller.player) l.traveller.place l.at more → RouteBack 1 (roads_of l.world l.traveller.player) l.traveller.place l.to (l.steps.items ++ more);
+  goes : (more : List Step) → RouteBack 1 (roads_of l.world l.traveller.player) l.traveller.place l.at more
+      → RouteBack 1 (roads_of l.world l.traveller.player) l.traveller.place l.to (l.steps.items ++ more);
 }
 
 abbrev pub decreases-loop-arrival : goal.decreases-loop-arrival

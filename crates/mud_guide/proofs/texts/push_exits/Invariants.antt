@@ -5,4 +5,5 @@ use Rattle.mud_guide.specs.Texts.{object}
 use Rattle.mud_guide.proofs.texts.push_exits.Given as goal
 
 abbrev pub invariant-loop-step : goal.invariant-loop-step
-invariant-loop-step l = string_bytes l.text ≡ string_bytes l.fn.text ++ flat_map (λ x. codes " " ++ object x.exit) (take l.step-index l.steps)
+invariant-loop-step l = string_bytes l.text ≡ string_bytes l.fn.text
+    ++ flat_map (λ x. codes " " ++ object x.exit) (take l.step-index l.steps)

@@ -5,4 +5,5 @@ use Rattle.mud_guide.specs.Texts.{member_text}
 use Rattle.mud_guide.proofs.texts.push_members.Given as goal
 
 abbrev pub invariant-loop-journey : goal.invariant-loop-journey
-invariant-loop-journey l = string_bytes l.text ≡ string_bytes l.fn.text ++ flat_map member_text (take l.journey-index l.journeys)
+invariant-loop-journey l =
+    string_bytes l.text ≡ string_bytes l.fn.text ++ flat_map member_text (take l.journey-index l.journeys)

@@ -5,4 +5,5 @@ use Rattle.mud_search.specs.Boards.{slot_of}
 use Rattle.mud_search.proofs.frontier.Frontier.first_held.Given as goal
 
 abbrev pub invariant-loop-member : goal.invariant-loop-member
-invariant-loop-member g l = (m room : ℕ) (k : Label) → m < l.member → slot_of l.self-inside.boards.items m room ≡ Held k → ⊥
+invariant-loop-member g l =
+    (m room : ℕ) (k : Label) → m < l.member → slot_of l.self-inside.boards.items m room ≡ Held k → ⊥

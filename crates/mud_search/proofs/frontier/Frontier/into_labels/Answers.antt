@@ -6,7 +6,8 @@ use Rattle.mud_search.proofs.frontier.Frontier.into_labels.Goals as goal
 
 pub returns-clause-labels : goal.returns-clause-labels
 returns-clause-labels g c = λ m room.
-    ap (λ l. label_in l m room) c.of.ensures ∙ label-of_boards c.self.inside.boards.items m room ∙ ap (λ f. labels_in f m room) c.self.view_is
+    ap (λ l. label_in l m room) c.of.ensures ∙ label-of_boards c.self.inside.boards.items m room
+    ∙ ap (λ f. labels_in f m room) c.self.view_is
 
 pub returns-clause-members : goal.returns-clause-members
 returns-clause-members g c = λ m room past.

@@ -14,27 +14,38 @@ pub invariant_of-result : goal.invariant_of-result
 invariant_of-result g c =
     let w = g.J.Job.world in
     let ts = g.J.Job.travellers in
-    let all : take c.loop-traveller.traveller-index c.args.travellers.now ≡ ts = take_all c.loop-traveller.traveller-index c.args.travellers.now (omega arith) ∙ c.requires.travellers in
-    let rooms : c.next_number-rooms.result ≡ w.next = c.next_number-rooms.ensures.next ∙ ap (λ x. x.next) c.requires.world in
-    let items : c.loop-traveller.boards.items ≡ begun w.next ts = c.loop-traveller.invariant ∙ ap (map (begun_at c.next_number-rooms.result)) all ∙ ap (λ (n : ℕ). map (begun_at n) ts) rooms in
+    let all : take c.loop-traveller.traveller-index c.args.travellers.now ≡ ts =
+    take_all c.loop-traveller.traveller-index c.args.travellers.now (omega arith) ∙ c.requires.travellers in
+    let rooms : c.next_number-rooms.result ≡ w.next =
+    c.next_number-rooms.ensures.next ∙ ap (λ x. x.next) c.requires.world in
+    let items : c.loop-traveller.boards.items ≡ begun w.next ts = c.loop-traveller.invariant
+    ∙ ap (map (begun_at c.next_number-rooms.result)) all ∙ ap (λ (n : ℕ). map (begun_at n) ts) rooms in
     let P : List (List Slot) → Type 0 = λ bs. IsKept w ts bs in
-    subst P (sym items) (frontier-begun w ts (subst IsSound c.requires.world c.next_number-rooms.ensures.sound) c.requires.these c.requires.few)
+    subst P (sym items)
+    (frontier-begun w ts (subst IsSound c.requires.world c.next_number-rooms.ensures.sound)
+    c.requires.these c.requires.few)
 
 pub returns : goal.returns
 returns g c =
     let w = g.J.Job.world in
     let ts = g.J.Job.travellers in
-    let all : take c.loop-traveller.traveller-index c.args.travellers.now ≡ ts = take_all c.loop-traveller.traveller-index c.args.travellers.now (omega arith) ∙ c.requires.travellers in
-    let rooms : c.next_number-rooms.result ≡ w.next = c.next_number-rooms.ensures.next ∙ ap (λ x. x.next) c.requires.world in
-    let items : c.loop-traveller.boards.items ≡ begun w.next ts = c.loop-traveller.invariant ∙ ap (map (begun_at c.next_number-rooms.result)) all ∙ ap (λ (n : ℕ). map (begun_at n) ts) rooms in
+    let all : take c.loop-traveller.traveller-index c.args.travellers.now ≡ ts =
+    take_all c.loop-traveller.traveller-index c.args.travellers.now (omega arith) ∙ c.requires.travellers in
+    let rooms : c.next_number-rooms.result ≡ w.next =
+    c.next_number-rooms.ensures.next ∙ ap (λ x. x.next) c.requires.world in
+    let items : c.loop-traveller.boards.items ≡ begun w.next ts = c.loop-traveller.invariant
+    ∙ ap (map (begun_at c.next_number-rooms.result)) all ∙ ap (λ (n : ℕ). map (begun_at n) ts) rooms in
     let P : List (List Slot) → Type 0 = λ bs. IsBegun ts (slot_of bs) in
-    subst P (sym items) (begun-is w ts (subst IsSound c.requires.world c.next_number-rooms.ensures.sound) c.requires.these)
+    subst P (sym items)
+    (begun-is w ts (subst IsSound c.requires.world c.next_number-rooms.ensures.sound) c.requires.these)
 
 pub start-requires : goal.start-requires
 start-requires g c =
     let w = g.J.Job.world in
-    let rooms : c.next_number-rooms.result ≡ w.next = c.next_number-rooms.ensures.next ∙ ap (λ x. x.next) c.requires.world in
+    let rooms : c.next_number-rooms.result ≡ w.next =
+    c.next_number-rooms.ensures.next ∙ ap (λ x. x.next) c.requires.world in
     let sound : IsSound w = subst IsSound c.requires.world c.next_number-rooms.ensures.sound in
-    let within = member-within w c.args.travellers.now sound (subst (All (IsTraveller w)) (sym c.requires.travellers) c.requires.these)
+    let within = member-within w c.args.travellers.now sound
+    (subst (All (IsTraveller w)) (sym c.requires.travellers) c.requires.these)
     c.loop-traveller.traveller-index c.traveller-item.result (omega arith) c.traveller-item.is in
     omega (arith, rooms, within, c.place.ensures)

@@ -9,7 +9,8 @@ pub returns-clause-least : goal.returns-clause-least
 returns-clause-least g c none_open none_held =
     let boards = c.self.inside.boards.items in
     let seen = c.deref-board-items.result.now in
-    let all : take c.loop-board.board-index seen ≡ boards = take_all c.loop-board.board-index seen (omega arith) ∙ c.deref-board-items.ensures.value in
+    let all : take c.loop-board.board-index seen ≡ boards =
+    take_all c.loop-board.board-index seen (omega arith) ∙ c.deref-board-items.ensures.value in
     rw (← c.self.view_is) (frontier-rest g.J.Job.world g.J.Job.travellers boards c.self.invariant
     (ap (sum_by (count_by is_open)) (sym all) ∙ sym c.loop-board.invariant.opened ∙ none_open)
     (ap (sum_by (count_by is_held)) (sym all) ∙ sym c.loop-board.invariant.held ∙ none_held))

@@ -8,7 +8,8 @@ invariant-loop-at l = record {
   fits : l.self.waiting ≤ length l.self.entries.items;
   within : l.at < l.self.waiting;
   order : IsOrderedBut l.self.entries.items l.self.waiting l.at;
-  labels : waiting_labels l.self.entries.items l.self.places.items l.self.waiting ≡ waiting_labels l.fn.self.entries.items l.fn.self.places.items l.fn.self.waiting;
+  labels : waiting_labels l.self.entries.items l.self.places.items l.self.waiting ≡ waiting_labels
+      l.fn.self.entries.items l.fn.self.places.items l.fn.self.waiting;
 }
 
 abbrev pub decreases-loop-at : goal.decreases-loop-at

@@ -12,13 +12,17 @@ loop-at-preserved c =
     let below = c.first_below-below.result in
     let waiting : c.swap.new.self.waiting ≡ c.loop-at.self.waiting = c.swap.ensures.waiting in
     let before : IsNoLater (entry_at es below) (entry_at es at) =
-    between es below at c.index.result.now c.index-in-loop-at.result.now (omega arith) (omega arith) c.index.ensures c.index-in-loop-at.ensures c.if-not-comes_before.ensures.first in
+    between es below at c.index.result.now c.index-in-loop-at.result.now (omega arith) (omega arith) c.index.ensures
+    c.index-in-loop-at.ensures c.if-not-comes_before.ensures.first in
     let order : IsOrderedDownTo fs c.loop-at.self.waiting below =
-    sunk es fs c.loop-at.self.waiting at below c.first_below-below.ensures.below c.first_below-below.ensures.within c.first_below-below.ensures.under
+    sunk es fs c.loop-at.self.waiting at below c.first_below-below.ensures.below c.first_below-below.ensures.within
+    c.first_below-below.ensures.under
     c.first_below-below.ensures.first before c.loop-at.invariant.order c.swap.ensures.swapped in
-    let labels : waiting_labels fs c.swap.new.self.places.items c.loop-at.self.waiting ≡ waiting_labels es c.loop-at.self.places.items c.loop-at.self.waiting =
+    let labels : waiting_labels fs c.swap.new.self.places.items c.loop-at.self.waiting ≡ waiting_labels es
+    c.loop-at.self.places.items c.loop-at.self.waiting =
     swapped_labels es fs c.loop-at.self.places.items c.swap.new.self.places.items c.loop-at.self.waiting at below
-    c.loop-at.invariant.matched c.swap.ensures.matched c.swap.ensures.swapped c.loop-at.invariant.fits (omega arith) (omega arith) in
+    c.loop-at.invariant.matched c.swap.ensures.matched c.swap.ensures.swapped c.loop-at.invariant.fits
+    (omega arith) (omega arith) in
     let P : ℕ → Type 0 = λ w. IsOrderedDownTo fs w below in
     record {
       matched = c.swap.ensures.matched;

@@ -10,5 +10,6 @@ returns-else-at-self c =
     length_labels heap.entries.items heap.places.items heap.waiting c.self.invariant.matched in
     let within : c.args.room < length heap.entries.items = omega (arith, whole, ap length c.self.view_is) in
     sym c.self.view_is
-    ∙ absent_stays heap.entries.items heap.places.items heap.waiting c.args.room c.index.result.now c.self.invariant.matched within c.index.ensures (omega arith)
+    ∙ absent_stays heap.entries.items heap.places.items heap.waiting c.args.room c.index.result.now
+    c.self.invariant.matched within c.index.ensures (omega arith)
     ∙ ap (λ xs. set xs c.args.room None) c.self.view_is

@@ -47,18 +47,18 @@ accepted : Below → (f : List Entry) (later : Hall) (c : Certificate) → IsKep
     → IsGood (world_after f) (length f) c → IsAcceptedWith later.history c
 accepted below f later c kept on good =
     let same : take c.version later.history ≡ f =
-            ap (λ (n : ℕ). take n later.history) good.version ∙ first_stay f later.history on in
+    ap (λ (n : ℕ). take n later.history) good.version ∙ first_stay f later.history on in
     let best : Optimal (world_after f) c =
-            below.optimal (world_after f) (world-sound f) c good.limits good.valid in
+    below.optimal (world_after f) (world-sound f) c good.limits good.valid in
     record {
       written = (below.again later.history later.history kept.each (omega (arith, kept.few, kept.fits))).0;
       accepted = λ text spells.
           let history = record {
-                spells = subst (λ (t : List ℕ). SpellsHistory t later.history)
-                    (sym (below.drops_nothing text
-                        (All-from_recursion (λ b. b ≢ 13) text (below.no_returns text later.history spells)))) spells;
-                legal = kept.legal;
-              } in (
+            spells = subst (λ (t : List ℕ). SpellsHistory t later.history)
+                (sym (below.drops_nothing text
+                (All-from_recursion (λ b. b ≢ 13) text (below.no_returns text later.history spells)))) spells;
+            legal = kept.legal;
+          } in (
             later.history,
             history,
             (

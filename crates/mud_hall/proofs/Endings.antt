@@ -8,8 +8,11 @@ use Rattle.mud_chron.specs.Text.{line_feed, entries_text, end_line, written_text
 -- more in front changes nothing of the end
 pub behind : (front : List ℕ) (text : List ℕ) → (before : List ℕ) × (text ≡ before ++ 10 ∷ [])
     → (before : List ℕ) × (front ++ text ≡ before ++ 10 ∷ [])
-behind front text (before, e) = (front ++ before, ap (λ (l : List ℕ). front ++ l) e
-    ∙ sym (append_assoc front before (10 ∷ [])))
+behind front text (before, e) = (
+  front ++ before,
+  ap (λ (l : List ℕ). front ++ l) e
+      ∙ sym (append_assoc front before (10 ∷ [])),
+)
 
 pub written-ends : (es : List Accepted) → (before : List ℕ) × (written_text es ≡ before ++ 10 ∷ [])
 written-ends es =

@@ -84,7 +84,7 @@ right below known f later kept on (Some p) (verdict.Ask (query.Proof j)) a versi
     let n : ℕ = length f in
     let i : IsTold w n p j g = told known w n p j g guided in
     let R : Option Certificate → Type 0 =
-            λ c. TellsJourney w p j (string_bytes g.text) c × TellsProof c a.text × IsCertified later.history n c in
+    λ c. TellsJourney w p j (string_bytes g.text) c × TellsProof c a.text × IsCertified later.history n c in
     let r : R a.cert = subst R (sym is.cert_is) (i.told, is.text, certified below f later g.cert kept on i.good) in
     (string_bytes g.text, version, r.0, r.1, r.2)
 right below known f later kept on (Some p) (verdict.Ask (query.View view)) a version h = tt
@@ -102,16 +102,16 @@ guide_is_right below known capacity begin fits begins before hall run s line a n
     (e, there, same, answers) behind later more d v at long =
     let first : Keeps begin hall = run_kept begin before hall (begun_kept capacity begin fits begins) run in
     let rest : Keeps hall later = run_kept hall behind later first.kept
-        (subst (λ (x : Hall). IsRun x behind later) same more) in
+    (subst (λ (x : Hall). IsRun x behind later) same more) in
     let desk : e ≡ d = some-inj e d (sym there ∙ at) in
     let mine : IsDesk hall.history s d = first.kept.desks s d at in
     let front : take (length d.seen) hall.history ≡ d.seen = first_stay d.seen hall.history mine.known in
     let on : IsPrefix d.seen later.history = goes_trans d.seen hall.history later.history mine.known rest.on in
     let answer : Answers d line a = subst (λ (x : DeskState). Answers x line a) desk answers in
     let here : IsRight (world_after d.seen) (length d.seen) d.player (verdict_on d.seen d.player line) a later.history =
-            right below known d.seen later rest.kept on d.player
-                (verdict_on d.seen d.player line) a answer.version answer.shows in
+    right below known d.seen later rest.kept on d.player
+    (verdict_on d.seen d.player line) a answer.version answer.shows in
     subst (λ (n : ℕ). IsRight (world_after (take n hall.history)) n d.player
-        (verdict_on (take n hall.history) d.player line) a later.history) long
+    (verdict_on (take n hall.history) d.player line) a later.history) long
     (subst (λ (f : List Entry). IsRight (world_after f) (length d.seen) d.player
-        (verdict_on f d.player line) a later.history) (sym front) here)
+    (verdict_on f d.player line) a later.history) (sym front) here)

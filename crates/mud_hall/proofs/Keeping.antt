@@ -69,15 +69,17 @@ each-push (x ∷ es) e is last = (is.0, each-push es e is.1 last)
 legal-push : (w : State) (cs : List Change) (e : Change) → AreLegalFrom w cs → refusal (world_from w cs) e ≡ None
     → AreLegalFrom w (cs ++ e ∷ [])
 legal-push w [] e legal is = (is, tt)
-legal-push w (c ∷ cs) e legal is =
-    (legal.0, legal-push (after w c) cs e legal.1 (sym (ap (λ (v : State). refusal (world_from v cs) e)
-        (stepped-legal w c legal.0)) ∙ is))
+legal-push w (c ∷ cs) e legal is = (
+  legal.0,
+  legal-push (after w c) cs e legal.1 (sym (ap (λ (v : State). refusal (world_from v cs) e)
+      (stepped-legal w c legal.0)) ∙ is),
+)
 
 legal-more : (h : List Entry) (e : Entry) → AreLegal (changes_of h) → refusal (world_after h) e.change ≡ None
     → AreLegal (changes_of (h ++ e ∷ []))
 legal-more h e legal is =
     subst AreLegal (sym (map-append (λ (x : Entry). x.change) h (e ∷ [])))
-        (legal-push opening_state (changes_of h) e.change legal is)
+    (legal-push opening_state (changes_of h) e.change legal is)
 
 -- two lists with one last entry each
 last-one : (xs ys : List Entry) (x y : Entry) → xs ++ x ∷ [] ≡ ys ++ y ∷ [] → xs ≡ ys
@@ -153,10 +155,10 @@ accepts old new s n was is e kept turns mine number made room grown =
     let entry : Entry = record { desk = n; change = e } in
     let good : IsDesk old.history s was = kept.desks s was turns.before in
     let one : IsEntry entry = record {
-          spellable = legal_is_spellable (world_after old.history) n e (world-sound old.history) made.legal
-              (omega (arith, mine, good.from)) (omega (arith, mine, good.to));
-          parts = made.parts;
-        } in
+      spellable = legal_is_spellable (world_after old.history) n e (world-sound old.history) made.legal
+          (omega (arith, mine, good.from)) (omega (arith, mine, good.to));
+      parts = made.parts;
+    } in
     let long : length new.history ≡ length old.history + 1 = ap length grown ∙ length-append old.history (entry ∷ []) in
     let on : IsPrefix old.history new.history = (entry ∷ [], sym grown) in
     record {
@@ -184,13 +186,13 @@ stored old new s v text line was ready is kept turns number c grows =
     let grown : new.history ≡ ready.seen ++ entry ∷ [] = sym grows.2 ∙ mine in
     let whole : ready.seen ≡ old.history = last-one ready.seen old.history entry grows.0 (sym grown ∙ grows.1) in
     let made : IsMade (world_after ready.seen) e =
-            are_made (world_after ready.seen) (world-sound ready.seen) ready.player (parsed line) e c.decides in
+    are_made (world_after ready.seen) (world-sound ready.seen) ready.player (parsed line) e c.decides in
     let good : IsDesk old.history s was = kept.desks s was turns.before in
     accepts old new s n was is e kept turns (number ∙ good.number)
-        (stored-number old.capacity ready e (Accepted v text) is c.stores ∙ number)
-        (subst (λ (x : List Entry). IsMade (world_after x) e) whole made)
-        (subst (λ (x : List Entry). length x < old.capacity) whole c.stores.0)
-        (grown ∙ ap (λ (x : List Entry). x ++ entry ∷ []) whole)
+    (stored-number old.capacity ready e (Accepted v text) is c.stores ∙ number)
+    (subst (λ (x : List Entry). IsMade (world_after x) e) whole made)
+    (subst (λ (x : List Entry). length x < old.capacity) whole c.stores.0)
+    (grown ∙ ap (λ (x : List Entry). x ++ entry ∷ []) whole)
 
 replies : (old new : Hall) (s : ℕ) (line : List ℕ) (was ready is : DeskState) (reply : Reply) → IsKept old
     → Turns old s was is new → ready.number ≡ was.number → Grows reply old.history is new.history
@@ -232,7 +234,7 @@ gives old new s kept g =
         go : (t ≡ s) ⊎ (t ≢ s) → IsDesk old.history t d
         go (inl same) =
             let here : new_desk s g.seen ≡ d = some-inj (new_desk s g.seen) d
-                (sym g.desk ∙ ap new.desks (sym same) ∙ at) in
+            (sym g.desk ∙ ap new.desks (sym same) ∙ at) in
             record {
               from = omega (arith, same, g.next);
               to = omega (arith, same, g.few);
@@ -249,16 +251,22 @@ makes_kept old (Learn s t) new kept (was, is, other, turns, same, at, l) =
     rests old new s was is kept turns (ap (λ (d : DeskState). d.number) l.takes_in.is) same
 makes_kept old (Act s line reply) new kept (was, is, turns, grows, a) =
     replies old new s line was a.ready is reply kept turns (ap
-        (λ (d : DeskState). d.number) a.takes_in.is) grows a.replies
+    (λ (d : DeskState). d.number) a.takes_in.is) grows a.replies
 makes_kept old (Ask s line answer) new kept (d, at, same, a) =
-    record { kept = subst IsKept (sym same) kept; on = goes-same old.history new.history
-        (ap (λ (h : Hall). h.history) same) }
+    record {
+      kept = subst IsKept (sym same) kept;
+      on = goes-same old.history new.history
+          (ap (λ (h : Hall). h.history) same);
+    }
 makes_kept old (Guest s) new kept (was, is, turns, same, becomes) =
     rests old new s was is kept turns (ap (λ (d : DeskState). d.number) becomes) same
 
 pub run_kept : (old : Hall) (steps : List Step) (new : Hall) → IsKept old → IsRun old steps new → Keeps old new
-run_kept old [] new kept same = record { kept = subst IsKept same kept; on =
-    goes-same old.history new.history (ap (λ (h : Hall). h.history) (sym same)) }
+run_kept old [] new kept same = record {
+  kept = subst IsKept same kept;
+  on =
+      goes-same old.history new.history (ap (λ (h : Hall). h.history) (sym same));
+}
 run_kept old (step ∷ steps) new kept (hall, made, run) =
     let one : Keeps old hall = makes_kept old step hall kept made in
     let rest : Keeps hall new = run_kept hall steps new one.kept run in
@@ -286,7 +294,7 @@ alone_kept capacity fits = record {
     go : (s : ℕ) (d : DeskState) → cond (eqb s 1) (Some lone_desk) None ≡ Some d → (s ≡ 1) ⊎ (s ≢ 1) → IsDesk [] s d
     go s d at (inl same) =
         let here : lone_desk ≡ d = some-inj lone_desk d (sym (ap (λ b. cond b (Some lone_desk) None) (eq-eqb s 1 same))
-            ∙ at) in
+        ∙ at) in
         record {
           from = omega (arith, same);
           to = omega (arith, same);
@@ -295,7 +303,7 @@ alone_kept capacity fits = record {
         }
     go s d at (inr apart) =
         let bad : ◌≡◌ {A = Option DeskState} None (Some d) =
-            sym (ap (λ b. cond b (Some lone_desk) None) (ne_eqb s 1 apart)) ∙ at in
+        sym (ap (λ b. cond b (Some lone_desk) None) (ne_eqb s 1 apart)) ∙ at in
         absurd (cc)
 
 pub begun_kept : (capacity : ℕ) (begin : Hall) → capacity ≤ 65536 → Begins capacity begin → IsKept begin

@@ -5,6 +5,9 @@ pub mod Showing
 pub mod Endings
 pub mod Guests
 pub mod Lists
+pub mod Least
+pub mod Apart
+pub mod Checks
 pub mod Learning
 pub mod Worlds
 pub mod Keeping

@@ -1,15 +1,15 @@
 -- Facts about each of the first elements of a list, and the versions of one desk's entries.
-use Rattle.std.proofs.Common.{◌≡◌, ℕ, zero, suc, ◌+◌, ◌≤◌, ◌<◌, Bool, true, false, List, [], ◌∷◌, ◌++◌, length, take, drop, get_or, set, Option, Some, None, slice_get, refl, sym, ap, ◌∙◌, subst, arith, add-one, append_assoc, length-append, length-drop, ◌-◌}
-use Rattle.std.proofs.lemmas.List.{append-nil, take_all, length-take-le}
-use Rattle.std.proofs.lemmas.Bool.Decides.{nat_tests}
+use Rattle.std.proofs.Common.{◌≡◌, ℕ, zero, suc, ◌+◌, ◌-◌, ◌<◌, List, [], ◌∷◌, ◌++◌, length, take, drop, get_or}
+use Rattle.std.proofs.Common.{set, refl, sym, ap, ◌∙◌, subst, arith, add-one, append_assoc, length-drop}
+use Rattle.std.proofs.lemmas.List.{append-nil, take_all}
 use Rattle.std.proofs.Math.Seq.{take-suc}
 use Rattle.std.proofs.lemmas.List.Elements.{All-append}
 use Rattle.std.specs.Prelude.{All, ◌==◌, if◌then◌else◌}
-use mathlib.Core.List.{IsPrefix}
 use Rattle.mud_chron.specs.Entry.{Accepted}
 use Rattle.mud_hall.specs.Settling.{versions_by}
 
-pub take_snoc : {X : Type 0} (xs : List X) (i : ℕ) (d x : X) → i < length xs → x ≡ get_or xs i d → take (i + 1) xs ≡ take i xs ++ x ∷ []
+pub take_snoc : {X : Type 0} (xs : List X) (i : ℕ) (d x : X) → i < length xs → x ≡ get_or xs i d
+    → take (i + 1) xs ≡ take i xs ++ x ∷ []
 take_snoc xs i d x lt at = rw (add-one i) (take-suc xs i d lt ∙ ap (λ z. take i xs ++ z ∷ []) (sym at))
 
 pub all_one : {X : Type 0} (P : X → Type 0) (x : X) → P x → All P (x ∷ [])
@@ -17,7 +17,8 @@ all_one P x p zero d lt = p
 all_one P x p (suc k) d lt = absurd (omega arith)
 
 -- what holds of the first i and of the next holds of the first i + 1
-pub all_snoc : {X : Type 0} (P : X → Type 0) (xs : List X) (i : ℕ) (d x : X) → All P (take i xs) → i < length xs → x ≡ get_or xs i d → P x → All P (take (i + 1) xs)
+pub all_snoc : {X : Type 0} (P : X → Type 0) (xs : List X) (i : ℕ) (d x : X) → All P (take i xs) → i < length xs
+    → x ≡ get_or xs i d → P x → All P (take (i + 1) xs)
 all_snoc {X} P xs i d x all lt at p =
     let Q : List X → Type 0 = λ ys. All P ys in
     subst Q (sym (take_snoc xs i d x lt at)) (All-append P (take i xs) (x ∷ []) all (all_one P x p))
@@ -30,33 +31,18 @@ set_same [] i x y at same = refl
 set_same (z ∷ xs) zero x y at same = cc
 set_same (z ∷ xs) (suc i) x y at same = ap (λ r. z ∷ r) (set_same xs i x y at same)
 
-pub versions-snoc : (n v : ℕ) (es : List Accepted) (e : Accepted) → versions_by n v (es ++ e ∷ []) ≡ versions_by n v es ++ (if e.desk == n then (v + length es) ∷ [] else [])
+pub versions-snoc : (n v : ℕ) (es : List Accepted) (e : Accepted)
+    → versions_by n v (es ++ e ∷ []) ≡ versions_by n v es ++ (if e.desk == n then (v + length es) ∷ [] else [])
 versions-snoc n v [] e =
     let same : v ≡ v + 0 = omega arith in
     append-nil (if e.desk == n then v ∷ [] else []) ∙ ap (λ k. if e.desk == n then k ∷ [] else []) same
 versions-snoc n v (x ∷ es) e =
     let head : List ℕ = if x.desk == n then v ∷ [] else [] in
+    let rest : List ℕ = versions_by n (v + 1) es in
     let same : (v + 1) + length es ≡ v + suc (length es) = omega arith in
-    ap (λ w. head ++ w) (versions-snoc n (v + 1) es e ∙ ap (λ k. versions_by n (v + 1) es ++ (if e.desk == n then k ∷ [] else [])) same)
-    ∙ sym (append_assoc head (versions_by n (v + 1) es) (if e.desk == n then (v + suc (length es)) ∷ [] else []))
-
--- the entry at place i is of another desk
-pub versions_skip : (n v i : ℕ) (es : List Accepted) (d e : Accepted) → i < length es → e ≡ get_or es i d → (e.desk ≡ n → ⊥) → versions_by n v (take (i + 1) es) ≡ versions_by n v (take i es)
-versions_skip n v i es d e lt at other =
-    let no : (e.desk == n) ≡ false = grind (arith, nat_tests) in
-    rw (take_snoc es i d e lt at) (versions-snoc n v (take i es) e ∙ rw no (append-nil (versions_by n v (take i es))))
-
--- the entry at place i is of this desk
-pub versions_next : (n v i : ℕ) (es : List Accepted) (d e : Accepted) → i < length es → e ≡ get_or es i d → e.desk ≡ n → versions_by n v (take (i + 1) es) ≡ versions_by n v (take i es) ++ (i + v) ∷ []
-versions_next n v i es d e lt at own =
-    let yes : (e.desk == n) ≡ true = grind (arith, nat_tests) in
-    let place : v + length (take i es) ≡ i + v = omega (arith, length-take-le i es (omega arith)) in
-    rw (take_snoc es i d e lt at) (versions-snoc n v (take i es) e ∙ rw (yes, place) refl)
-
--- the calls up to the next one are those of the entries up to place i + 1
-pub calls_next : (n v i next : ℕ) (calls : List ℕ) (es : List Accepted) (d e : Accepted) (c : ℕ) → take next calls ≡ versions_by n v (take i es) → i < length es → e ≡ get_or es i d → e.desk ≡ n → next < length calls → c ≡ get_or calls next c → c ≡ i + v → take (next + 1) calls ≡ versions_by n v (take (i + 1) es)
-calls_next n v i next calls es d e c so lt at own room here is =
-    take_snoc calls next c c room here ∙ (ap (λ w. w ++ c ∷ []) so ∙ (ap (λ k. versions_by n v (take i es) ++ k ∷ []) is ∙ sym (versions_next n v i es d e lt at own)))
+    ap (λ w. head ++ w)
+    (versions-snoc n (v + 1) es e ∙ ap (λ k. rest ++ (if e.desk == n then k ∷ [] else [])) same)
+    ∙ sym (append_assoc head rest (if e.desk == n then (v + suc (length es)) ∷ [] else []))
 
 -- what is left from a place on, as many as there are
 pub rest-all : {X : Type 0} (n : ℕ) (xs : List X) → take (length xs - n) (drop n xs) ≡ drop n xs

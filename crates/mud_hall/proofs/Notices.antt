@@ -56,7 +56,7 @@ pub told_same : (stored marked : List (List ℕ)) (p : Option ℕ) (es : List Ac
     → (stored ++ marked) ++ notices p (take new es) (drop new es) ≡ stored ++ notices p (take i es) (drop i es)
 told_same stored marked p es i new e at is m =
     rw (is, m) (append_assoc stored (notice p (take i es) e) (notices p (take (i + 1) es) (drop (i + 1) es))
-        ∙ ap (λ w. stored ++ w) (sym (notices_at p es i e at)))
+    ∙ ap (λ w. stored ++ w) (sym (notices_at p es i e at)))
 
 drop-append_within : (i : ℕ) (es fs : List Accepted) → i ≤ length es → drop i (es ++ fs) ≡ drop i es ++ fs
 drop-append_within zero es fs le = refl
@@ -70,7 +70,7 @@ pub told_more : (stored : List (List ℕ)) (p : Option ℕ) (es fs : List Accept
 told_more stored p es fs i le =
     rw (take-append-le i es fs le, drop-append_within i es fs le)
     (ap (λ w. stored ++ w) (notices-append p (take i es) (drop i es) fs
-        ∙ ap (λ w. notices p (take i es) (drop i es) ++ notices p w fs) (take-append-drop i es))
+    ∙ ap (λ w. notices p (take i es) (drop i es) ++ notices p w fs) (take-append-drop i es))
     ∙ sym (append_assoc stored (notices p (take i es) (drop i es)) (notices p es fs)))
 
 -- a desk whose replica comes to know more takes the new entries in
@@ -79,11 +79,14 @@ pub grows : (was new : Standing) (s : DeskState) (number : ℕ) (p : Option ℕ)
     → TakesIn s (state_of number p new calls stored)
 grows was new s number p calls stored more at within is =
     let told : stored ++ notices p (take new.at new.list) (drop new.at new.list)
-        ≡ (stored ++ notices p (take was.at was.list) (drop was.at was.list)) ++ notices p was.list more.0 =
+    ≡ (stored ++ notices p (take was.at was.list) (drop was.at was.list)) ++ notices p was.list more.0 =
     rw (at, ← more.1) (told_more stored p was.list more.0 was.at within) in
     let P : DeskState → Type 0 = λ t. state_of number p new calls stored ≡ took_in t more.0 in
-    record { entries = more.0; is = subst P is (state_eq (state_of number p new calls stored)
-        (took_in (state_of number p was calls stored) more.0) refl refl (sym more.1) refl told) }
+    record {
+      entries = more.0;
+      is = subst P is (state_eq (state_of number p new calls stored)
+          (took_in (state_of number p was calls stored) more.0) refl refl (sym more.1) refl told);
+    }
 
 -- a guest is told nothing
 pub notices-none : (h es : List Accepted) → notices None h es ≡ []

@@ -58,7 +58,7 @@ seated-on h g (Some p) more is =
     let P : List Accepted → Type 0 = λ l. IsTrue (is_player (world_after l) p) in
     let Q : State → Type 0 = λ w. IsTrue (is_player w p) in
     subst P more.1 (subst Q (sym (after-append h more.0)) (from-stays (world_after h) (changes_of more.0) p
-        (world-sound h) is))
+    (world-sound h) is))
 
 pub prefix_trans : {X : Type 0} (xs ys zs : List X) → IsPrefix xs ys → IsPrefix ys zs → IsPrefix xs zs
 prefix_trans xs ys zs a b = (a.0 ++ b.0, sym (append_assoc xs a.0 b.0) ∙ (ap (λ w. w ++ b.0) a.1 ∙ b.1))

@@ -26,8 +26,8 @@ guided-shown h player p q j w v g is asks guided =
     let P : Query → Type 0 = λ x. IsShown h player x (answered g) in
     let G : State → ℕ → Option ℕ → Type 0 = λ a b c. IsGuided a b c j g in
     let here : IsGuided (world_after h) (length h) player j g =
-            subst (λ a. G a (length h) player) is.world (subst (λ b. G w b player) is.version
-                (subst (G w v) is.seat guided)) in
+    subst (λ a. G a (length h) player) is.world (subst (λ b. G w b player) is.version
+    (subst (G w v) is.seat guided)) in
     subst P (sym asks) (g, here, refl)
 
 pub proven-shown : (h : List Accepted) (player p : Option ℕ) (q : Query) (j : Journey) (w : State) (v : ℕ)
@@ -38,8 +38,8 @@ proven-shown h player p q j w v (Ok a) is asks proven =
     let P : Query → Type 0 = λ x. IsShown h player x (answered a) in
     let G : State → ℕ → Option ℕ → Type 0 = λ x y z. IsProven x y z j a in
     let here : IsProven (world_after h) (length h) player j a =
-            subst (λ x. G x (length h) player) is.world (subst (λ y. G w y player) is.version
-                (subst (G w v) is.seat proven)) in
+    subst (λ x. G x (length h) player) is.world (subst (λ y. G w y player) is.version
+    (subst (G w v) is.seat proven)) in
     subst P (sym asks) here
 
 -- a desk that has taken all in answers in the world of what it has seen
@@ -49,7 +49,7 @@ pub at-desk : (number : ℕ) (p : Option ℕ) (r : Standing) (calls : List ℕ) 
     → w ≡ world_at r.list r.at → v ≡ length s.state.seen → IsAt s.state.seen s.state.player w v p
 at-desk number p r calls stored s w v is all world version =
     let whole : r.at ≡ length r.list = ap (λ (x : View). x.at) is ∙ all
-        ∙ sym (ap (λ (x : View). length x.state.seen) is) in
+    ∙ sym (ap (λ (x : View). length x.state.seen) is) in
     record {
       world = world ∙ all_in r.list r.at whole ∙ ap (λ (x : View). world_after x.state.seen) is;
       version = version;

@@ -53,7 +53,7 @@ own_notice : (h : List Accepted) (e : Accepted) → notice (Some e.change.actor)
 own_notice h e =
     let own : nat_eq e.change.actor e.change.actor ≡ true = eq-eqb e.change.actor e.change.actor refl in
     ap (λ (b : Bool). notice_of (length h + 1) (if b then None else heard_deed
-        (world_after h) e.change.actor e.change.actor e.change.deed)) own
+    (world_after h) e.change.actor e.change.actor e.change.deed)) own
 
 take_first : (es fs : List Accepted) → take (length es) (es ++ fs) ≡ es
 take_first [] fs = refl
@@ -103,15 +103,15 @@ actor-plays w h player e at legal is seated = go e.deed legal is.old is.new
         let P : Option ℕ → Type 0 = λ o. IsSeated (world_after h) o in
         let Q : State → Type 0 = λ v. IsTrue (is_player v e.actor) in
         players_stay w (record { actor = e.actor; deed = deed })
-            (subst (λ (v : State). IsSound v) (sym at) (world-sound h)) l e.actor
-            (subst Q (sym at) (subst P (old apart) seated))
+        (subst (λ (v : State). IsSound v) (sym at) (world-sound h)) l e.actor
+        (subst Q (sym at) (subst P (old apart) seated))
 
     go : (deed : Deed) → Was deed → (is_arrival deed ≡ false → player ≡ Some e.actor)
         → (is_arrival deed ≡ true → e.actor ≡ w.next) → Is deed
     go (Player name) l old new =
         let P : ℕ → Type 0 = λ a. IsTrue (is_player (after w (record { actor = a; deed = Player name })) a) in
         subst P (sym (new refl)) (new_players_are_players w name
-            (subst (λ (v : State). IsSound v) (sym at) (world-sound h)))
+        (subst (λ (v : State). IsSound v) (sym at) (world-sound h)))
     go (Dig target doors) l old new = here (Dig target doors) l old refl
     go (Make names) l old new = here (Make names) l old refl
     go (Lock object key) l old new = here (Lock object key) l old refl
@@ -129,17 +129,20 @@ pub held-stored : (cells : List ℕ) (loaded : List Accepted) (number : ℕ) (pl
     (e : Change) → IsHeld cells loaded number player was → new.list
     ≡ was.list ++ record { desk = number; change = e } ∷ [] → new.row ≡ was.row
     → refusal (world_after was.list) e ≡ None → IsActor (world_after was.list) player e
-        → IsHeld cells loaded number (Some e.actor) new
+    → IsHeld cells loaded number (Some e.actor) new
 held-stored cells loaded number player was new e held list row legal is =
     let entry : Accepted = record { desk = number; change = e } in
     let world : world_after new.list ≡ after (world_after was.list) e =
     ap world_after list ∙ (ap world_of (map_push (λ (x : Accepted). x.change) was.list entry)
-        ∙ world_of-legal (changes_of was.list) e legal) in
+    ∙ world_of-legal (changes_of was.list) e legal) in
     let Q : State → Type 0 = λ v. IsTrue (is_player v e.actor) in
     record {
       row = row ∙ held.row;
-      begun = (held.begun.0 ++ entry ∷ [], sym (append_assoc loaded held.begun.0 (entry ∷ []))
-          ∙ (ap (λ l. l ++ entry ∷ []) held.begun.1 ∙ sym list));
+      begun = (
+        held.begun.0 ++ entry ∷ [],
+        sym (append_assoc loaded held.begun.0 (entry ∷ []))
+            ∙ (ap (λ l. l ++ entry ∷ []) held.begun.1 ∙ sym list),
+      );
       from = held.from;
       to = held.to;
       seated = subst Q (sym world) (actor-plays (world_after was.list) was.list player e refl legal is held.seated);
@@ -150,15 +153,15 @@ pub stored_state : (was new : Standing) (s : DeskState) (number : ℕ) (e : Chan
     (calls more : List ℕ) (stored : List (List ℕ)) → new.list ≡ was.list ++ record { desk = number; change = e } ∷ []
     → new.at ≡ was.at → was.at ≡ length was.list
     → more ≡ calls ++ (length was.list + 1) ∷ [] → Some e.actor ≡ (if is_arrival e.deed then Some e.actor else player)
-        → state_of number player was calls stored ≡ s → state_of number (Some e.actor) new more stored ≡ as_accepted s e
+    → state_of number player was calls stored ≡ s → state_of number (Some e.actor) new more stored ≡ as_accepted s e
 stored_state was new s number e player now calls more stored list at all cs sits is =
     let told : stored ++ notices (Some e.actor) (take new.at new.list) (drop new.at new.list)
-        ≡ stored ++ notices player (take was.at was.list) (drop was.at was.list) =
+    ≡ stored ++ notices player (take was.at was.list) (drop was.at was.list) =
     rw (at, list) (own_told stored was.list was.at (record { desk = number; change = e }) all
-        ∙ sym (all_told stored player was.list was.at all)) in
+    ∙ sym (all_told stored player was.list was.at all)) in
     let P : DeskState → Type 0 = λ t. state_of number (Some e.actor) new more stored ≡ as_accepted t e in
     subst P is (state_eq (state_of number (Some e.actor) new more stored)
-        (as_accepted (state_of number player was calls stored) e) refl sits list cs told)
+    (as_accepted (state_of number player was calls stored) e) refl sits list cs told)
 
 -- another player sits at a desk that has taken all in
 pub seated_state : (was : Standing) (s : DeskState) (number p : ℕ) (player : Option ℕ) (calls : List ℕ)
@@ -166,8 +169,8 @@ pub seated_state : (was : Standing) (s : DeskState) (number p : ℕ) (player : O
     → state_of number (Some p) was calls stored ≡ as_player s p
 seated_state was s number p player calls stored all is =
     let told : stored ++ notices (Some p) (take was.at was.list) (drop was.at was.list)
-        ≡ stored ++ notices player (take was.at was.list) (drop was.at was.list) =
+    ≡ stored ++ notices player (take was.at was.list) (drop was.at was.list) =
     all_told stored (Some p) was.list was.at all ∙ sym (all_told stored player was.list was.at all) in
     let P : DeskState → Type 0 = λ t. state_of number (Some p) was calls stored ≡ as_player t p in
     subst P is (state_eq (state_of number (Some p) was calls stored)
-        (as_player (state_of number player was calls stored) p) refl refl refl refl told)
+    (as_player (state_of number player was calls stored) p) refl refl refl refl told)

@@ -1,12 +1,12 @@
 -- A desk of a hall, and what it takes in.
-use Rattle.std.specs.Prelude.{◌≡◌, ◌≤◌, ◌⊎◌, ℕ, ◌+◌, nat_lt, if◌then◌else◌, IsTrue, Option, Some, None}
+use Rattle.std.specs.Prelude.{◌≡◌, ◌≤◌, ℕ, ◌+◌, nat_lt, if◌then◌else◌, IsTrue, Option, Some, None}
 use Rattle.std.specs.Prelude.{List, [], ◌∷◌, ◌++◌, length, take, drop}
 use mathlib.Core.List.{IsPrefix}
 use Rattle.mud_world.specs.State.{State, is_player}
 use Rattle.mud_world.specs.Legal.{is_arrival}
 use Rattle.mud_world.specs.declared.change.Change.{Change}
 use Rattle.mud_chron.specs.Entry.{Accepted}
-use Rattle.mud_row.specs.Known.{Standing}
+use Rattle.mud_row.specs.Known.{Known, Standing}
 use Rattle.mud_hall.specs.Told.{world_after, notices}
 
 -- a desk: its number, its player, or none for a guest, the entries that it has seen, the versions of its accepted
@@ -90,16 +90,19 @@ IsSeated w (Some p) = IsTrue (is_player w p)
 
 -- what is true of every desk of the hall with these cells and these loaded entries. A reader need not look into this:
 -- contracts only hand it on
-pub record IsHeld (cells : List ℕ) (loaded : List Accepted) (number : ℕ) (player : Option ℕ) (r : Standing) : Type 0 where
+pub record IsHeld (cells : List ℕ) (loaded : List Accepted) (number : ℕ) (player : Option ℕ) (r : Standing)
+    : Type 0 where
   pub row : r.row ≡ cells
   pub begun : IsPrefix loaded r.list
   pub from : 1 ≤ number
   pub to : number ≤ 64
   pub seated : IsSeated (world_after r.list) player
 
--- what is true of what lies under the lock of that hall: at most 64 desks were given, and it knows what was loaded. A
--- reader need not look into this: contracts only hand it on
-pub record IsKept (cells : List ℕ) (loaded : List Accepted) (given : ℕ) (r : Standing) : Type 0 where
+-- what is true of what lies under the lock of that hall: at most 64 desks were given, it knows what was loaded, and
+-- the start that it keeps is that alone. A reader need not look into this: contracts only hand it on
+pub record IsKept (cells : List ℕ) (loaded : List Accepted) (given : ℕ) (r : Standing) (start : Known) : Type 0 where
   pub few : given ≤ 64
   pub row : r.row ≡ cells
   pub begun : IsPrefix loaded r.list
+  pub start_row : start.row ≡ cells
+  pub start_list : start.list ≡ loaded

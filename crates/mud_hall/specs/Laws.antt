@@ -37,7 +37,7 @@ GuideIsRight =
     → (behind : List Step) (later : Hall) → IsRun next behind later
     → (d : DeskState) (v : ℕ) → hall.desks s ≡ Some d → length d.seen ≡ v
     → let h : List Entry = take v hall.history in
-      IsRight (world_after h) v d.player (verdict_on h d.player line) a later.history
+    IsRight (world_after h) v d.player (verdict_on h d.player line) a later.history
 
 -- from the world after the first entries of a history the changes by the exits of a player's walk are each legal, and
 -- end where the walk leads

@@ -5,6 +5,7 @@ pub mod Answers
 pub mod Opening
 pub mod Alone
 pub mod Settling
+pub mod Checking
 pub mod Steps
 pub mod Right
 pub mod Laws

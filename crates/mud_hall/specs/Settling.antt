@@ -1,5 +1,6 @@
 -- The settlement of a hall: the one history that its desks made.
-use Rattle.std.specs.Prelude.{◌≡◌, ◌≢◌, ℕ, ◌+◌, ◌<◌, ◌≤◌, List, [], ◌∷◌, ◌++◌, length, drop, Some, All, Any, ◌==◌, if◌then◌else◌, slice_get}
+use Rattle.std.specs.Prelude.{◌≡◌, ◌≢◌, ℕ, ◌+◌, ◌<◌, ◌≤◌, ◌⊎◌, ◌==◌, nat_lt, if◌then◌else◌, Option, Some, None}
+use Rattle.std.specs.Prelude.{List, [], ◌∷◌, ◌++◌, length, drop, slice_get, All, Any}
 use Rattle.std.specs.List.{AllPairs}
 use mathlib.Core.List.{IsPrefix}
 use Rattle.mud_chron.specs.Entry.{Accepted}
@@ -20,10 +21,16 @@ made loaded history = drop (length loaded) history
 abbrev pub HasNumber : List View → ℕ → Type 0
 HasNumber desks n = Any (λ d. d.state.number ≡ n) desks
 
--- the history that these desks made: each knows a beginning of it; behind what was loaded each entry is a call of the desk whose number it bears, and each desk's calls are there once, in their order
-pub record IsSettled (loaded : List Accepted) (desks : List View) (history : List Accepted) : Type 0 where
+-- the longest of what was loaded and of what each desk knows: each of them is a beginning of it
+pub record IsGathered (loaded : List Accepted) (desks : List View) (history : List Accepted) : Type 0 where
   pub begun : IsPrefix loaded history
   pub known : All (λ d. IsPrefix d.state.seen history) desks
+  pub some : (history ≡ loaded) ⊎ Any (λ d. history ≡ d.state.seen) desks
+
+-- the history that these desks made: behind what was loaded each entry is a call of the desk whose number it bears, and
+-- each desk's calls are there once, in their order
+pub record IsSettled (loaded : List Accepted) (desks : List View) (history : List Accepted) : Type 0 where
+  pub gathered : IsGathered loaded desks history
   pub calls : All (λ d. d.state.calls ≡ versions_by d.state.number (length loaded + 1) (made loaded history)) desks
   pub apart : AllPairs (λ c d. c.state.number ≢ d.state.number) desks
   pub named : All (λ e. HasNumber desks e.desk) (made loaded history)
@@ -46,9 +53,30 @@ pub record IsMissing (desks : List View) (n : ℕ) : Type 0 where
   pub none : HasNumber desks n → ⊥
   pub least : (k : ℕ) → k + 1 < n → HasNumber desks (k + 1)
 
+-- the first number at which two rising lists differ
+abbrev pub first_apart : List ℕ → List ℕ → Option ℕ
+first_apart [] [] = None
+first_apart [] (w ∷ ws) = Some w
+first_apart (v ∷ vs) [] = Some v
+first_apart (v ∷ vs) (w ∷ ws) = if v == w then first_apart vs ws else Some (if nat_lt v w then v else w)
+
+-- the entries are those from version `first` on. Version v is at odds: the calls of some desk and the entries that bear
+-- its number differ there first, or its entry bears the number of no desk
+abbrev pub IsAtOdds : List View → ℕ → List Accepted → ℕ → Type 0
+IsAtOdds desks first entries v =
+    Any (λ d. first_apart d.state.calls (versions_by d.state.number first entries) ≡ Some v) desks
+    ⊎ ((i : ℕ) × (e : Accepted) × (v ≡ first + i) × (slice_get entries i ≡ Some e) × (HasNumber desks e.desk → ⊥))
+
+-- the least version at odds, in the history that the desks and what was loaded tell
+pub record IsMismatch (loaded : List Accepted) (desks : List View) (v : ℕ) : Type 0 where
+  pub history : List Accepted
+  pub gathered : IsGathered loaded desks history
+  pub odds : IsAtOdds desks (length loaded + 1) (made loaded history) v
+  pub least : (u : ℕ) → IsAtOdds desks (length loaded + 1) (made loaded history) u → v ≤ u
+
 -- when each fault of a settlement comes
-abbrev pub IsCloseFault : List View → CloseFault → Type 0
-IsCloseFault desks OutOfMemory = Unit {0}
-IsCloseFault desks (SameNumber n) = HaveSameNumber desks n
-IsCloseFault desks (Missing n) = IsMissing desks n
-IsCloseFault desks (Mismatch v) = Unit {0}
+abbrev pub IsCloseFault : List Accepted → List View → CloseFault → Type 0
+IsCloseFault loaded desks OutOfMemory = Unit {0}
+IsCloseFault loaded desks (SameNumber n) = HaveSameNumber desks n × ((m : ℕ) → HaveSameNumber desks m → n ≤ m)
+IsCloseFault loaded desks (Missing n) = IsMissing desks n
+IsCloseFault loaded desks (Mismatch v) = IsMismatch loaded desks v

@@ -1,20 +1,20 @@
 //! The settlement of a hall.
 
-ghost use Rattle.std.specs.Prelude.{◌≡◌, ◌++◌, ◌∷◌, [], ◌<◌, ◌≤◌, ◌+◌, ◌↔◌, ◌≢◌, ℕ, length, drop, IfOk, IfErr, OnErr, OnOk, IfNone, IfSome, All, IsTrue};
+ghost use Rattle.std.specs.Prelude.{◌≡◌, ◌≢◌, ◌≤◌, ◌+◌, ◌↔◌, ◌⊎◌, length, All, IfOk, IfErr, IfSome, IsTrue, OnOk};
 ghost use Rattle.std.specs.List.{AllPairs};
 ghost use mathlib.Core.List.{IsPrefix};
-ghost use Rattle.mud_chron.specs.Entry.{Accepted};
-ghost use Rattle.mud_hall.specs.Desk.{View};
-ghost use Rattle.mud_hall.specs.Settling.{IsSettled, IsCloseFault, HaveSameNumber, IsMissing, HasNumber, versions_by, made};
+ghost use Rattle.mud_hall.specs.Settling.{IsGathered, IsSettled, IsCloseFault, IsAtOdds, IsMissing};
+ghost use Rattle.mud_hall.specs.Settling.{HasNumber, HaveSameNumber, versions_by, made, first_apart};
+ghost use Rattle.mud_hall.specs.Checking.{lesser_of, IsLeast, Differs, IsUnnamed, IsCheckFault};
 
 use crate::desk::Desk;
-use crate::entries::entries_of;
+use crate::entries::entries_known;
 use crate::fault::CloseFault;
 use crate::hall::Hall;
 use crate::kept::Kept;
 use crate::name::HallName;
 use mud_chron::Entry;
-use mud_row::{Replica, Row};
+use mud_row::{Pass, Row};
 use std::alloc::Global;
 use std::sync::Wait;
 
@@ -31,7 +31,9 @@ pub struct Settled {
 
 impl<J: HallName> Hall<J> {
     /// Ends the hall and gives its history, where the desks that are handed in are those that made
-    /// it; else hall and desks come back. Tried in this order: `SameNumber`, `Missing`, `Mismatch`.
+    /// it; else hall and desks come back. Tried in this order: `SameNumber`, the least number that
+    /// two of them have; `Missing`, the least that none of them has; `Mismatch`, the least version
+    /// at which what they know and what they did differ.
     pub fn close<R: Wait>(
         self,
         rt: &R,
@@ -40,7 +42,7 @@ impl<J: HallName> Hall<J> {
         ensures settled { IfOk result (λ s. IsSettled J.loaded desks.items s.history.items) }
         ensures loaded { IfOk result (λ s. s.loaded ≡ length J.loaded) }
         ensures accepted { IfOk result (λ s. s.accepted ≡ length (made J.loaded s.history.items)) }
-        ensures fault { IfErr result (λ f. IsCloseFault desks.items f.2) }
+        ensures fault { IfErr result (λ f. IsCloseFault J.loaded desks.items f.2) }
         ensures back { IfErr result (λ f. (f.0 ≡ self) × (f.1.items ≡ desks.items)) }
     {
         let mut desks = desks;
@@ -55,7 +57,7 @@ impl<J: HallName> Hall<J> {
         ensures settled { IfOk result (λ s. IsSettled J.loaded desks.old.items s.history.items) }
         ensures loaded { IfOk result (λ s. s.loaded ≡ length J.loaded) }
         ensures accepted { IfOk result (λ s. s.accepted ≡ length (made J.loaded s.history.items)) }
-        ensures fault { IfErr result (IsCloseFault desks.old.items) }
+        ensures fault { IfErr result (IsCloseFault J.loaded desks.old.items) }
     {
         let mut kept = self.kept.lock(rt);
         kept.settle(self.alloc, &self.row, self.loaded, desks)
@@ -77,12 +79,14 @@ impl<J: HallName> Kept<J> {
         ensures settled { IfOk result (λ s. IsSettled J.loaded desks.old.items s.history.items) }
         ensures loaded { IfOk result (λ s. s.loaded ≡ length J.loaded) }
         ensures accepted { IfOk result (λ s. s.accepted ≡ length (made J.loaded s.history.items)) }
-        ensures fault { IfErr result (IsCloseFault desks.old.items) }
+        ensures fault { IfErr result (IsCloseFault J.loaded desks.old.items) }
     {
         let given = self.given();
         let history = self.gathered(alloc, row, desks)?;
         let new = &history[loaded as usize..];
-        check(desks, given, new, loaded + 1)?;
+        if let Err(fault) = check(desks, given, new, loaded + 1) {
+            return Err(fault);
+        }
         let accepted = new.len() as u32;
         Ok(Settled {
             history,
@@ -91,7 +95,7 @@ impl<J: HallName> Kept<J> {
         })
     }
 
-    // The longest history that a desk or the hall knows.
+    // The longest of what was loaded and of what each desk knows.
     fn gathered(
         &mut self,
         alloc: Global,
@@ -100,23 +104,22 @@ impl<J: HallName> Kept<J> {
     ) -> Result<Vec<Entry>, CloseFault>
         requires row { row.now ≡ J.cells }
         ensures same { desks.new.items ≡ desks.old.items }
-        ensures begun { IfOk result (λ h. IsPrefix J.loaded h.items) }
-        ensures known { IfOk result (λ h. All (λ d. IsPrefix d.state.seen h.items) desks.old.items) }
+        ensures gathered { IfOk result (λ h. IsGathered J.loaded desks.old.items h.items) }
         ensures limit { IfOk result (λ h. length h.items ≤ 65536) }
         ensures fault { IfErr result (λ f. f ≡ CloseFault.OutOfMemory) }
     {
-        gather(desks, &mut self.known);
-        Ok(entries_of(alloc, row, &mut self.known)?)
+        let mut whole = self.start.again(alloc)?;
+        gather(desks, &mut whole);
+        Ok(entries_known(alloc, row, &mut whole)?)
     }
 }
 
-// The replica comes to know all that any desk knows.
-fn gather<J: HallName>(desks: &mut Vec<Desk<J>>, whole: &mut Replica)
+// The pass comes to know all that any desk knows.
+fn gather<J: HallName>(desks: &mut Vec<Desk<J>>, whole: &mut Pass)
     requires { whole.old.row ≡ J.cells }
     ensures same { desks.new.items ≡ desks.old.items }
     ensures row { whole.new.row ≡ whole.old.row }
-    ensures longer { IsPrefix whole.old.list whole.new.list }
-    ensures known { All (λ d. IsPrefix d.state.seen whole.new.list) desks.old.items }
+    ensures gathered { IsGathered whole.old.list desks.old.items whole.new.list }
 {
     for i in 0..desks.len() {
         let desk = &mut desks[i];
@@ -126,17 +129,17 @@ fn gather<J: HallName>(desks: &mut Vec<Desk<J>>, whole: &mut Replica)
 
 // Whether the desks made these entries, of which the first makes version `first`.
 fn check<J: HallName>(
-    desks: &Vec<Desk<J>>,
+    desks: &[Desk<J>],
     given: u32,
     new: &[Entry],
     first: u32,
 ) -> Result<(), CloseFault>
     requires few { length new.now + first ≤ 65537 }
     requires given { given ≤ 64 }
-    ensures calls { OnOk result (All (λ d. d.state.calls ≡ versions_by d.state.number first new.now) desks.now.items) }
-    ensures apart { OnOk result (AllPairs (λ c d. c.state.number ≢ d.state.number) desks.now.items) }
-    ensures named { OnOk result (All (λ e. HasNumber desks.now.items e.desk) new.now) }
-    ensures fault { IfErr result (IsCloseFault desks.now.items) }
+    ensures calls { OnOk result (All (λ d. d.state.calls ≡ versions_by d.state.number first new.now) desks.now) }
+    ensures apart { OnOk result (AllPairs (λ c d. c.state.number ≢ d.state.number) desks.now) }
+    ensures named { OnOk result (All (λ e. HasNumber desks.now e.desk) new.now) }
+    ensures fault { IfErr result (IsCheckFault desks.now first new.now) }
 {
     if let Some(number) = same_number(desks) {
         return Err(CloseFault::SameNumber(number));
@@ -144,42 +147,50 @@ fn check<J: HallName>(
     if let Some(number) = missing(desks, given) {
         return Err(CloseFault::Missing(number));
     }
-    if let Some(version) = unnamed(desks, new, first) {
-        return Err(CloseFault::Mismatch(version));
-    }
     if let Some(version) = mismatch(desks, new, first) {
         return Err(CloseFault::Mismatch(version));
     }
     Ok(())
 }
 
-// A number that two desks have.
-fn same_number<J: HallName>(desks: &Vec<Desk<J>>) -> Option<u32>
-    ensures none { IfNone result (AllPairs (λ a b. a.state.number ≢ b.state.number) desks.now.items) }
-    ensures some { IfSome result (HaveSameNumber desks.now.items) }
+// The least number that two desks have.
+fn same_number<J: HallName>(desks: &[Desk<J>]) -> Option<u32>
+    ensures { IsLeast (HaveSameNumber desks.now) result }
 {
+    let mut least = None;
     for j in 0..desks.len() {
-        let later = desks[j].number();
-        for i in 0..j {
-            if desks[i].number() == later {
-                return Some(later);
-            }
+        let number = desks[j].number();
+        if has_number(&desks[..j], number) {
+            least = lesser(least, Some(number));
         }
     }
-    None
+    least
 }
 
 // Whether some desk has the number.
-fn has_number<J: HallName>(desks: &Vec<Desk<J>>, number: u32) -> bool
-    ensures { IsTrue result ↔ HasNumber desks.now.items number }
+fn has_number<J: HallName>(desks: &[Desk<J>], number: u32) -> bool
+    ensures { IsTrue result ↔ HasNumber desks.now number }
 {
     desks.iter().any(|d| d.number() == number)
 }
 
+// The lesser of two numbers.
+fn lesser(a: Option<u32>, b: Option<u32>) -> Option<u32>
+    ensures { result ≡ lesser_of a b }
+{
+    match a {
+        None => b,
+        Some(v) => match b {
+            None => Some(v),
+            Some(w) => Some(if v < w { v } else { w }),
+        },
+    }
+}
+
 // The least number up to `given` that no desk has.
-fn missing<J: HallName>(desks: &Vec<Desk<J>>, given: u32) -> Option<u32>
+fn missing<J: HallName>(desks: &[Desk<J>], given: u32) -> Option<u32>
     requires { given ≤ 64 }
-    ensures some { IfSome result (IsMissing desks.now.items) }
+    ensures some { IfSome result (IsMissing desks.now) }
 {
     for n in 0..given {
         if !has_number(desks, n + 1) {
@@ -189,10 +200,18 @@ fn missing<J: HallName>(desks: &Vec<Desk<J>>, given: u32) -> Option<u32>
     None
 }
 
-// The least version whose entry bears the number of no desk.
-fn unnamed<J: HallName>(desks: &Vec<Desk<J>>, new: &[Entry], first: u32) -> Option<u32>
+// The least version at odds.
+fn mismatch<J: HallName>(desks: &[Desk<J>], new: &[Entry], first: u32) -> Option<u32>
     requires { length new.now + first ≤ 65537 }
-    ensures none { IfNone result (All (λ e. HasNumber desks.now.items e.desk) new.now) }
+    ensures { IsLeast (IsAtOdds desks.now first new.now) result }
+{
+    lesser(differing(desks, new, first), unnamed(desks, new, first))
+}
+
+// The least version whose entry bears the number of no desk.
+fn unnamed<J: HallName>(desks: &[Desk<J>], new: &[Entry], first: u32) -> Option<u32>
+    requires { length new.now + first ≤ 65537 }
+    ensures { IsLeast (IsUnnamed desks.now first new.now) result }
 {
     for (i, entry) in new.iter().enumerate() {
         if !has_number(desks, entry.desk()) {
@@ -202,44 +221,44 @@ fn unnamed<J: HallName>(desks: &Vec<Desk<J>>, new: &[Entry], first: u32) -> Opti
     None
 }
 
-// A version at which the calls of some desk and the entries differ.
-fn mismatch<J: HallName>(desks: &Vec<Desk<J>>, new: &[Entry], first: u32) -> Option<u32>
+// The least of the versions at which the calls of a desk and the entries differ first.
+fn differing<J: HallName>(desks: &[Desk<J>], new: &[Entry], first: u32) -> Option<u32>
     requires { length new.now + first ≤ 65537 }
-    ensures none { IfNone result (All (λ d. d.state.calls ≡ versions_by d.state.number first new.now) desks.now.items) }
+    ensures { IsLeast (Differs desks.now first new.now) result }
 {
+    let mut least = None;
     for desk in desks {
-        if let Some(version) = desk.differs(new, first) {
-            return Some(version);
-        }
+        least = lesser(least, desk.differs(new, first));
     }
-    None
+    least
 }
 
 impl<J: HallName> Desk<J> {
-    // The replica comes to know what the desk knows.
-    fn tell(&mut self, whole: &mut Replica)
+    // The pass comes to know what the desk knows.
+    fn tell(&mut self, whole: &mut Pass)
         requires { whole.old.row ≡ J.cells }
         ensures same { self.new ≡ self.old }
         ensures row { whole.new.row ≡ whole.old.row }
+        ensures longer { (whole.new.list ≡ whole.old.list) ⊎ (whole.new.list ≡ self.old.state.seen) }
         ensures mine { IsPrefix self.old.state.seen whole.new.list }
         ensures theirs { IsPrefix whole.old.list whole.new.list }
     {
-        whole.learn(&mut self.replica);
+        self.replica.tell(whole);
     }
 
-    // The least version at which its calls and the entries differ.
+    // The first version at which its calls and the entries differ.
     fn differs(&self, new: &[Entry], first: u32) -> Option<u32>
         requires { length new.now + first ≤ 65537 }
-        ensures none { IfNone result (self.now.state.calls ≡ versions_by self.now.state.number first new.now) }
+        ensures { result ≡ first_apart self.now.state.calls (versions_by self.now.state.number first new.now) }
     {
         differs(self.number, &self.calls, new, first)
     }
 }
 
-// The least version at which the calls of the desk of this number and the entries differ.
-fn differs(number: u32, calls: &Vec<u32>, new: &[Entry], first: u32) -> Option<u32>
+// The first version at which the calls of the desk of this number and the entries differ.
+fn differs(number: u32, calls: &[u32], new: &[Entry], first: u32) -> Option<u32>
     requires { length new.now + first ≤ 65537 }
-    ensures none { IfNone result (calls.now.items ≡ versions_by number first new.now) }
+    ensures { result ≡ first_apart calls.now (versions_by number first new.now) }
 {
     let mut next: usize = 0;
     for (i, entry) in new.iter().enumerate() {
@@ -249,7 +268,7 @@ fn differs(number: u32, calls: &Vec<u32>, new: &[Entry], first: u32) -> Option<u
                 return Some(version);
             }
             if calls[next] != version {
-                return Some(version);
+                return Some(calls[next].min(version));
             }
             next += 1;
         }

@@ -40,7 +40,7 @@ impl<J: HallName> Model for Desk<J> {
 
     ghost view = { λ d. record {
       state = state_of d.number d.player d.replica d.calls.items (map string_bytes d.told.items);
-      at = d.replica.at
+      at = d.replica.at;
     } };
 
     ghost invariant = { λ d. IsHeld J.cells J.loaded d.number d.player d.replica };

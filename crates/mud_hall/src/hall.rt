@@ -14,7 +14,7 @@ use crate::name::HallName;
 use crate::reply::Reply;
 use mud_chron::{ChronFault, Entry, replay};
 use mud_guide::Answer;
-use mud_row::{FillFault, Replica, Row};
+use mud_row::{FillFault, Pass, Replica, Row};
 use std::alloc::{AllocError, Global};
 use std::marker::Model;
 use std::sync::{Mutex, Wait};
@@ -25,6 +25,7 @@ use std::sync::{Mutex, Wait};
 pub struct NewHall {
     row: Row,
     known: Replica,
+    start: Pass,
     alloc: Global,
 }
 
@@ -41,7 +42,8 @@ impl Model for NewHall {
 
     ghost view = { λ h. record { cells = h.row; loaded = h.known.list } };
 
-    ghost invariant = { λ h. h.known.row ≡ h.row };
+    ghost invariant = { λ h.
+        (h.known.row ≡ h.row) × (h.start.row ≡ h.row) × (h.start.list ≡ h.known.list) };
 }
 
 impl NewHall {
@@ -55,7 +57,13 @@ impl NewHall {
     {
         let row = Row::new(alloc, capacity)?;
         let known = Replica::new(alloc, &row)?;
-        Ok(NewHall { row, known, alloc })
+        let start = row.pass(alloc)?;
+        Ok(NewHall {
+            row,
+            known,
+            start,
+            alloc,
+        })
     }
 
     /// A hall that goes on from these entries. Tried in this order: `BadChange`, the first entry
@@ -73,17 +81,22 @@ impl NewHall {
             return Err(fault);
         }
         let row = Row::new(alloc, capacity)?;
-        let mut pass = row.pass(alloc)?;
+        let mut start = row.pass(alloc)?;
         let mut known = Replica::new(alloc, &row)?;
-        match row.fill(alloc, &mut pass, entries) {
+        match row.fill(alloc, &mut start, entries) {
             Ok(()) => {}
             Err(FillFault::OutOfMemory) => return Err(LoadFault::OutOfMemory),
             Err(FillFault::HistoryFull) => unreachable!(),
             Err(FillFault::Unpublished) => return Err(LoadFault::NotStored),
         }
-        known.hear(&mut pass);
+        known.hear(&mut start);
         known.catch_up(&row)?;
-        Ok(NewHall { row, known, alloc })
+        Ok(NewHall {
+            row,
+            known,
+            start,
+            alloc,
+        })
     }
 
     /// The hall by its name, from which all types of its desks take it.
@@ -92,11 +105,16 @@ impl NewHall {
         requires loaded { self.loaded ≡ J.loaded }
         ensures { result ≡ length J.cells }
     {
-        let NewHall { row, known, alloc } = self;
+        let NewHall {
+            row,
+            known,
+            start,
+            alloc,
+        } = self;
         let loaded = known.known();
         Hall {
             row,
-            kept: Mutex::new(Kept::new(known)),
+            kept: Mutex::new(Kept::new(known, start)),
             alloc,
             loaded,
         }

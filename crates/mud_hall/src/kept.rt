@@ -7,19 +7,20 @@ ghost use Rattle.mud_hall.specs.Desk.{IsNew};
 use crate::desk::Desk;
 use crate::fault::Fault;
 use crate::name::HallName;
-use mud_row::{Replica, Row};
+use mud_row::{Pass, Replica, Row};
 use std::alloc::Global;
 use std::marker::{Model, PhantomData};
 
 /// The most desks of a hall.
 pub const MOST_DESKS: u32 = 64;
 
-/// How many desks were given, and what the hall knows, which begins with what was loaded. A
-/// contract sees the number.
+/// How many desks were given, what the hall knows, which begins with what was loaded, and what was
+/// loaded alone. A contract sees the number.
 #[derive(Drop)]
 pub struct Kept<J: HallName> {
     given: u32,
     pub(crate) known: Replica,
+    pub(crate) start: Pass,
     of: PhantomData<J>,
 }
 
@@ -31,19 +32,22 @@ impl<J: HallName> Model for Kept<J> {
 
     ghost view = { λ k. k.given };
 
-    ghost invariant = { λ k. IsKept J.cells J.loaded k.given k.known };
+    ghost invariant = { λ k. IsKept J.cells J.loaded k.given k.known k.start };
 }
 
 impl<J: HallName> Kept<J> {
     // At first no desk was given.
-    pub(crate) fn new(known: Replica) -> Kept<J>
+    pub(crate) fn new(known: Replica, start: Pass) -> Kept<J>
         requires row { known.row ≡ J.cells }
         requires loaded { IsPrefix J.loaded known.list }
+        requires start_row { start.row ≡ J.cells }
+        requires start_list { start.list ≡ J.loaded }
         ensures { result ≡ 0 }
     {
         Kept {
             given: 0,
             known,
+            start,
             of: PhantomData,
         }
     }

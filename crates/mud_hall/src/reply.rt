@@ -7,9 +7,15 @@ use mud_rules::Refusal;
 #[derive(Drop)]
 pub enum Reply {
     /// The change is entry `version` of the history.
-    Accepted { version: u32, text: String },
+    Accepted {
+        version: u32,
+        text: String,
+    },
     /// Who typed the line is another player from now on.
-    Became { version: u32, text: String },
+    Became {
+        version: u32,
+        text: String,
+    },
     /// The line was refused.
     Refused {
         version: u32,
@@ -17,5 +23,7 @@ pub enum Reply {
         text: String,
     },
     /// The line is a question: `Desk::ask` answers it.
-    Question { version: u32 },
+    Question {
+        version: u32,
+    },
 }

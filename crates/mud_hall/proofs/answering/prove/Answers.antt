@@ -8,8 +8,11 @@ use Rattle.mud_hall.proofs.answering.prove.Goals as goal
 pub returns-clause-proven : goal.returns-clause-proven
 returns-clause-proven c =
     let proves : Option Certificate → Type 0 =
-        λ o. IsSomeAnd o (λ k. string_bytes c.in_ok-text-in-Some.text ++ codes "\n" ≡ codes "proof\n" ++ cert_text k) in
-    (c.in_ok-answer.answer, c.in_ok-answer.ensures.guided, record {
-      text = subst proves (sym c.in-Some.is) c.in_ok-text-in-Some.ensures;
-      cert_is = refl;
-    })
+    λ o. IsSomeAnd o (λ k. string_bytes c.in_ok-text-in-Some.text ++ codes "\n" ≡ codes "proof\n" ++ cert_text k) in (
+      c.in_ok-answer.answer,
+      c.in_ok-answer.ensures.guided,
+      record {
+        text = subst proves (sym c.in-Some.is) c.in_ok-text-in-Some.ensures;
+        cert_is = refl;
+      },
+    )

@@ -10,9 +10,9 @@ returns-in_ok-guide-in-Journey-clause-shown g c =
     let w = c.world-world.result.now in
     let v = c.seen-version.result in
     guided-shown s.seen s.player d.player c.args.query.now c.in-Journey.journey w v c.in_ok-guide-in-Journey.field-0
-        (at-desk d.number d.player d.replica d.calls.items (map string_bytes d.told.items) c.args.self.now w v
-            c.self.view_is c.requires.all c.world-world.ensures c.seen-version.ensures.seen)
-        c.in-Journey.is c.in_ok-guide-in-Journey.ensures.guided
+    (at-desk d.number d.player d.replica d.calls.items (map string_bytes d.told.items) c.args.self.now w v
+    c.self.view_is c.requires.all c.world-world.ensures c.seen-version.ensures.seen)
+    c.in-Journey.is c.in_ok-guide-in-Journey.ensures.guided
 
 pub returns-in-Proof-clause-shown : goal.returns-in-Proof-clause-shown
 returns-in-Proof-clause-shown g c =
@@ -21,6 +21,6 @@ returns-in-Proof-clause-shown g c =
     let w = c.world-world.result.now in
     let v = c.seen-version.result in
     proven-shown s.seen s.player d.player c.args.query.now c.in-Proof.journey w v c.prove.result
-        (at-desk d.number d.player d.replica d.calls.items (map string_bytes d.told.items) c.args.self.now w v
-            c.self.view_is c.requires.all c.world-world.ensures c.seen-version.ensures.seen)
-        c.in-Proof.is c.prove.ensures.proven
+    (at-desk d.number d.player d.replica d.calls.items (map string_bytes d.told.items) c.args.self.now w v
+    c.self.view_is c.requires.all c.world-world.ensures c.seen-version.ensures.seen)
+    c.in-Proof.is c.prove.ensures.proven

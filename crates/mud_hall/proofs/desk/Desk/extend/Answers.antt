@@ -12,5 +12,5 @@ invariant_of-self g c =
 pub returns-clause-state : goal.returns-clause-state
 returns-clause-state g c =
     grows c.self.inside.replica c.extend.new.self c.args.self.now.state c.self.inside.number c.self.inside.player
-        c.self.inside.calls.items (map string_bytes c.self.inside.told.items)
+    c.self.inside.calls.items (map string_bytes c.self.inside.told.items)
     c.extend.ensures.longer c.extend.ensures.still.1 c.extend.ensures.within (ap (λ v. v.state) c.self.view_is)

@@ -13,21 +13,21 @@ pub new-requires : goal.new-requires
 new-requires g c =
     let list = c.self.inside.replica.list in
     let legal : refusal (world_after list) c.args.change ≡ None =
-        subst (λ (v : View). refusal (world_after v.state.seen) c.args.change ≡ None)
-        (sym c.self.view_is) c.requires.lawful.0 in
+    subst (λ (v : View). refusal (world_after v.state.seen) c.args.change ≡ None)
+    (sym c.self.view_is) c.requires.lawful.0 in
     legal_is_spellable (world_after list) c.self.inside.number c.args.change
-        (world-sound list) legal c.self.invariant.from c.self.invariant.to
+    (world-sound list) legal c.self.invariant.from c.self.invariant.to
 
 pub invariant_of-self-in-Ok : goal.invariant_of-self-in-Ok
 invariant_of-self-in-Ok g c =
     let was = c.self.inside.replica in
     let e = c.args.change in
     let legal : refusal (world_after was.list) e ≡ None = subst
-        (λ (v : View). refusal (world_after v.state.seen) e ≡ None) (sym c.self.view_is) c.requires.lawful.0 in
+    (λ (v : View). refusal (world_after v.state.seen) e ≡ None) (sym c.self.view_is) c.requires.lawful.0 in
     let actor : IsActor (world_after was.list) c.self.inside.player e =
-        subst (λ (v : View). IsActor (world_after v.state.seen) v.state.player e)
-        (sym c.self.view_is) c.requires.lawful.1 in
+    subst (λ (v : View). IsActor (world_after v.state.seen) v.state.player e)
+    (sym c.self.view_is) c.requires.lawful.1 in
     held-stored g.J.HallName.cells g.J.HallName.loaded c.self.inside.number c.self.inside.player was c.publish.new.self
-        e c.self.invariant
+    e c.self.invariant
     (c.in-Ok.ensures.published.0 ∙ ap (λ (x : Accepted). was.list ++ x ∷ [])
-        (c.in_ok-entry.ensures.ok ∙ c.new.ensures)) c.in-Ok.ensures.still.0 legal actor
+    (c.in_ok-entry.ensures.ok ∙ c.new.ensures)) c.in-Ok.ensures.still.0 legal actor

@@ -10,12 +10,12 @@ returns-in_ok-guide-in-Journey-clause-shown c =
     let s = c.args.self.now.state in
     let v = c.version-version.result in
     let at : IsAt s.seen s.player d.world v (Some d.player) = record {
-          world = c.self.invariant.world ∙ ap (λ (x : Alone). world_after x.state.seen) c.self.view_is;
-          version = c.version-version.ensures.version;
-          seat = ap (λ (x : Alone). x.state.player) c.self.view_is;
-        } in
+      world = c.self.invariant.world ∙ ap (λ (x : Alone). world_after x.state.seen) c.self.view_is;
+      version = c.version-version.ensures.version;
+      seat = ap (λ (x : Alone). x.state.player) c.self.view_is;
+    } in
     guided-shown s.seen s.player (Some d.player) c.args.query.now c.in-Journey.journey d.world v
-        c.in_ok-guide-in-Journey.field-0 at c.in-Journey.is c.in_ok-guide-in-Journey.ensures.guided
+    c.in_ok-guide-in-Journey.field-0 at c.in-Journey.is c.in_ok-guide-in-Journey.ensures.guided
 
 pub returns-in-Proof-clause-shown : goal.returns-in-Proof-clause-shown
 returns-in-Proof-clause-shown c =
@@ -23,9 +23,9 @@ returns-in-Proof-clause-shown c =
     let s = c.args.self.now.state in
     let v = c.version-version.result in
     let at : IsAt s.seen s.player d.world v (Some d.player) = record {
-          world = c.self.invariant.world ∙ ap (λ (x : Alone). world_after x.state.seen) c.self.view_is;
-          version = c.version-version.ensures.version;
-          seat = ap (λ (x : Alone). x.state.player) c.self.view_is;
-        } in
+      world = c.self.invariant.world ∙ ap (λ (x : Alone). world_after x.state.seen) c.self.view_is;
+      version = c.version-version.ensures.version;
+      seat = ap (λ (x : Alone). x.state.player) c.self.view_is;
+    } in
     proven-shown s.seen s.player (Some d.player) c.args.query.now c.in-Proof.journey d.world v c.prove.result at
-        c.in-Proof.is c.prove.ensures.proven
+    c.in-Proof.is c.prove.ensures.proven

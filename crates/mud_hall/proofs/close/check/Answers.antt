@@ -1,0 +1,15 @@
+use Rattle.std.proofs.Common.{inl, inr}
+use Rattle.mud_hall.proofs.Apart.{all_same}
+use Rattle.mud_hall.proofs.Checks.{all_apart, all_named}
+use Rattle.mud_hall.proofs.close.check.Goals as goal
+
+pub returns-clause-calls : goal.returns-clause-calls
+returns-clause-calls g c =
+    all_same c.args.desks.now c.args.first c.args.new.now (λ v h. c.in_default-mismatch.ensures v (inl h))
+
+pub returns-clause-apart : goal.returns-clause-apart
+returns-clause-apart g c = all_apart c.args.desks.now c.in_default.ensures
+
+pub returns-clause-named : goal.returns-clause-named
+returns-clause-named g c =
+    all_named c.args.desks.now c.args.first c.args.new.now (λ v h. c.in_default-mismatch.ensures v (inr h))

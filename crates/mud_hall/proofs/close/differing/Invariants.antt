@@ -1,0 +1,6 @@
+use Rattle.std.proofs.Common.{take}
+use Rattle.mud_hall.specs.Checking.{IsLeast, Differs}
+use Rattle.mud_hall.proofs.close.differing.Given as goal
+
+abbrev pub invariant-loop-desk : goal.invariant-loop-desk
+invariant-loop-desk g l = IsLeast (Differs (take l.desk-index l.desks) l.first l.new) l.least

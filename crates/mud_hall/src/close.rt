@@ -42,6 +42,7 @@ impl<J: HallName> Hall<J> {
         ensures settled { IfOk result (λ s. IsSettled J.loaded desks.items s.history.items) }
         ensures loaded { IfOk result (λ s. s.loaded ≡ length J.loaded) }
         ensures accepted { IfOk result (λ s. s.accepted ≡ length (made J.loaded s.history.items)) }
+        ensures limit { IfOk result (λ s. length s.history.items ≤ 65536) }
         ensures fault { IfErr result (λ f. IsCloseFault J.loaded desks.items f.2) }
         ensures back { IfErr result (λ f. (f.0 ≡ self) × (f.1.items ≡ desks.items)) }
     {
@@ -57,6 +58,7 @@ impl<J: HallName> Hall<J> {
         ensures settled { IfOk result (λ s. IsSettled J.loaded desks.old.items s.history.items) }
         ensures loaded { IfOk result (λ s. s.loaded ≡ length J.loaded) }
         ensures accepted { IfOk result (λ s. s.accepted ≡ length (made J.loaded s.history.items)) }
+        ensures limit { IfOk result (λ s. length s.history.items ≤ 65536) }
         ensures fault { IfErr result (IsCloseFault J.loaded desks.old.items) }
     {
         let mut kept = self.kept.lock(rt);
@@ -79,6 +81,7 @@ impl<J: HallName> Kept<J> {
         ensures settled { IfOk result (λ s. IsSettled J.loaded desks.old.items s.history.items) }
         ensures loaded { IfOk result (λ s. s.loaded ≡ length J.loaded) }
         ensures accepted { IfOk result (λ s. s.accepted ≡ length (made J.loaded s.history.items)) }
+        ensures limit { IfOk result (λ s. length s.history.items ≤ 65536) }
         ensures fault { IfErr result (IsCloseFault J.loaded desks.old.items) }
     {
         let given = self.given();

@@ -76,13 +76,13 @@ pub enum CloseFault {
     /// Memory ran out.
     #[error("out of memory")]
     OutOfMemory,
-    /// Two desks that are handed in have this number.
+    /// Two desks that are handed in have this number, the least such.
     #[error("two desks have the number {0}")]
     SameNumber(u32),
-    /// The desk of this number was given and is not handed in.
+    /// The desk of this number was given and is not handed in; it is the least such number.
     #[error("desk {0} is missing")]
     Missing(u32),
-    /// The entry of this version and the calls of the desks differ.
+    /// The entry of this version and the calls of the desks differ, and so they do at no lesser one.
     #[error("version {0} is nobody's call")]
     Mismatch(u32),
 }

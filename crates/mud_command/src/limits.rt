@@ -88,7 +88,8 @@ fn workers<'a>(alloc: Global) -> Arg<'a> {
         .help("How many workers answer a question, 0 to 8")
 }
 
-fn capacity<'a>(alloc: Global) -> Arg<'a> {
+// How many changes a history holds.
+pub(crate) fn capacity<'a>(alloc: Global) -> Arg<'a> {
     number(alloc, "capacity", 1, 65_536)
         .default_value("65536")
         .help("How many changes the history holds, 1 to 65536")

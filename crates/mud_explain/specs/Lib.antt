@@ -4,3 +4,5 @@ pub mod Units
 pub mod Line
 pub mod Key
 pub mod Explained
+pub mod Told
+pub mod Played

@@ -5,6 +5,7 @@ ghost use Rattle.std.specs.Io.KnownBytes.{IsAtEnd, Keeps};
 ghost use Rattle.mud_explain.specs.Explained.{Explains, Writes, WritesFront};
 
 use crate::lines::explained_lines;
+use crate::opened::Unopened;
 use crate::sink::Sink;
 use crate::source::Source;
 use crate::units::explained_units;
@@ -25,10 +26,16 @@ pub enum ExplainFault {
     /// The lines can't be written.
     #[error("write fault")]
     Write,
+    /// There is no hall to play in.
+    #[error("cannot load: {0}")]
+    Unopened(Unopened),
 }
 
 // All that the source has left.
-fn input_of<R: Read>(alloc: Global, source: &mut Source<R>) -> Result<Vec<u8>, ExplainFault>
+pub(crate) fn input_of<R: Read>(
+    alloc: Global,
+    source: &mut Source<R>,
+) -> Result<Vec<u8>, ExplainFault>
     ensures bytes { IfOk result (λ input. IfSome (R.remaining source.old.inner) (λ bytes. input.items ≡ bytes)) }
     ensures end { OnOk result (IsAtEnd (R.remaining source.new.inner)) }
     ensures read { result ≡ Err ExplainFault.Read ↔ source.new.has_failed ≡ true }

@@ -1,50 +1,71 @@
 //! `mud_explain`: tells how a text is read, a line for each thing read.
 //!
 //! `mud_explain units` takes the raw bytes of a Telnet stream; `words`, `parse`, `names` and `key` take lines. A
-//! builder who is told `That key is not understood.` learns from `mud_explain key` where. docs/EXPLAIN.md has the
-//! answers.
+//! builder who is told `That key is not understood.` learns from `mud_explain key` where. `mud_explain hall` plays
+//! lines that are steps of the desks of one hall. docs/EXPLAIN.md has the answers.
 #![tactic(auto)]
 
 mod explain;
 mod grouped;
+mod hall;
 mod lines;
 mod listed;
+mod opened;
+mod play;
 mod sink;
 mod source;
+mod step;
+mod told;
 mod units;
 
 use crate::explain::{ExplainFault, explain};
+use crate::hall::explain_hall;
 use crate::sink::Sink;
 use crate::source::Source;
-use mud_command::{CommandFault, Subject, show, subject_of, words_of};
-use std::io;
+use mud_command::{CommandFault, Task, show, task_of, words_of};
+use std::io::{self, Eprint};
 use std::process::ExitCode;
+use std::rt::Runtime;
+use std::sync::Wait;
 
 fn main(rt: HostRuntime) -> ExitCode {
-    let subject = match subject_given(&rt) {
-        Ok(subject) => subject,
-        Err(CommandFault::OutOfMemory) => return stopped(&rt, ExplainFault::OutOfMemory),
-        Err(CommandFault::Told(text)) => return ExitCode::from(show(&rt, text.as_str())),
-    };
-    let mut source = Source::new(rt.reader());
-    let mut sink = Sink::new(io::writer(&rt));
-    match explain(rt.alloc(), subject, &mut source, &mut sink) {
-        Ok(()) => ExitCode::SUCCESS,
-        Err(fault) => stopped(&rt, fault),
+    match words_of(&rt) {
+        Ok(words) => run(&rt, words.as_slice()),
+        Err(fault) => unasked(&rt, fault),
     }
 }
 
-// What the words of the command line ask for.
-fn subject_given(rt: &HostRuntime) -> Result<Subject, CommandFault> {
-    let words = words_of(rt)?;
-    subject_of(rt.alloc(), words.as_slice())
+// Does what the words ask for.
+fn run<R: Runtime + AllocGlobal + Wait>(rt: &R, words: &[String]) -> ExitCode {
+    let task = match task_of(rt.alloc(), words) {
+        Ok(task) => task,
+        Err(fault) => return unasked(rt, fault),
+    };
+    let mut source = Source::new(rt.reader());
+    let mut sink = Sink::new(io::writer(rt));
+    let ended = match task {
+        Task::Text(subject) => explain(rt.alloc(), subject, &mut source, &mut sink),
+        Task::Hall(opening) => explain_hall(rt, opening, &mut source, &mut sink),
+    };
+    match ended {
+        Ok(()) => ExitCode::SUCCESS,
+        Err(fault) => stopped(rt, fault),
+    }
+}
+
+// Says why the words ask for nothing, and answers the status.
+fn unasked<R: Eprint>(rt: &R, fault: CommandFault) -> ExitCode {
+    match fault {
+        CommandFault::OutOfMemory => stopped(rt, ExplainFault::OutOfMemory),
+        CommandFault::Told(text) => ExitCode::from(show(rt, text.as_str())),
+    }
 }
 
 // Says why the program stopped, where that can be said, and answers its status.
-fn stopped(rt: &HostRuntime, fault: ExplainFault) -> ExitCode {
+fn stopped<R: Eprint>(rt: &R, fault: ExplainFault) -> ExitCode {
     let _ = eprintln!(rt; "mud_explain: {fault}");
     ExitCode::from(match fault {
         ExplainFault::OutOfMemory => 4,
-        ExplainFault::Read | ExplainFault::Write => 3,
+        ExplainFault::Read | ExplainFault::Write | ExplainFault::Unopened(_) => 3,
     })
 }

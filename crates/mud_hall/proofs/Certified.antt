@@ -15,6 +15,7 @@ use Rattle.mud_cert.specs.Text.{cert_text}
 use Rattle.mud_cert.specs.TextLaws.{HasNoReturn}
 use Rattle.mud_cert.specs.Valid.{IsValid, Optimal}
 use Rattle.mud_cert.specs.Laws.{ValidIsOptimal}
+use Rattle.mud_cert.specs.Finding.{IsHistory, without_returns}
 use Rattle.mud_cert.specs.FindingLaws.{DropsNothing}
 use Rattle.mud_hall.specs.Told.{world_after}
 use Rattle.mud_hall.specs.Steps.{Hall}
@@ -53,7 +54,7 @@ accepted below f later c kept on good =
     record {
       written = (below.again later.history later.history kept.each (omega (arith, kept.few, kept.fits))).0;
       accepted = λ text spells.
-          let history = record {
+          let history : IsHistory (without_returns text) later.history = record {
             spells = subst (λ (t : List ℕ). SpellsHistory t later.history)
                 (sym (below.drops_nothing text
                 (All-from_recursion (λ b. b ≢ 13) text (below.no_returns text later.history spells)))) spells;

@@ -103,7 +103,6 @@ impl NewHall {
     pub fn named<J: HallName>(self) -> Hall<J>
         requires cells { self.cells ≡ J.cells }
         requires loaded { self.loaded ≡ J.loaded }
-        ensures { result ≡ length J.cells }
     {
         let NewHall {
             row,
@@ -113,8 +112,8 @@ impl NewHall {
         } = self;
         let loaded = known.known();
         Hall {
-            row,
             kept: Mutex::new(Kept::new(known, start)),
+            row,
             alloc,
             loaded,
         }
@@ -139,30 +138,23 @@ fn is_loadable(alloc: Global, capacity: u32, entries: &[Entry]) -> Result<(), Lo
     Ok(())
 }
 
-/// One history, and the desks of those who make it. A contract sees how many entries the history can
-/// have. The lock keeps how many desks were given and what the hall itself knows, nothing else.
+/// One history, and the desks of those who make it. The lock keeps how many desks were given and what
+/// the hall itself knows, nothing else. How many entries the history can have, and which were loaded,
+/// its type says. It has no model: so the prover finds by itself that threads may share a hall.
 #[derive(Drop)]
 pub struct Hall<J: HallName> {
-    pub(crate) row: Row,
     pub(crate) kept: Mutex<Kept<J>>,
+    pub(crate) row: Row,
     pub(crate) alloc: Global,
     pub(crate) loaded: u32,
-}
-
-impl<J: HallName> Model for Hall<J> {
-    ghost use Rattle.std.specs.Prelude.{◌≡◌, ℕ, length};
-
-    ghost Value = { ℕ };
-
-    ghost view = { λ h. length h.row };
-
-    ghost invariant = { λ h. (h.row ≡ J.cells) × (h.loaded ≡ length J.loaded) };
+    ghost cells: { row ≡ J.cells },
+    ghost begun: { loaded ≡ length J.loaded },
 }
 
 impl<J: HallName> Hall<J> {
     /// How many entries the history can have, 1 to 65,536.
     pub fn capacity(&self) -> u32
-        ensures capacity { result ≡ self.now }
+        ensures capacity { result ≡ length J.cells }
         ensures limit { result ≤ 65536 }
     {
         self.row.capacity()
@@ -189,7 +181,7 @@ impl<J: HallName> Hall<J> {
     /// is added to the history: `HistoryFull` where it takes no more, `Unpublished` where it did not
     /// take the entry. After a fault the history has no entry of this call.
     pub fn act<R: Wait>(&self, rt: &R, desk: &mut Desk<J>, line: &str) -> Result<Reply, Fault>
-        ensures acts { Acts self.now desk.old.state line.now (shown result) desk.new.state }
+        ensures acts { Acts (length J.cells) desk.old.state line.now (shown result) desk.new.state }
         ensures told { shown result ≢ Failed Fault.OutOfMemory → untold desk.new ≡ [] }
     {
         let _kept = self.kept.lock(rt);

@@ -1,0 +1,108 @@
+//! The command line of `mud_explain`.
+
+ghost use Rattle.std.specs.Prelude.{◌≤◌, IfOk, IfSome};
+ghost use Rattle.mud_command.specs.Task.{IsWithin};
+
+use crate::fault::CommandFault;
+use crate::limits::capacity;
+use crate::matches::{matches_of, unfit};
+use crate::subject::{SUBJECTS, Subject, subject_named};
+use clap::error::ErrorKind;
+use clap::{Arg, ArgMatches, Command};
+use std::alloc::{AllocError, Global};
+
+/// What `mud_explain` is asked for.
+#[derive(Clone, Copy, Debug)]
+pub enum Task<'a> {
+    /// To tell how a text is read.
+    Text(Subject),
+    /// To play the steps of desks.
+    Hall(Opening<'a>),
+}
+
+/// What a hall begins with.
+#[derive(Clone, Copy, Debug)]
+pub struct Opening<'a> {
+    /// How many changes the history holds at most, 1 to 65,536.
+    pub capacity: u32,
+    /// The file of the history that the hall goes on from, if there is one.
+    pub load: Option<&'a str>,
+}
+
+/// What the words of `mud_explain` ask for; the first is the program's name.
+pub fn task_of<'a>(alloc: Global, words: &'a [String]) -> Result<Task<'a>, CommandFault>
+    ensures { IfOk result IsWithin }
+{
+    match command(alloc) {
+        Ok(mut command) => task_by(alloc, &mut command, words),
+        Err(_) => Err(CommandFault::OutOfMemory),
+    }
+}
+
+// What the words ask for, as the command line reads them.
+fn task_by<'a>(
+    alloc: Global,
+    command: &mut Command<'a>,
+    words: &'a [String],
+) -> Result<Task<'a>, CommandFault>
+    ensures { IfOk result IsWithin }
+{
+    let matches = matches_of(alloc, command, words)?;
+    match task_in(&matches) {
+        Some(task) => Ok(task),
+        None => {
+            let message = "what is to be explained?";
+            Err(unfit(alloc, command, ErrorKind::MissingSubcommand, message))
+        }
+    }
+}
+
+// What was named.
+fn task_in<'a>(matches: &ArgMatches<'a>) -> Option<Task<'a>>
+    ensures { IfSome result IsWithin }
+{
+    match matches.subcommand_matches("hall") {
+        Some(hall) => Some(Task::Hall(opening_in(hall)?)),
+        None => Some(Task::Text(subject_named(matches.subcommand_name()?)?)),
+    }
+}
+
+// What the hall begins with, if the number is within its range.
+fn opening_in<'a>(hall: &ArgMatches<'a>) -> Option<Opening<'a>>
+    ensures least { IfSome result (λ opening. 1 ≤ opening.capacity) }
+    ensures most { IfSome result (λ opening. opening.capacity ≤ 65536) }
+{
+    match hall.get_one::<u32>("capacity") {
+        Some(capacity @ 1..=65_536) => Some(Opening {
+            capacity,
+            load: hall.get_str("load"),
+        }),
+        _ => None,
+    }
+}
+
+// The command line that is understood.
+fn command<'a>(alloc: Global) -> Result<Command<'a>, AllocError> {
+    let mut command = Command::new(alloc, "mud_explain")
+        .about("Tells how the text of standard input is read, and what desks of a hall answer")
+        .subcommand_required(true);
+    for (name, about) in SUBJECTS {
+        command = command.subcommand(Command::new(alloc, name).about(about))?;
+    }
+    command.subcommand(hall(alloc)?)
+}
+
+// The command that plays the steps of desks.
+fn hall<'a>(alloc: Global) -> Result<Command<'a>, AllocError> {
+    Command::new(alloc, "hall")
+        .about("What each line, a step of a desk, comes to in one hall")
+        .arg(capacity(alloc))?
+        .arg(load(alloc))
+}
+
+fn load<'a>(alloc: Global) -> Arg<'a> {
+    Arg::new(alloc, "load")
+        .long("load")
+        .value_name("FILE")
+        .help("The history that the hall goes on from")
+}

@@ -1,0 +1,7 @@
+use Rattle.std.proofs.Common.{take}
+use Rattle.mud_explain.specs.Played.{AreHanded}
+use Rattle.mud_explain.proofs.play.handed_in.Given as goal
+
+-- the desks of the numbers so far are handed in
+abbrev pub invariant-loop-number : goal.invariant-loop-number
+invariant-loop-number g l = AreHanded (take l.number-index l.numbers) l.fn.desks.items l.handed.items l.desks.items

@@ -1,0 +1,82 @@
+//! Desks of a hall, played.
+
+ghost use Rattle.std.specs.Prelude.{◌≡◌, ◌⊎◌, ◌≤◌, Err, true, OnOk};
+ghost use Rattle.std.specs.Io.KnownBytes.{IsAtEnd, Keeps};
+
+use crate::explain::{ExplainFault, input_of};
+use crate::opened::{Unopened, opened};
+use crate::play::Play;
+use crate::sink::Sink;
+use crate::source::Source;
+use memchr::memchr;
+use mud_command::Opening;
+use mud_hall::{HallName, NewHall};
+use std::alloc::{AllocError, Global};
+use std::io::{Read, Write};
+use std::marker::Brand;
+use std::rt::Files;
+use std::sync::Wait;
+
+// What is told of the lines of an input, which are steps of the desks of this hall.
+fn told_in<J: HallName, R: Wait>(
+    rt: &R,
+    alloc: Global,
+    hall: NewHall,
+    input: &[u8],
+) -> Result<String, AllocError>
+    requires cells { hall.cells ≡ J.cells }
+    requires loaded { hall.loaded ≡ J.loaded }
+{
+    let mut play = Play::<J>::new(alloc, hall);
+    let mut out = String::new(alloc);
+    let mut rest = input;
+    while let Some(at) = memchr(b'\n', rest) {
+        let (line, ended) = rest.split_at(at);
+        play.play_line(rt, line, &mut out)?;
+        rest = &ended[1..];
+    }
+    if rest.is_empty() {
+        return Ok(out);
+    }
+    play.play_line(rt, rest, &mut out)?;
+    Ok(out)
+}
+
+// The same in a hall that has no name yet.
+fn told<R: Wait>(rt: &R, alloc: Global, hall: NewHall, input: &[u8]) -> Result<String, AllocError> {
+    told_in::<Brand, R>(rt, alloc, hall, input)
+}
+
+/// Opens the hall, reads to the source's end, and writes what is told of each line, a step of a desk
+/// (docs/EXPLAIN.md, "hall"). Nothing is written before all is read and played. `Read` is the answer only where the
+/// source failed, `Write` only where the sink failed.
+pub(crate) fn explain_hall<H: Wait + Files + AllocGlobal, R: Read, W: Write>(
+    rt: &H,
+    opening: Opening<'_>,
+    source: &mut Source<R>,
+    sink: &mut Sink<W>,
+) -> Result<(), ExplainFault>
+    requires from { 1 ≤ opening.capacity }
+    requires to { opening.capacity ≤ 65536 }
+    ensures end { OnOk result (IsAtEnd (R.remaining source.new.inner)) }
+    ensures read { result ≡ Err ExplainFault.Read → source.new.has_failed ≡ true }
+    ensures write { result ≡ Err ExplainFault.Write → sink.new.has_failed ≡ true }
+    ensures nothing { result ≡ Err ExplainFault.Read ⊎ result ≡ Err ExplainFault.OutOfMemory →
+        Keeps (W.contents sink.old.inner) (W.contents sink.new.inner) }
+{
+    let hall = match opened(rt, opening) {
+        Ok(hall) => hall,
+        Err(Unopened::OutOfMemory) => return Err(ExplainFault::OutOfMemory),
+        Err(fault) => return Err(ExplainFault::Unopened(fault)),
+    };
+    let input = input_of(rt.alloc(), source)?;
+    let out = match told(rt, rt.alloc(), hall, &input) {
+        Ok(out) => out,
+        Err(_) => return Err(ExplainFault::OutOfMemory),
+    };
+    if sink.write_all(out.as_bytes()) {
+        Ok(())
+    } else {
+        Err(ExplainFault::Write)
+    }
+}

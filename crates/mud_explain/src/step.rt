@@ -1,0 +1,103 @@
+//! Lines that are steps of desks.
+
+ghost use Rattle.std.specs.Prelude.{◌≡◌, ◌≤◌, ◌+◌};
+
+use std::alloc::{AllocError, Global};
+
+/// A step of the desks of a hall.
+#[derive(Drop)]
+pub(crate) enum Step<'a> {
+    /// A new desk.
+    Desk,
+    /// The end of the hall, with the desks of these numbers handed in.
+    Close(Vec<u32>),
+    /// The first desk takes over what the second knows.
+    Learn(u32, u32),
+    /// What a desk does by itself.
+    At(u32, Turn<'a>),
+}
+
+/// What a desk does by itself.
+#[derive(Clone, Copy)]
+pub(crate) enum Turn<'a> {
+    /// A line that acts.
+    Act(&'a str),
+    /// A line that asks.
+    Ask(&'a str),
+    /// Taking in all entries.
+    See,
+    /// How many entries it has seen.
+    Seen,
+    /// The lines that it was told.
+    Told,
+    /// A guest's desk again.
+    Guest,
+}
+
+/// The step that a line is, if it is one.
+pub(crate) fn step_of<'a>(alloc: Global, line: &'a str) -> Result<Option<Step<'a>>, AllocError> {
+    if line == "desk" {
+        return Ok(Some(Step::Desk));
+    }
+    match line.split_once(' ') {
+        Some(("close", numbers)) => closing(alloc, numbers),
+        Some((number, words)) => Ok(at_desk(number, words)),
+        None if line == "close" => Ok(Some(Step::Close(Vec::new(alloc)))),
+        None => Ok(None),
+    }
+}
+
+// The end of the hall, if these are numbers with a space between each two.
+fn closing<'a>(alloc: Global, words: &'a str) -> Result<Option<Step<'a>>, AllocError> {
+    let mut numbers = Vec::new(alloc);
+    for word in words.split(' ') {
+        match number_of(word) {
+            Some(number) => numbers.push(number)?,
+            None => return Ok(None),
+        }
+    }
+    Ok(Some(Step::Close(numbers)))
+}
+
+// The step of one desk.
+fn at_desk<'a>(number: &str, words: &'a str) -> Option<Step<'a>> {
+    let number = number_of(number)?;
+    match words.strip_prefix("learn ") {
+        Some(other) => Some(Step::Learn(number, number_of(other)?)),
+        None => Some(Step::At(number, turn_of(words)?)),
+    }
+}
+
+// What a desk is asked to do.
+fn turn_of(words: &str) -> Option<Turn<'_>> {
+    match words {
+        "see" => Some(Turn::See),
+        "seen" => Some(Turn::Seen),
+        "told" => Some(Turn::Told),
+        "guest" => Some(Turn::Guest),
+        _ => match words.split_once(' ') {
+            Some(("act", line)) => Some(Turn::Act(line)),
+            Some(("ask", line)) => Some(Turn::Ask(line)),
+            _ => None,
+        },
+    }
+}
+
+// The number of a desk: one digit or two, the first no zero.
+fn number_of(word: &str) -> Option<u32> {
+    match word.as_bytes() {
+        [one @ b'1'..=b'9'] => Some(digit(*one)),
+        [ten @ b'1'..=b'9', one @ b'0'..=b'9'] => Some(10 * digit(*ten) + digit(*one)),
+        _ => None,
+    }
+}
+
+// The value of a digit.
+fn digit(byte: u8) -> u32
+    requires from { 48 ≤ byte }
+    requires to { byte ≤ 57 }
+    ensures value { result + 48 ≡ byte }
+    ensures most { result ≤ 9 }
+{
+    u32::from(byte - b'0')
+}

@@ -1,0 +1,110 @@
+//! What is told of a step.
+
+ghost use Rattle.std.specs.Prelude.{◌≡◌, ◌≤◌, ◌++◌, length, map, Ok, Err, OnOk, codes, string_bytes};
+ghost use Rattle.std.specs.List.{flat_map};
+ghost use Rattle.mud_hall.specs.Replies.{shown};
+ghost use Rattle.mud_hall.specs.Answers.{answered};
+ghost use Rattle.mud_explain.specs.Told.{fault_line, reply_line, answer_lines, seen_line, told_lines};
+ghost use Rattle.mud_explain.specs.Told.{settled_lines, unsettled_line};
+
+use mud_chron::write_history;
+use mud_guide::Answer;
+use mud_hall::{CloseFault, Fault, Reply, Settled};
+use std::alloc::{AllocError, Global};
+
+// The line of a fault.
+fn fault_line(fault: Fault) -> &'static str
+    ensures { result.now ≡ fault_line fault }
+{
+    match fault {
+        Fault::OutOfMemory => "(out of memory)\n",
+        Fault::HistoryFull => "(history full)\n",
+        Fault::Unpublished => "(not stored)\n",
+        Fault::DesksFull => "desks full\n",
+    }
+}
+
+/// Appends the line of a fault.
+pub(crate) fn push_fault(out: &mut String, fault: Fault) -> Result<(), AllocError>
+    ensures { OnOk result (string_bytes out.new ≡ string_bytes out.old ++ fault_line fault) }
+{
+    out.push_str(fault_line(fault))
+}
+
+/// Appends the line of a reply.
+pub(crate) fn push_reply(out: &mut String, reply: &Reply) -> Result<(), AllocError>
+    ensures { OnOk result (string_bytes out.new ≡ string_bytes out.old ++ reply_line (shown (Ok reply.now))) }
+{
+    match reply {
+        Reply::Accepted { version, text } => writeln!(out, "accepted [{version}] {text}"),
+        Reply::Became { version, text } => writeln!(out, "became [{version}] {text}"),
+        Reply::Refused { version, text, .. } => writeln!(out, "refused [{version}] {text}"),
+        Reply::Question { version } => writeln!(out, "question {version}"),
+    }
+}
+
+/// Appends the lines of an answer.
+pub(crate) fn push_answer(out: &mut String, answer: &Answer) -> Result<(), AllocError>
+    ensures { OnOk result (string_bytes out.new ≡ string_bytes out.old ++ answer_lines (answered answer.now)) }
+{
+    writeln!(out, "[{}] {}", answer.version, answer.text)
+}
+
+/// Appends how many entries a desk has seen.
+pub(crate) fn push_seen(out: &mut String, seen: u32) -> Result<(), AllocError>
+    ensures { OnOk result (string_bytes out.new ≡ string_bytes out.old ++ seen_line seen) }
+{
+    writeln!(out, "seen {seen}")
+}
+
+// Appends the lines that a desk was told.
+fn push_lines(out: &mut String, lines: &[String]) -> Result<(), AllocError>
+    ensures { OnOk result (string_bytes out.new
+        ≡ string_bytes out.old ++ flat_map (λ line. line ++ codes "\n") (map string_bytes lines.now)) }
+{
+    for line in lines {
+        out.push_str(line.as_str())?;
+        out.push('\n')?;
+    }
+    Ok(())
+}
+
+/// Appends how many lines a desk was told, and the lines.
+pub(crate) fn push_told(out: &mut String, lines: &[String]) -> Result<(), AllocError>
+    ensures { OnOk result (string_bytes out.new ≡ string_bytes out.old ++ told_lines (map string_bytes lines.now)) }
+{
+    writeln!(out, "told {}", lines.len())?;
+    push_lines(out, lines)
+}
+
+/// Appends what the desks made, and its history.
+pub(crate) fn push_settled(
+    out: &mut String,
+    alloc: Global,
+    settled: &Settled,
+) -> Result<(), AllocError>
+    requires { length settled.now.history.items ≤ 65536 }
+    ensures { OnOk result (string_bytes out.new ≡ string_bytes out.old
+        ++ settled_lines settled.now.accepted settled.now.loaded settled.now.history.items) }
+{
+    let history = settled.history.as_slice();
+    let (accepted, loaded) = (settled.accepted, settled.loaded);
+    writeln!(
+        out,
+        "settled {} accepted {accepted} loaded {loaded}",
+        history.len()
+    )?;
+    write_history(alloc, history, out)
+}
+
+/// Appends why a hall was not closed.
+pub(crate) fn push_unsettled(out: &mut String, fault: CloseFault) -> Result<(), AllocError>
+    ensures { OnOk result (string_bytes out.new ≡ string_bytes out.old ++ unsettled_line fault) }
+{
+    match fault {
+        CloseFault::OutOfMemory => push_fault(out, Fault::OutOfMemory),
+        CloseFault::SameNumber(number) => writeln!(out, "same number {number}"),
+        CloseFault::Missing(number) => writeln!(out, "missing {number}"),
+        CloseFault::Mismatch(version) => writeln!(out, "mismatch {version}"),
+    }
+}

@@ -54,7 +54,7 @@ Gives loaded old new told =
     ⊎ ((fault : Fault) × (new ≡ old) × (told ≡ fault_line fault))
 
 -- the hall is closed, or no desk has the number
-abbrev pub Lacks : Option ℕ → List View → ℕ → Type 0
+abbrev pub Lacks : {H : Type 0} → Option H → List View → ℕ → Type 0
 Lacks hall desks n = (hall ≡ None) ⊎ (HasNumber desks n → ⊥)
 
 -- nothing is done
@@ -67,11 +67,11 @@ pub record AreHanded (numbers : List ℕ) (desks handed rest : List View) : Type
   pub all : IsPermutation desks (handed ++ rest)
 
 -- the hall ended with the history that the desks made
-abbrev pub Settles : List Entry → List View → Option ℕ → List ℕ → Type 0
+abbrev pub Settles : {H : Type 0} → List Entry → List View → Option H → List ℕ → Type 0
 Settles loaded handed hall told = (history : List Entry) × IsSettled loaded handed history × (hall ≡ None)
     × (told ≡ settled_lines (length (made loaded history)) (length loaded) history)
 
 -- the hall goes on with all its desks
-abbrev pub GoesOn : List Entry → List View → List View → Option ℕ → Option ℕ → List View → List ℕ → Type 0
+abbrev pub GoesOn : {H : Type 0} → List Entry → List View → List View → Option H → Option H → List View → List ℕ → Type 0
 GoesOn loaded handed rest was hall desks told = (fault : CloseFault) × IsCloseFault loaded handed fault × (hall ≡ was)
     × (desks ≡ rest ++ handed) × (told ≡ unsettled_line fault)

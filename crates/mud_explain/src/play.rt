@@ -97,8 +97,7 @@ impl<J: HallName> Play<J> {
     ) -> Result<(), AllocError>
         ensures hall { self.new.hall ≡ self.old.hall }
         ensures told { OnOk result ((told : List ℕ) × (string_bytes out.new ≡ string_bytes out.old ++ told)
-            × (((capacity : ℕ) × (self.old.hall ≡ Some capacity)
-            × TurnsOne capacity number turn.entry self.old.desks.items self.new.desks.items told)
+            × (TurnsOne (length J.cells) number turn.entry self.old.desks.items self.new.desks.items told
             ⊎ (Lacks self.old.hall self.old.desks.items number
             × DoesNothing self.old.desks.items self.new.desks.items told))) }
     {
@@ -245,7 +244,7 @@ fn turn_at<J: HallName, R: Wait>(
     out: &mut String,
 ) -> Result<(), AllocError>
     ensures { OnOk result ((told : List ℕ) × (string_bytes out.new ≡ string_bytes out.old ++ told)
-        × Turns hall.now turn.entry desk.old desk.new told) }
+        × Turns (length J.cells) turn.entry desk.old desk.new told) }
 {
     match turn {
         Turn::Act(line) => match hall.act(rt, desk, line) {

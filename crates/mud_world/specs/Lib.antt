@@ -11,8 +11,9 @@ pub mod Refusals
 pub mod Speech
 pub mod Going
 pub mod Numbers
-pub mod Slots
+pub mod Edits
 pub mod Nesting
+pub mod Climbing
 pub mod Laws
 pub mod Inside
 pub mod History

@@ -7,7 +7,7 @@ ghost use Rattle.mud_check.specs.Said.{IsJudged, IsInputFault};
 
 use crate::input::split;
 use crate::outcome::{Outcome, verdict};
-use crate::source::Source;
+use mud_ends::Source;
 use std::alloc::{AllocError, Global};
 use std::fs;
 use std::io::{self, ErrorKind, Read};
@@ -60,8 +60,9 @@ pub fn judge_files<'a, R: Files + AllocGlobal>(
 
 // All that the source has left.
 fn input<R: Read>(alloc: Global, source: &mut Source<R>) -> Result<Vec<u8>, Unread<'static>>
-    ensures bytes { IfOk result (λ input. IfSome (R.remaining source.old.inner) (λ bytes. input.items ≡ bytes)) }
-    ensures end { OnOk result (IsAtEnd (R.remaining source.new.inner)) }
+    requires no_end { source.old.at_end ≡ false }
+    ensures bytes { IfOk result (λ input. IfSome source.old.left (λ bytes. input.items ≡ bytes)) }
+    ensures end { OnOk result (IsAtEnd source.new.left) }
     ensures read { OnOk result (source.new.has_failed ≡ false) }
     ensures fault { IfErr result (IsInputFault source.new.has_failed) }
 {
@@ -78,8 +79,9 @@ pub fn judge_input<R: Read>(
     alloc: Global,
     source: &mut Source<R>,
 ) -> Result<Outcome, Unread<'static>>
-    ensures ok { IfOk result (λ outcome. IfSome (R.remaining source.old.inner) (λ bytes. IsJudged bytes outcome)) }
-    ensures end { OnOk result (IsAtEnd (R.remaining source.new.inner)) }
+    requires no_end { source.old.at_end ≡ false }
+    ensures ok { IfOk result (λ outcome. IfSome source.old.left (λ bytes. IsJudged bytes outcome)) }
+    ensures end { OnOk result (IsAtEnd source.new.left) }
     ensures read { OnOk result (source.new.has_failed ≡ false) }
     ensures fault { IfErr result (IsInputFault source.new.has_failed) }
 {

@@ -12,15 +12,12 @@ mod judge;
 mod line_ends;
 mod outcome;
 mod said;
-mod sink;
-mod source;
 
 use crate::judge::{Unread, judge_files, judge_input};
 use crate::outcome::Outcome;
 use crate::said::said;
-use crate::sink::Sink;
-use crate::source::Source;
 use mud_command::{CommandFault, Sources, show, sources_of, words_of};
+use mud_ends::{Sink, Source};
 use std::io::{self, Write};
 use std::process::ExitCode;
 

@@ -12,3 +12,4 @@ pub mod Parts
 pub mod Sides
 pub mod Decided
 pub mod Guests
+pub mod Asking

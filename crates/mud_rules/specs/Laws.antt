@@ -1,5 +1,5 @@
 -- What the definitions of the table come to, said in other words.
-use Rattle.std.specs.Prelude.{◌≡◌, ℕ, Option, Some, None}
+use Rattle.std.specs.Prelude.{◌≡◌, ℕ, IsTrue, Option, Some, None}
 use Rattle.std.specs.Option.{option_map_or}
 use Rattle.mud_world.specs.declared.change.Change.{Change}
 use Rattle.mud_world.specs.declared.change.Deed.{Deed}
@@ -15,9 +15,10 @@ use Rattle.mud_world.specs.Refusals.{lesser}
 use Rattle.mud_world.specs.Sound.{IsSound}
 use Rattle.mud_world.specs.State.{State}
 use Rattle.mud_world.specs.Legal.{refusal}
-use Rattle.mud_rules.specs.declared.verdict.Verdict.TheVariants.{Change as Changes, Refused}
+use Rattle.mud_rules.specs.declared.verdict.Verdict.TheVariants.{Change as Changes, Ask, Refused}
 use Rattle.mud_rules.specs.Outcome.{outcome, does}
-use Rattle.mud_rules.specs.Table.{decision}
+use Rattle.mud_rules.specs.declared.verdict.Query.{Query}
+use Rattle.mud_rules.specs.Table.{decision, is_question}
 
 -- ---- one list of refusals
 
@@ -54,3 +55,10 @@ abbrev pub AreMade : Type 0
 AreMade =
     (w : State) → IsSound w → (player : Option ℕ) (l : Line) (e : Change)
     → decision w player l ≡ Changes e → IsMade w e
+
+-- ---- what a line asks
+
+-- what a line asks is asked by the verb of a question, whoever typed it
+abbrev pub AreQuestions : Type 0
+AreQuestions =
+    (w : State) (player : Option ℕ) (l : Line) (q : Query) → decision w player l ≡ Ask q → IsTrue (is_question l)

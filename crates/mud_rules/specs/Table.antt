@@ -119,3 +119,7 @@ is_question l =
     list_any (str_eq_ignore_ascii_case l.verb)
     (codes "look" ∷ codes "l" ∷ codes "inventory" ∷ codes "inv" ∷ codes "i" ∷ codes "@key" ∷ codes "route"
     ∷ codes "meet" ∷ codes "proof" ∷ codes "@version" ∷ codes "@history" ∷ codes "quit" ∷ [])
+
+-- the line is `quit`, with no words behind
+abbrev pub is_quit : Line → Bool
+is_quit l = is_empty l.args && str_eq_ignore_ascii_case l.verb (codes "quit")

@@ -1,6 +1,6 @@
 //! What is known of the definitions alone.
 
-ghost use Rattle.mud_rules.specs.Laws.{IsOneList, IsAlikeWhateverIsRead, AreMade};
+ghost use Rattle.mud_rules.specs.Laws.{IsOneList, IsAlikeWhateverIsRead, AreMade, AreQuestions};
 ghost use Rattle.std.specs.Prelude.{ℕ};
 ghost use Rattle.mud_world.specs.State.{State};
 
@@ -19,4 +19,9 @@ pub fn whatever_is_read()
 /// In a sound world a change that a line comes to is legal, and its names, keys and texts are such.
 pub fn made()
     ensures { AreMade }
+{}
+
+/// What a line asks is asked by the verb of a question, in every world and whoever typed it.
+pub fn questions()
+    ensures { AreQuestions }
 {}

@@ -4,7 +4,7 @@
 //! - [`decide`] takes a parsed line of a player, or of a guest, and gives its [`Verdict`]: a change
 //!   that is legal, a question, a player to become, or the refusal of least number.
 //! - [`local_match`], [`room_match`] and [`player_match`] find the object that a text means.
-//! - [`is_question`] tells the lines that change nothing.
+//! - [`is_question`] tells the lines that change nothing, [`is_quit`] the one that ends a session.
 //! - [`reply_text`], [`welcome_text`], [`refusal_text`] and [`show`] give what the player is told,
 //!   [`heard`] what another player is told of his change. A [`Journey`] and the history are asked
 //!   for here, and answered elsewhere.
@@ -60,7 +60,7 @@ mod verdict;
 
 pub use answers::show;
 pub use hearing::heard;
-pub use line::{decide, is_question};
+pub use line::{decide, is_question, is_quit};
 pub use matching::{Match, local_match, player_match, room_match};
 pub use mud_world::Refusal;
 pub use party::Party;

@@ -1,9 +1,10 @@
 //! What a line means to a player, or to a guest.
 
-ghost use Rattle.std.specs.Prelude.{◌≡◌, ℕ, Option, Some, IfOk};
+ghost use Rattle.std.specs.Prelude.{◌≡◌, ℕ, Option, Some, IfOk, codes};
+ghost use Rattle.std.specs.Str.{str_eq_ignore_ascii_case};
 ghost use Rattle.mud_words.specs.Line.{line_of};
 ghost use Rattle.mud_rules.specs.Outcome.{IsLawful};
-ghost use Rattle.mud_rules.specs.Table.{command, other_line, guest, decision, is_question};
+ghost use Rattle.mud_rules.specs.Table.{command, other_line, guest, decision, is_question, is_quit};
 
 use crate::matching::{Likeness, Match, sole_like};
 use crate::moving::walk;
@@ -39,6 +40,21 @@ pub fn is_question(parsed: &Parsed) -> bool
         || verb.eq_ignore_ascii_case("@version")
         || verb.eq_ignore_ascii_case("@history")
         || verb.eq_ignore_ascii_case("quit")
+}
+
+/// Whether a line is `quit`, with no words behind: its answer is the last of a session (this project's
+/// profile).
+pub fn is_quit(parsed: &Parsed) -> bool
+    ensures { result ≡ is_quit (line_of parsed.now) }
+{
+    parsed.args.is_empty() && has_verb_quit(parsed)
+}
+
+// Whether the verb is `quit`, ASCII case ignored.
+fn has_verb_quit(parsed: &Parsed) -> bool
+    ensures { result ≡ str_eq_ignore_ascii_case (line_of parsed.now).verb (codes "quit") }
+{
+    parsed.verb.as_str().eq_ignore_ascii_case("quit")
 }
 
 /// What a line asks for in a world: a change that is legal there, a question, a player to become,

@@ -3,19 +3,9 @@
 
 ghost use Rattle.std.specs.Prelude.{◌≤◌, IfOk};
 
-mod answers;
-mod door;
-mod laws;
-mod script;
-mod session;
-mod sink;
-mod solo;
-mod source;
-
-use crate::script::{ScriptFault, script};
-use crate::sink::Sink;
-use crate::source::Source;
 use mud_command::{CommandFault, Limits, limits_of, show, words_of};
+use mud_ends::{Sink, Source};
+use mud_session::{ScriptFault, script};
 use std::io;
 use std::process::ExitCode;
 

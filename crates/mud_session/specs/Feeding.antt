@@ -1,5 +1,5 @@
 -- What a session does with the bytes that it is given, and when it is nudged.
-use Rattle.std.specs.Prelude.{◌≡◌, ℕ, false, List, [], ◌∷◌, ◌++◌, Option, None}
+use Rattle.std.specs.Prelude.{◌≡◌, ℕ, false, List, [], ◌++◌, None}
 use Rattle.mud_nvt.specs.Units.{Given, units}
 use Rattle.mud_nvt.specs.History.{StandsAfter}
 use Rattle.mud_session.specs.State.{State, DoorState, talk_of}
@@ -7,7 +7,8 @@ use Rattle.mud_session.specs.Session.{TakingIn, Turn, Takes, Play, text_of, text
 
 -- behind the earlier bytes it takes these: the units that they add have their turns, up to the last reply, and what is
 -- sent for them is to be taken out
-pub record Feeds (takes_in : TakingIn) (earlier bytes : List ℕ) (old new : State) (old_door new_door : DoorState) : Type 0 where
+pub record Feeds (takes_in : TakingIn) (earlier bytes : List ℕ) (old new : State)
+    (old_door new_door : DoorState) : Type 0 where
   pub stands : StandsAfter new.terminal (earlier ++ bytes)
   pub fresh : List Given
   pub units : units (earlier ++ bytes) ≡ units earlier ++ fresh

@@ -1,6 +1,7 @@
 pub mod Session
 pub mod State
 pub mod Feeding
+pub mod Turning
 pub mod Script
 pub mod Serving
 pub mod Laws

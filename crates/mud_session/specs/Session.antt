@@ -1,8 +1,7 @@
 -- A session at any door: the turns that its units have, and what is sent for them.
-use Rattle.std.specs.Prelude.{◌≡◌, ℕ, Bool, false, ◌==◌, if◌then◌else◌, MatchBool, Option, None, Some}
+use Rattle.std.specs.Prelude.{◌≡◌, ◌≢◌, ℕ, Bool, false, ◌==◌, if◌then◌else◌, MatchBool, Option, None, Some}
 use Rattle.std.specs.Prelude.{List, [], ◌∷◌, ◌++◌, codes, decimal, map}
 use Rattle.std.specs.List.{flat_map}
-use Rattle.std.specs.Option.{option_to_list}
 use Rattle.mud_words.specs.Parse.{parsed}
 use Rattle.mud_words.specs.Words.{is_blank}
 use Rattle.mud_nvt.specs.Units.{Given, Text, TooLong, Ayt, Answer}
@@ -20,6 +19,10 @@ TakingIn = DeskState → DeskState → Type 0
 
 abbrev pub TakesNone : TakingIn
 TakesNone old new = new ≡ old
+
+-- a desk is shared where entries of others can be taken in
+abbrev pub IsShared : TakingIn → Type 0
+IsShared takes_in = (old : DeskState) × (new : DeskState) × takes_in old new × (new ≢ old)
 
 -- where a session stands: how many entries the history can have, its desk, and whether it has ended
 pub record Talk : Type 0 where
@@ -67,20 +70,24 @@ pub record Looks (takes_in : TakingIn) (old : DeskState) (lines : List (List ℕ
   pub takes : takes_in old ready
   pub tells : Tells ready lines new
 
--- a line acts: the desk takes entries in and replies; all that it was told is sent, and then the reply
-pub record IsActed (takes_in : TakingIn) (old : Talk) (line : List ℕ) (lines : List (List ℕ)) (said : Said) (new : Talk) : Type 0 where
+-- a line acts: the desk takes entries in and replies; all that it was told is sent, and then the reply; only at a desk
+-- that is shared a change is not stored
+pub record IsActed (takes_in : TakingIn) (old : Talk) (line : List ℕ) (lines : List (List ℕ)) (said : Said)
+    (new : Talk) : Type 0 where
   pub ready : DeskState
   pub takes : takes_in old.desk ready
   pub reply : Reply
   pub acted : DeskState
   pub replies : Replies old.capacity ready line reply acted
+  pub stored : reply ≡ Failed Unpublished → IsShared takes_in
   pub tells : Tells acted lines new.desk
   pub all : new.desk.told ≡ []
   pub text : reply_line reply ≡ Some said.text
   pub goes_on : said.is_last ≡ false
 
 -- a line asks: the desk takes entries in, all that it was told is sent, and then the answer by what it has seen
-pub record IsAsked (takes_in : TakingIn) (old : Talk) (line : List ℕ) (lines : List (List ℕ)) (said : Said) (new : Talk) : Type 0 where
+pub record IsAsked (takes_in : TakingIn) (old : Talk) (line : List ℕ) (lines : List (List ℕ)) (said : Said)
+    (new : Talk) : Type 0 where
   pub looks : Looks takes_in old.desk lines new.desk
   pub all : new.desk.told ≡ []
   pub answer : Answered
@@ -96,7 +103,8 @@ is_last (Some said) = said.is_last
 abbrev pub IsAnswered : TakingIn → Talk → List ℕ → List (List ℕ) → Option Said → Talk → Type 0
 IsAnswered takes_in old line lines None new = Looks takes_in old.desk lines new.desk
 IsAnswered takes_in old line lines (Some said) new =
-    MatchBool (is_question (parsed line)) (IsAsked takes_in old line lines said new) (IsActed takes_in old line lines said new)
+    MatchBool (is_question (parsed line)) (IsAsked takes_in old line lines said new)
+    (IsActed takes_in old line lines said new)
 
 -- nothing is done
 pub record Rests (old : Talk) (turn : Turn) (new : Talk) : Type 0 where

@@ -1,14 +1,14 @@
 //! Where the lines of a session are answered.
 
-ghost use Rattle.std.specs.Prelude.{◌≡◌, ◌≢◌, ◌++◌, [], IfOk, OnOk, map, string_bytes};
+ghost use Rattle.std.specs.Prelude.{◌≡◌, ◌≢◌, ◌++◌, [], IfOk, IfErr, OnOk, map, string_bytes};
 ghost use Rattle.mud_hall.specs.Desk.{DeskState, with_told};
 ghost use Rattle.mud_hall.specs.Replies.{Failed, Replies, shown};
 ghost use Rattle.mud_hall.specs.Answers.{Answers, answered};
-ghost use Rattle.mud_session.specs.Session.{TakingIn};
+ghost use Rattle.mud_session.specs.Session.{TakingIn, TakesNone, IsShared};
 ghost use Rattle.mud_session.specs.State.{DoorState};
 
 use mud_guide::Answer;
-use mud_hall::{Fault, Reply};
+use mud_hall::{Fault, Reply, Solo};
 use std::sync::Wait;
 use std::thread::Threads;
 
@@ -24,23 +24,48 @@ pub trait Door {
         ensures capacity { (state self.new).capacity ≡ (state self.old).capacity }
         ensures replies { (ready : DeskState) × takes_in (state self.old).desk ready
             × Replies (state self.old).capacity ready line.now (shown result) (state self.new).desk }
+        ensures stored { shown result ≡ Failed Fault.Unpublished → IsShared takes_in }
         ensures told { shown result ≢ Failed Fault.OutOfMemory → (state self.new).untold ≡ [] };
 
     /// Takes entries in.
     fn see(&mut self) -> Result<(), Fault>
         ensures capacity { (state self.new).capacity ≡ (state self.old).capacity }
         ensures takes { takes_in (state self.old).desk (state self.new).desk }
-        ensures told { OnOk result ((state self.new).untold ≡ []) };
+        ensures told { OnOk result ((state self.new).untold ≡ []) }
+        ensures fault { IfErr result (λ f. f ≡ Fault.OutOfMemory) };
 
     /// Answers a line that asks, by exactly what the desk has seen.
     fn ask<X: Threads + Wait + Sync>(&mut self, rt: &X, line: &str) -> Result<Answer, Fault>
         ensures capacity { (state self.new).capacity ≡ (state self.old).capacity }
         ensures same { (state self.new).desk ≡ (state self.old).desk }
-        ensures answers { IfOk result (λ a. Answers (state self.old).desk line.now (answered a)) };
+        ensures answers { IfOk result (λ a. Answers (state self.old).desk line.now (answered a)) }
+        ensures fault { IfErr result (λ f. f ≡ Fault.OutOfMemory) };
 
     /// The lines that the desk was told, each once. It takes no memory.
     fn take_told(&mut self) -> Vec<String>
         ensures capacity { (state self.new).capacity ≡ (state self.old).capacity }
         ensures told { (state self.old).desk.told ≡ map string_bytes result.items ++ (state self.new).desk.told }
         ensures rest { (state self.new).desk ≡ with_told (state self.old).desk (state self.old).untold };
+}
+
+impl Door for Solo {
+    ghost state = { λ solo. record { capacity = solo.capacity; desk = solo.state; untold = [] } };
+
+    ghost takes_in = { TakesNone };
+
+    fn act<X: Threads + Wait + Sync>(&mut self, _rt: &X, line: &str) -> Result<Reply, Fault> {
+        self.act(line)
+    }
+
+    fn see(&mut self) -> Result<(), Fault> {
+        Ok(())
+    }
+
+    fn ask<X: Threads + Wait + Sync>(&mut self, _rt: &X, line: &str) -> Result<Answer, Fault> {
+        Ok(Solo::ask(self, line)?)
+    }
+
+    fn take_told(&mut self) -> Vec<String> {
+        Solo::take_told(self)
+    }
 }

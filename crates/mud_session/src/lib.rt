@@ -1,16 +1,31 @@
 //! What lies between a player's bytes and a desk: the session, the doors at which its lines are answered, and a session
 //! over a reader and a writer.
+//!
+//! - A [`Door`] acts on lines and answers questions: a desk that nobody shares (`mud_hall::Solo`), or a [`Seat`], a
+//!   desk of a hall.
+//! - A [`Session`] takes bytes by `feed`, answers each line that is whole at its door, and looks for what others did by
+//!   `nudge`. What is to be sent is taken out by `take_out`.
+//! - A [`script`] is a session of one user over a reader and a writer.
+//!
+//! A question first sees, then the notices of what others did are sent, and then its answer. Another line acts, which
+//! takes in what others did too, then the notices are sent, and then the reply. An answered `quit` ends the session.
+//!
+//! Proved: what is sent is exactly the text of `specs/Session.antt`, however the bytes were cut, and each line does at
+//! its desk what it may do there by the definitions of `mud_hall`. A line for which memory is refused is answered
+//! `(out of memory)` and changes nothing but what the desk has seen; the reply to a change that was made is never lost
+//! so. What others did is told once, in its order, as [`laws::notices`] says. Want of memory for what the session
+//! itself keeps or sends ends it, and it then takes nothing more.
 #![tactic(auto)]
 
 mod door;
 mod fault;
 pub mod laws;
-mod script;
+mod scripting;
 mod seat;
 mod session;
 
 pub use door::Door;
 pub use fault::SessionFault;
-pub use script::{ScriptFault, script};
+pub use scripting::{ScriptFault, script};
 pub use seat::Seat;
 pub use session::Session;

@@ -14,6 +14,10 @@ mod dice;
 #[cfg(test)]
 mod guide;
 #[cfg(test)]
+mod hall;
+#[cfg(test)]
+mod house;
+#[cfg(test)]
 mod nvt;
 #[cfg(test)]
 mod plain;

@@ -4,7 +4,7 @@ ghost use Rattle.std.specs.Prelude.{◌≡◌};
 
 use crate::village::entry;
 use mud_chron::Entry;
-use mud_row::{Pass, Replica, Row, RowFault};
+use mud_row::{FillFault, Pass, Replica, Row, RowFault};
 use std::alloc::Global;
 use std::process::Abort;
 use std::test::Fail;
@@ -107,6 +107,8 @@ fn know(rt: &impl Abort, alloc: Global, row: &Row, a: &mut Pass, b: &mut Pass) -
     Ok(())
 }
 
+// The row of two passes. Refused are a `next` that finds nothing of what another pass has set, a
+// `publish` that never sets a cell, and a `learn` or `again` that gives up.
 #[test]
 fn passes_of_one_row(rt: HostRuntime) -> Result<(), Fail> {
     let alloc = rt.alloc();
@@ -243,12 +245,104 @@ fn share_with_others(
     share(rt, alloc, row, one, &mut other, &mut told)
 }
 
+// Refused is an `extend` that does nothing, and so a `see` that finds nothing; and a `step` that gives
+// up, as for want of memory.
 #[test]
 fn replicas_of_one_row(rt: HostRuntime) -> Result<(), Fail> {
     let row = Row::new(rt.alloc(), 8)?;
     let mut one = Replica::new(rt.alloc(), &row)?;
     is_sent(&one);
     share_with_others(&rt, rt.alloc(), &row, &mut one)
+}
+
+// The library and the walk there, by two desks.
+fn two(alloc: Global) -> Result<Vec<Entry>, Fail> {
+    let mut entries = Vec::new(alloc);
+    entries.push(entry(alloc, 1, LIBRARY)?)?;
+    entries.push(entry(alloc, 2, WALK)?)?;
+    Ok(entries)
+}
+
+// A row of three takes two entries, then one of two more, and then none.
+fn fill_all(
+    rt: &impl Abort,
+    alloc: Global,
+    row: &Row,
+    pass: &mut Pass,
+    late: &mut Pass,
+) -> Result<(), Fail>
+    requires pass { pass.old.row ≡ row.now }
+    requires late { late.old.row ≡ row.now }
+    ensures pass { pass.new.row ≡ pass.old.row }
+    ensures late { late.new.row ≡ late.old.row }
+{
+    let first = row.fill(alloc, pass, two(alloc)?);
+    let stale = row.fill(alloc, late, two(alloc)?);
+    let second = row.fill(alloc, pass, two(alloc)?);
+    assert!(rt; first == Ok(()) && stale == Err(FillFault::Unpublished) && late.known() == 0);
+    assert!(rt; second == Err(FillFault::HistoryFull) && pass.known() == 3);
+    Ok(())
+}
+
+// What another pass finds of them: the third is the first of the two more.
+fn find_all(rt: &impl Abort, row: &Row, late: &mut Pass)
+    requires { late.old.row ≡ row.now }
+    ensures { late.new.row ≡ late.old.row }
+{
+    let found = (
+        desk_of(row.next(late)),
+        desk_of(row.next(late)),
+        desk_of(row.next(late)),
+    );
+    assert!(rt; found == (1, 2, 1));
+}
+
+// What a replica hears from a pass, and what a copy of it has.
+fn hear(
+    rt: &impl Abort,
+    alloc: Global,
+    row: &Row,
+    pass: &mut Pass,
+    replica: &mut Replica,
+) -> Result<(), Fail>
+    requires pass { pass.old.row ≡ row.now }
+    requires replica { replica.old.row ≡ row.now }
+{
+    replica.hear(pass);
+    assert!(rt; replica.known() == 3 && replica.at() == 0);
+    replica.catch_up(row)?;
+    let mut copy = replica.copy(alloc)?;
+    let desk = desk_of(copy.entry(row, 2));
+    assert!(rt; (desk, copy.at(), copy.world().place(1)) == (2, 3, Some(2)));
+    Ok(())
+}
+
+// The same of two passes and a replica.
+fn fill_and_hear(
+    rt: &impl Abort,
+    alloc: Global,
+    row: &Row,
+    pass: &mut Pass,
+    late: &mut Pass,
+) -> Result<(), Fail>
+    requires pass { pass.old.row ≡ row.now }
+    requires late { late.old.row ≡ row.now }
+{
+    fill_all(rt, alloc, row, pass, late)?;
+    find_all(rt, row, late);
+    let mut replica = Replica::new(alloc, row)?;
+    hear(rt, alloc, row, late, &mut replica)
+}
+
+// Refused are a `fill`, `hear` or `copy` that gives up, as for want of memory; a `fill` that sets no
+// cell; and a `next` that finds nothing of what was filled.
+#[test]
+fn a_row_that_is_filled(rt: HostRuntime) -> Result<(), Fail> {
+    let alloc = rt.alloc();
+    let row = Row::new(alloc, 3)?;
+    let mut pass = row.pass(alloc)?;
+    let mut late = row.pass(alloc)?;
+    fill_and_hear(&rt, alloc, &row, &mut pass, &mut late)
 }
 
 #[test]

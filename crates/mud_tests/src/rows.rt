@@ -7,8 +7,8 @@ use std::alloc::Global;
 use std::process::Abort;
 use std::test::Fail;
 
-// What a row asks: its first word, and the rest.
-fn parted(asked: &str) -> (&str, &str) {
+/// The first word of a text, and what is behind it.
+pub(crate) fn parted(asked: &str) -> (&str, &str) {
     match asked.split_once(' ') {
         Some(parts) => parts,
         None => (asked, ""),

@@ -1,9 +1,0 @@
-pub mod Fresh
-pub mod Playing
-pub mod Feeds
-pub mod ServeLemmas
-pub mod ScriptLemmas
-pub mod Seats
-pub mod Endings
-pub mod Ones
-pub mod Begun

@@ -1,5 +1,0 @@
-use Rattle.mud_serve.proofs.Ones.{script_text_is_one}
-use Rattle.mud_serve.proofs.laws.one_script_text.Goals as goal
-
-pub returns : goal.returns
-returns c = script_text_is_one

@@ -1,0 +1,11 @@
+pub mod Sending
+pub mod Answering
+pub mod Playing
+pub mod Taking
+pub mod Sharing
+pub mod Telling
+pub mod Fresh
+pub mod ServeLemmas
+pub mod ScriptLemmas
+pub mod Begun
+pub mod Ones

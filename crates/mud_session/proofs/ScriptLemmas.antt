@@ -1,0 +1,240 @@
+-- What a script has written.
+use Rattle.std.proofs.Common.{◌≡◌, ℕ, ◌+◌, ◌<◌, ◌≤◌, Bool, true, false, List, [], ◌∷◌, ◌++◌, length, map, take, refl}
+use Rattle.std.proofs.Common.{sym, ap, subst, ◌∙◌, append-nil, arith, inl, inr, length-append}
+use Rattle.std.specs.Prelude.{Option, Some, if◌then◌else◌, ◌==◌, ◌&&◌, nat_lt}
+use Rattle.std.proofs.lemmas.Bool.Decides.{nat_tests}
+use Rattle.std.specs.Io.KnownBytes.{Appends, Consumes, Keeps, IsAtEnd}
+use Rattle.std.proofs.KnownBytes.{Appends-nil, Appends-trans, Consumes-nil, Consumes-trans, Consumes-kept}
+use Rattle.std.proofs.lemmas.Bool.{cases_Bool, true≢false}
+use Rattle.std.proofs.Math.Seq.{take-append-add, take-length}
+use Rattle.mud_nvt.specs.Units.{Given, units}
+use Rattle.mud_nvt.specs.History.{StandsAfter}
+use Rattle.mud_session.specs.State.{State, DoorState, talk_of}
+use Rattle.mud_ends.specs.Ends.{Reader, Writer, unread}
+use Rattle.mud_session.specs.Session.{TakingIn, Talk, Turn, Plays, Play, text_of}
+use Rattle.mud_session.specs.Serving.{Serves, ServesInPart}
+use Rattle.mud_session.specs.Script.{heard, Script, IsWhole, IsFront, IsOpen}
+use Rattle.mud_session.proofs.Playing.{unit_of, retold, joined, text_of-append}
+
+-- a read saw the end, or did not
+pub ends_here : (at_end : Bool) (n : ℕ) (buffer : List ℕ) → at_end ≡ (n == 0 && nat_lt 0 (length buffer)) → n ≡ 0
+    → 0 < length buffer → at_end ≡ true
+ends_here at_end n buffer is none some = is ∙ grind (arith, nat_tests)
+
+pub goes_on_here : (at_end : Bool) (n : ℕ) (buffer : List ℕ)
+    → at_end ≡ (n == 0 && nat_lt 0 (length buffer)) → 0 < n → at_end ≡ false
+goes_on_here at_end n buffer is some = is ∙ grind (arith, nat_tests)
+
+-- where the script stands after some reads
+pub record Reached (takes_in : TakingIn) (start : Talk) (reader read : Reader) (held now : Option (List ℕ))
+    (state : State) (door : DoorState) : Type 0 where
+  pub bytes : List ℕ
+  pub turns : List Turn
+  pub units_are : map Some (units bytes) ≡ map unit_of turns
+  pub plays : Plays takes_in start turns (talk_of state door)
+  pub stands : StandsAfter state.terminal bytes
+  pub goes_on : state.has_ended ≡ false
+  pub out : state.out ≡ []
+  pub consumed : Consumes reader.left read.left bytes
+  pub no_end : read.at_end ≡ false
+  pub many : read.reads ≤ length bytes
+  pub written : Appends held now (text_of turns)
+
+pub reached_none : (takes_in : TakingIn) (reader : Reader) (held : Option (List ℕ)) (state : State) (door : DoorState)
+    → reader ≡ unread reader.left
+    → StandsAfter state.terminal [] → state.has_ended ≡ false → state.out ≡ []
+    → Reached takes_in (talk_of state door) reader reader held held state door
+reached_none takes_in reader held state door fresh stands goes_on out = record {
+  bytes = [];
+  turns = [];
+  units_are = refl;
+  plays = refl;
+  stands = stands;
+  goes_on = goes_on;
+  out = out;
+  consumed = Consumes-nil reader.left;
+  no_end = ap (λ (r : Reader). r.at_end) fresh;
+  many = let none : reader.reads ≡ 0 = ap (λ (r : Reader). r.reads) fresh in omega arith;
+  written = Appends-nil held;
+}
+
+-- ---- the script that was played
+heard_bytes : (r : Reader) (bytes : List ℕ) (ended : Bool) → r.at_end ≡ ended
+    → heard r bytes ≡ (if ended then bytes ++ 10 ∷ [] else bytes)
+heard_bytes r bytes ended e = ap (λ (b : Bool). if b then bytes ++ 10 ∷ [] else bytes) e
+
+-- before the end
+abbrev played : {takes_in : TakingIn} {start : Talk} {old new : Reader} {talk : Talk} (bytes : List ℕ)
+    → Consumes old.left new.left bytes → new.at_end ≡ false
+    → Play takes_in start (units bytes) talk → Script takes_in start old new
+played {new = new} {talk = talk} bytes consumed open_still play = record {
+  bytes = bytes;
+  read = consumed;
+  end = λ e. absurd (true≢false (sym e ∙ open_still));
+  talk = talk;
+  play = retold (ap units (heard_bytes new bytes false open_still)) play;
+}
+
+-- at the end
+abbrev played_out : {takes_in : TakingIn} {start : Talk} {old new : Reader} {talk : Talk} (bytes : List ℕ)
+    → Consumes old.left new.left bytes → new.at_end ≡ true → IsAtEnd new.left
+    → Play takes_in start (units (bytes ++ 10 ∷ [])) talk → Script takes_in start old new
+played_out {new = new} {talk = talk} bytes consumed ended end play = record {
+  bytes = bytes;
+  read = consumed;
+  end = λ _. end;
+  talk = talk;
+  play = retold (ap units (heard_bytes new bytes true ended)) play;
+}
+
+-- what was played so far
+abbrev so_far_play : {takes_in : TakingIn} {start : Talk} {reader read : Reader} {held now : Option (List ℕ)}
+    {state : State} {door : DoorState}
+    → (so_far : Reached takes_in start reader read held now state door)
+    → Play takes_in start (units so_far.bytes) (talk_of state door)
+so_far_play so_far = record {
+  turns = so_far.turns;
+  left = [];
+  units_are =
+      so_far.units_are ∙ sym (append-nil (map unit_of so_far.turns));
+  plays = so_far.plays;
+}
+
+-- and for more bytes
+abbrev more_play : {takes_in : TakingIn} {start : Talk} {reader read : Reader} {held now : Option (List ℕ)}
+    {state : State} {door : DoorState} {fresh : List Given} {talk : Talk}
+    → (so_far : Reached takes_in start reader read held now state door) (more : List ℕ)
+    → units (so_far.bytes ++ more) ≡ units so_far.bytes ++ fresh → Play takes_in (talk_of state door) fresh talk
+    → Play takes_in start (units (so_far.bytes ++ more)) talk
+more_play so_far more is play = retold is (joined _ so_far.turns so_far.units_are so_far.plays play)
+
+more_written : (held now later : Option (List ℕ)) (xs ys : List Turn) → Appends held now (text_of xs)
+    → Appends now later (text_of ys) → Appends held later (text_of (xs ++ ys))
+more_written held now later xs ys p q = subst (Appends held later) (sym (text_of-append xs ys))
+    (Appends-trans held now later (text_of xs) (text_of ys) p q)
+
+pub reached_more : {takes_in : TakingIn} {start : Talk} {reader read next : Reader} {held now later : Option (List ℕ)}
+    {state new : State} {door new_door : DoorState} {more : List ℕ}
+    → (so_far : Reached takes_in start reader read held now state door) → Consumes read.left next.left more
+    → next.at_end ≡ false → next.reads ≡ read.reads + 1 → 0 < length more
+    → new.has_ended ≡ false → Serves takes_in so_far.bytes more state new door new_door now later
+    → Reached takes_in start reader next held later new new_door
+reached_more {more = more} so_far consumed no_end reads some goes_on serves =
+    let play = more_play so_far more serves.units serves.play in
+    record {
+      bytes = so_far.bytes ++ more;
+      turns = play.turns;
+      units_are = play.units_are ∙ ap (λ l. map unit_of play.turns ++ map Some l) (serves.all goes_on)
+          ∙ append-nil (map unit_of play.turns);
+      plays = play.plays;
+      stands = serves.stands;
+      goes_on = goes_on;
+      out = serves.out;
+      consumed = Consumes-trans _ _ _ so_far.bytes more so_far.consumed consumed;
+      no_end = no_end;
+      many = let m = so_far.many in omega (arith, length-append so_far.bytes more);
+      written = more_written _ _ _ so_far.turns serves.play.turns so_far.written serves.written;
+    }
+
+-- an answered `quit`
+pub whole_at_quit : {takes_in : TakingIn} {start : Talk} {reader read next : Reader} {writer written : Writer}
+    {now : Option (List ℕ)} {state new : State} {door new_door : DoorState} {more : List ℕ}
+    → (so_far : Reached takes_in start reader read writer.holds now state door) → Consumes read.left next.left more
+    → next.at_end ≡ false → new.has_ended ≡ true
+    → Serves takes_in so_far.bytes more state new door new_door now written.holds
+    → IsWhole takes_in start reader next writer written
+whole_at_quit {more = more} so_far consumed no_end over serves = record {
+  script = played (so_far.bytes ++ more) (Consumes-trans _ _ _ so_far.bytes more so_far.consumed consumed) no_end
+      (more_play so_far more serves.units serves.play);
+  writes = more_written _ _ _ so_far.turns serves.play.turns so_far.written serves.written;
+  done = inr over;
+}
+
+-- the end of the input, and the last line
+pub whole_at_end : {takes_in : TakingIn} {start : Talk} {reader read next : Reader} {writer written : Writer}
+    {now : Option (List ℕ)} {state new : State} {door new_door : DoorState}
+    → (so_far : Reached takes_in start reader read writer.holds now state door) → Consumes read.left next.left []
+    → next.at_end ≡ true → IsAtEnd next.left
+    → Serves takes_in so_far.bytes (10 ∷ []) state new door new_door now written.holds
+    → IsWhole takes_in start reader next writer written
+whole_at_end {new = new} so_far consumed ended end serves = record {
+  script = played_out so_far.bytes (rw append-nil at (Consumes-trans _ _ _ so_far.bytes [] so_far.consumed consumed))
+      ended end (more_play so_far (10 ∷ []) serves.units serves.play);
+  writes = more_written _ _ _ so_far.turns serves.play.turns so_far.written serves.written;
+  done = elim (cases_Bool new.has_ended) [
+    | inl e ↦ inr e
+    | inr e ↦ inl (ended, serves.all e)
+  ];
+}
+
+-- ---- fronts
+more_front : (held now later : Option (List ℕ)) (xs ys : List Turn) (n : ℕ) → Appends held now (text_of xs)
+    → Appends now later (take n (text_of ys))
+    → Appends held later (take (length (text_of xs) + n) (text_of (xs ++ ys)))
+more_front held now later xs ys n p q =
+    subst (Appends held later)
+    (sym (ap (take (length (text_of xs) + n)) (text_of-append xs ys) ∙ take-append-add (text_of xs) (text_of ys) n))
+    (Appends-trans held now later (text_of xs) (take n (text_of ys)) p q)
+
+-- where no door could be opened
+pub front_at_start : (takes_in : TakingIn) (start : Talk) (reader : Reader) (writer : Writer)
+    → reader ≡ unread reader.left → IsFront takes_in start reader reader writer writer
+front_at_start takes_in start reader writer fresh = record {
+  script = played [] (Consumes-nil reader.left) (ap (λ (r : Reader). r.at_end) fresh)
+      (record { turns = []; left = units []; units_are = refl; plays = refl });
+  count = 0;
+  writes = Appends-nil writer.holds;
+}
+
+-- where a read fails, or too many came
+pub front_so_far : {takes_in : TakingIn} {start : Talk} {reader read next : Reader} {writer written : Writer}
+    {state : State} {door : DoorState}
+    → Reached takes_in start reader read writer.holds written.holds state door → Keeps read.left next.left
+    → next.at_end ≡ false → IsFront takes_in start reader next writer written
+front_so_far {writer = writer} {written = written} so_far kept no_end = record {
+  script = played so_far.bytes (Consumes-kept _ _ _ so_far.bytes so_far.consumed kept) no_end (so_far_play so_far);
+  count = length (text_of so_far.turns);
+  writes = subst (Appends writer.holds written.holds) (sym (take-length (text_of so_far.turns))) so_far.written;
+}
+
+-- where the session fails, or a write
+pub front_served : {takes_in : TakingIn} {start : Talk} {reader read next : Reader} {writer written : Writer}
+    {now : Option (List ℕ)} {state : State} {door : DoorState} {more : List ℕ}
+    → (so_far : Reached takes_in start reader read writer.holds now state door)
+    → Consumes read.left next.left more → next.at_end ≡ false
+    → ServesInPart takes_in so_far.bytes more state door now written.holds
+    → IsFront takes_in start reader next writer written
+front_served {more = more} so_far consumed no_end part = record {
+  script = played (so_far.bytes ++ more) (Consumes-trans _ _ _ so_far.bytes more so_far.consumed consumed) no_end
+      (more_play so_far more part.units part.play);
+  count = length (text_of so_far.turns) + part.count;
+  writes = more_front _ _ _ so_far.turns part.play.turns part.count so_far.written part.written;
+}
+
+-- the same at the end of the input, in the last line
+pub front_at_end : {takes_in : TakingIn} {start : Talk} {reader read next : Reader} {writer written : Writer}
+    {now : Option (List ℕ)} {state : State} {door : DoorState}
+    → (so_far : Reached takes_in start reader read writer.holds now state door) → Consumes read.left next.left []
+    → next.at_end ≡ true → IsAtEnd next.left
+    → ServesInPart takes_in so_far.bytes (10 ∷ []) state door now written.holds
+    → IsFront takes_in start reader next writer written
+front_at_end so_far consumed ended end part = record {
+  script = played_out so_far.bytes (rw append-nil at (Consumes-trans _ _ _ so_far.bytes [] so_far.consumed consumed))
+      ended end (more_play so_far (10 ∷ []) part.units part.play);
+  count = length (text_of so_far.turns) + part.count;
+  writes = more_front _ _ _ so_far.turns part.play.turns part.count so_far.written part.written;
+}
+
+-- it goes on
+pub is_open : {takes_in : TakingIn} {start : Talk} {reader read : Reader} {writer written : Writer}
+    {state : State} {door : DoorState}
+    → Reached takes_in start reader read writer.holds written.holds state door
+    → IsOpen takes_in start reader read writer written
+is_open so_far = record {
+  script = played so_far.bytes so_far.consumed so_far.no_end (so_far_play so_far);
+  writes = so_far.written;
+  all = refl;
+  goes_on = so_far.goes_on;
+  no_end = so_far.no_end;
+  many = so_far.many;
+}

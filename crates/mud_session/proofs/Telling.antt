@@ -1,0 +1,109 @@
+-- What others did is told once.
+use Rattle.std.proofs.Common.{◌≡◌, ℕ, Bool, true, false, List, [], ◌∷◌, ◌++◌, Option, Some, None, refl, sym, ap, ◌∙◌}
+use Rattle.std.proofs.Common.{append_assoc, inl, inr}
+use Rattle.std.specs.Prelude.{◌⊎◌, MatchBool}
+use Rattle.std.proofs.lemmas.List.{append-nil}
+use Rattle.mud_words.specs.Parse.{parsed}
+use Rattle.mud_words.specs.Words.{is_blank}
+use Rattle.mud_nvt.specs.Units.{Given, Text, TooLong, Ayt, Answer}
+use Rattle.mud_rules.specs.Table.{is_question}
+use Rattle.mud_chron.specs.Entry.{Accepted as Entry}
+use Rattle.mud_hall.specs.declared.fault.Fault.TheVariants.{OutOfMemory, HistoryFull, Unpublished, DesksFull}
+use Rattle.mud_hall.specs.Desk.{DeskState, TakesIn}
+use Rattle.mud_hall.specs.Replies.{Reply, Accepted, Became, Refused, Question, Failed, Replies}
+use Rattle.mud_session.specs.Session.{Talk, Said, Turn, Does, Rests, Tells, Looks, IsActed, IsAsked, IsAnswered}
+use Rattle.mud_session.specs.Laws.{IsToldOnce, NoticesAreToldOnce}
+
+-- the desk made an entry itself, or none, and is told nothing of it
+record Adds (old new : DeskState) : Type 0 where
+  own : List Entry
+  seen : new.seen ≡ old.seen ++ own
+  mine : (own ≡ []) ⊎ ((e : Entry) × (own ≡ e ∷ []) × (e.desk ≡ old.number))
+  told : new.told ≡ old.told
+
+adds-none : (old new : DeskState) → new.seen ≡ old.seen → new.told ≡ old.told → Adds old new
+adds-none old new seen told = record { own = []; seen = seen ∙ sym (append-nil old.seen); mine = inl refl; told = told }
+
+adds-same : (old new : DeskState) → new ≡ old → Adds old new
+adds-same old new same = adds-none old new (ap (λ (d : DeskState). d.seen) same) (ap (λ (d : DeskState). d.told) same)
+
+replies-add : (capacity : ℕ) (old : DeskState) (line : List ℕ) (reply : Reply) (new : DeskState)
+    → Replies capacity old line reply new → Adds old new
+replies-add capacity old line (Accepted v text) new h =
+    let entry : Entry = record { desk = old.number; change = h.change } in
+    let is = h.stores.3 in
+    record {
+      own = entry ∷ [];
+      seen = ap (λ (d : DeskState). d.seen) is;
+      mine = inr (entry, refl, refl);
+      told = ap (λ (d : DeskState). d.told) is;
+    }
+replies-add capacity old line (Became v text) new h =
+    adds-none old new (ap (λ (d : DeskState). d.seen) h.4) (ap (λ (d : DeskState). d.told) h.4)
+replies-add capacity old line (Refused v refusal text) new h = adds-same old new h.3
+replies-add capacity old line (Question v) new h = adds-same old new h.3
+replies-add capacity old line (Failed HistoryFull) new h = adds-same old new h.stores.1
+replies-add capacity old line (Failed Unpublished) new h = adds-same old new h.stores.1
+replies-add capacity old line (Failed OutOfMemory) new h = adds-same old new h
+replies-add capacity old line (Failed DesksFull) new h = absurd h
+
+-- entries are taken in, perhaps one is made, and some of what the desk was told is sent
+told : (old ready acted new : DeskState) (lines : List (List ℕ)) → TakesIn old ready → Adds ready acted
+    → Tells acted lines new → IsToldOnce old lines new
+told old ready acted new lines takes adds tells = record {
+  others = takes.entries;
+  own = adds.own;
+  seen = ap (λ (d : DeskState). d.seen) tells.is ∙ adds.seen ∙ ap (λ (d : DeskState). d.seen ++ adds.own) takes.is
+      ∙ append_assoc old.seen takes.entries adds.own;
+  mine = elim adds.mine [
+    | inl none ↦ inl none
+    | inr one ↦ inr (one.0, one.1, one.2 ∙ ap (λ (d : DeskState). d.number) takes.is)
+  ];
+  told = sym (ap (λ (d : DeskState). d.told) takes.is) ∙ sym adds.told ∙ tells.told;
+}
+
+looked : (old new : DeskState) (lines : List (List ℕ)) → Looks TakesIn old lines new → IsToldOnce old lines new
+looked old new lines looks = told old looks.ready looks.ready new lines looks.takes
+    (adds-same looks.ready looks.ready refl) looks.tells
+
+acted : (old new : Talk) (line : List ℕ) (lines : List (List ℕ)) (said : Said) → IsActed TakesIn old line lines said new
+    → IsToldOnce old.desk lines new.desk
+acted old new line lines said acts =
+    told old.desk acts.ready acts.acted new.desk lines acts.takes
+    (replies-add old.capacity acts.ready line acts.reply acts.acted acts.replies) acts.tells
+
+answered : (old new : Talk) (line : List ℕ) (lines : List (List ℕ)) (said : Option Said)
+    → IsAnswered TakesIn old line lines said new → IsToldOnce old.desk lines new.desk
+answered old new line lines None looks = looked old.desk new.desk lines looks
+answered old new line lines (Some said) is = go (is_question (parsed line)) is
+  where
+    go : (b : Bool) → MatchBool b (IsAsked TakesIn old line lines said new) (IsActed TakesIn old line lines said new)
+        → IsToldOnce old.desk lines new.desk
+    go true asks = looked old.desk new.desk lines asks.looks
+    go false acts = acted old new line lines said acts
+
+rested : (old new : Talk) (turn : Turn) → Rests old turn new → IsToldOnce old.desk turn.notices new.desk
+rested old new turn rests = record {
+  others = [];
+  own = [];
+  seen = ap (λ (d : DeskState). d.seen) rests.desk ∙ sym (append-nil old.desk.seen);
+  mine = inl refl;
+  told = append-nil old.desk.told ∙ sym (ap (λ (d : DeskState). d.told) rests.desk)
+      ∙ ap (λ (l : List (List ℕ)). l ++ new.desk.told) (sym rests.notices);
+}
+
+turned : (old new : Talk) (turn : Turn) (unit : Option Given) → Does TakesIn old turn new unit
+    → IsToldOnce old.desk turn.notices new.desk
+turned old new turn None does = looked old.desk new.desk turn.notices does.0
+turned old new turn (Some TooLong) does = rested old new turn does
+turned old new turn (Some Ayt) does = rested old new turn does
+turned old new turn (Some (Answer bytes)) does = rested old new turn does
+turned old new turn (Some (Text line)) does = go (is_blank line) does
+  where
+    go : (b : Bool) → MatchBool b (Rests old turn new) (IsAnswered TakesIn old line turn.notices turn.reply new)
+        → IsToldOnce old.desk turn.notices new.desk
+    go true rests = rested old new turn rests
+    go false is = answered old new line turn.notices turn.reply is
+
+pub told_once : NoticesAreToldOnce
+told_once old new turn takes = turned old new turn turn.unit takes.does

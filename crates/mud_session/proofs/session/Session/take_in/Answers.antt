@@ -1,0 +1,34 @@
+use Rattle.std.proofs.Common.{◌++◌, arith, refl, sym, ap, subst, ◌∙◌}
+use Rattle.std.proofs.lemmas.List.{take_all}
+use Rattle.mud_nvt.specs.Shown.{all_shown}
+use Rattle.mud_nvt.specs.History.{StandsAfter}
+use Rattle.mud_session.specs.State.{State}
+use Rattle.mud_session.proofs.Taking.{SoFar-none, SoFar-more, Feeds-from}
+use Rattle.mud_session.proofs.session.Session.take_in.Goals as goal
+
+pub loop-unit-init : goal.loop-unit-init
+loop-unit-init g c = record { so_far = SoFar-none g.D.Door.takes_in _ _; capacity = refl }
+
+pub loop-unit-preserved : goal.loop-unit-preserved
+loop-unit-preserved g c =
+    record {
+      so_far = SoFar-more g.D.Door.takes_in c.deref-unit-items.result.now c.loop-unit.unit-index c.unit-item.result
+          _ _ _ _ _ _ (omega arith) c.unit-item.is c.loop-unit.invariant.so_far
+          c.answer.ensures.over c.in_ok-answer.ensures.turn;
+      capacity = c.answer.ensures.capacity ∙ c.loop-unit.invariant.capacity;
+    }
+
+pub returns-clause-feeds : goal.returns-clause-feeds
+returns-clause-feeds g c = λ earlier stands.
+    let took = c.in-Ok.ensures.ok in
+    let begun = subst (λ (s : State). StandsAfter s.terminal earlier) (sym c.self.view_is) stands in
+    let grows = took.grows earlier begun in
+    Feeds-from g.D.Door.takes_in earlier c.args.bytes.now c.args.self.now
+    (record { terminal = c.feed.new.self; has_ended = c.self.inside.has_ended; out = c.self.inside.out.items })
+    c.loop-unit.self _ _ _ grows.fresh
+    (took.stands earlier begun) grows.there
+    (ap all_shown (take_all c.loop-unit.unit-index c.deref-unit-items.result.now (omega arith)
+    ∙ c.deref-unit-items.ensures.value) ∙ grows.here
+    ∙ ap (λ l. all_shown l ++ grows.fresh) c.new-units.ensures.items)
+    (ap (λ (s : State). s.has_ended) c.self.view_is)
+    (ap (λ (s : State). s.out) c.self.view_is) c.loop-unit.invariant.so_far

@@ -1,0 +1,139 @@
+//! A session over a reader and a writer.
+
+ghost use Rattle.std.specs.Prelude.{◌≡◌, ℕ, ◌≤◌, ◌⊎◌, [], true, false, List, OnOk, OnErr, IfErr};
+ghost use Rattle.mud_nvt.specs.History.{StandsAfter};
+ghost use Rattle.mud_ends.specs.Ends.{unread, unwritten};
+ghost use Rattle.mud_session.specs.Session.{TakesNone};
+ghost use Rattle.mud_session.specs.State.{talk_of};
+ghost use Rattle.mud_session.specs.Script.{begins, IsWhole, IsFront, IsOpen};
+ghost use Rattle.mud_session.specs.Serving.{Serves, ServesInPart};
+
+use crate::door::Door;
+use crate::session::Session;
+use mud_ends::{MAX_READS, Sink, Source};
+use mud_hall::Solo;
+use std::alloc::Global;
+use std::io::{Read, Write};
+use std::sync::Wait;
+use std::thread::Threads;
+use thiserror::Error;
+
+/// Why a script stopped before its end.
+#[derive(Clone, Copy, Debug, PartialEq, Eq, Error)]
+pub enum ScriptFault {
+    #[error("out of memory")]
+    OutOfMemory,
+    #[error("read fault")]
+    Read,
+    #[error("write fault")]
+    Write,
+    #[error("too many reads")]
+    TooManyReads,
+}
+
+const BUFFER_LEN: usize = 4096;
+
+/// Answers the lines of a reader at a desk of its own, whose history holds at most `capacity` entries,
+/// 1 to 65,536, up to the reader's end or to an answered `quit`. Behind the reader's end comes one more
+/// line feed. After a fault what was written is a front of the text of what was read. The number of
+/// workers, 0 to 8, has no effect yet: it is for questions whose answers are searched for by several
+/// workers.
+pub fn script<X: Threads + Wait + Sync, R: Read, W: Write>(
+    rt: &X,
+    alloc: Global,
+    source: &mut Source<R>,
+    sink: &mut Sink<W>,
+    capacity: u32,
+    _workers: u32,
+) -> Result<(), ScriptFault>
+    requires fresh { source.old ≡ unread source.old.left }
+    requires unwritten { sink.old ≡ unwritten sink.old.holds }
+    requires capacity { capacity ≤ 65536 }
+    ensures ok { OnOk result (IsWhole TakesNone (begins capacity) source.old source.new sink.old sink.new) }
+    ensures fault { OnErr result (IsFront TakesNone (begins capacity) source.old source.new sink.old sink.new) }
+    ensures reads { source.new.reads ≤ MAX_READS }
+    ensures read { result ≡ Err ScriptFault.Read → source.new.has_failed ≡ true }
+    ensures write { result ≡ Err ScriptFault.Write → sink.new.has_failed ≡ true }
+    ensures many { result ≡ Err ScriptFault.TooManyReads → source.new.reads ≡ MAX_READS }
+    ensures open { result ≡ Err ScriptFault.TooManyReads
+        → IsOpen TakesNone (begins capacity) source.old source.new sink.old sink.new }
+{
+    let mut solo = match Solo::open(alloc, capacity) {
+        Ok(solo) => solo,
+        Err(_) => return Err(ScriptFault::OutOfMemory),
+    };
+    let mut session = match Session::new(alloc, false) {
+        Ok(session) => session,
+        Err(_) => return Err(ScriptFault::OutOfMemory),
+    };
+    converse(rt, &mut session, &mut solo, source, sink)
+}
+
+// Answers the lines of a reader at a door.
+fn converse<X: Threads + Wait + Sync, D: Door, R: Read, W: Write>(
+    rt: &X,
+    session: &mut Session,
+    door: &mut D,
+    source: &mut Source<R>,
+    sink: &mut Sink<W>,
+) -> Result<(), ScriptFault>
+    requires terminal { StandsAfter session.old.terminal [] }
+    requires goes_on { session.old.has_ended ≡ false }
+    requires sent { session.old.out ≡ [] }
+    requires fresh { source.old ≡ unread source.old.left }
+    ensures ok { OnOk result (IsWhole D.takes_in (talk_of session.old (D.state door.old))
+        source.old source.new sink.old sink.new) }
+    ensures fault { OnErr result (IsFront D.takes_in (talk_of session.old (D.state door.old))
+        source.old source.new sink.old sink.new) }
+    ensures reads { source.new.reads ≤ MAX_READS }
+    ensures read { result ≡ Err ScriptFault.Read → source.new.has_failed ≡ true }
+    ensures write { result ≡ Err ScriptFault.Write → sink.new.has_failed ≡ true }
+    ensures many { result ≡ Err ScriptFault.TooManyReads → source.new.reads ≡ MAX_READS }
+    ensures open { result ≡ Err ScriptFault.TooManyReads
+        → IsOpen D.takes_in (talk_of session.old (D.state door.old)) source.old source.new sink.old sink.new }
+{
+    let mut buffer = [0u8; BUFFER_LEN];
+    for _reads in 0..MAX_READS {
+        let n = match source.read(&mut buffer) {
+            Ok(n) => n,
+            Err(_) => return Err(ScriptFault::Read),
+        };
+        if n == 0 {
+            return serve(rt, session, door, sink, b"\n");
+        }
+        serve(rt, session, door, sink, &buffer[..n])?;
+        if session.ended() {
+            return Ok(());
+        }
+    }
+    Err(ScriptFault::TooManyReads)
+}
+
+// Gives the bytes to the session, and writes what it sends.
+fn serve<X: Threads + Wait + Sync, D: Door, W: Write>(
+    rt: &X,
+    session: &mut Session,
+    door: &mut D,
+    sink: &mut Sink<W>,
+    bytes: &[u8],
+) -> Result<(), ScriptFault>
+    requires sent { session.old.out ≡ [] }
+    ensures ok { OnOk result ((earlier : List ℕ) → StandsAfter session.old.terminal earlier
+        → Serves D.takes_in earlier bytes.now session.old session.new (D.state door.old) (D.state door.new)
+        sink.old.holds sink.new.holds) }
+    ensures fault { OnErr result ((earlier : List ℕ) → StandsAfter session.old.terminal earlier
+        → ServesInPart D.takes_in earlier bytes.now session.old (D.state door.old) sink.old.holds sink.new.holds) }
+    ensures cause { IfErr result (λ fault. (fault ≡ ScriptFault.OutOfMemory)
+        ⊎ ((fault ≡ ScriptFault.Write) × (sink.new.has_failed ≡ true))) }
+{
+    match session.feed(rt, door, bytes) {
+        Ok(()) => {}
+        Err(_) => return Err(ScriptFault::OutOfMemory),
+    }
+    let text = session.take_out();
+    if sink.write_all(text.as_slice()) {
+        Ok(())
+    } else {
+        Err(ScriptFault::Write)
+    }
+}

@@ -1,0 +1,98 @@
+//! A desk of a hall as a door.
+
+ghost use Rattle.std.specs.Prelude.{◌≡◌, ◌≤◌, length};
+ghost use Rattle.mud_hall.specs.Desk.{untold};
+
+use crate::door::Door;
+use mud_guide::Answer;
+use mud_hall::{Desk, Fault, Hall, HallName, Reply};
+use std::marker::Model;
+use std::sync::Wait;
+use std::thread::Threads;
+
+/// A desk, with its hall. A contract sees how many entries the history can have, the desk, and what
+/// the desk is not told yet.
+#[derive(Drop)]
+pub struct Seat<'h, J: HallName> {
+    hall: &'h Hall<J>,
+    desk: Desk<J>,
+    workers: u32,
+}
+
+impl<'h, J: HallName> Model for Seat<'h, J> {
+    ghost use Rattle.std.specs.Prelude.{◌≤◌, length};
+    ghost use Rattle.mud_hall.specs.Desk.{untold};
+    ghost use Rattle.mud_session.specs.State.{DoorState};
+
+    ghost Value = { DoorState };
+
+    ghost use Rattle.mud_key.specs.TreeCode.{coded_number_tree};
+    ghost use Rattle.std.specs.Coded.{codes};
+
+    ghost coded = { Prim.hlevel (codes, coded_number_tree) };
+
+    ghost view = { λ s. record { capacity = length J.cells; desk = s.desk.state; untold = untold s.desk } };
+
+    ghost invariant = { λ s. s.workers ≤ 8 };
+}
+
+impl<'h, J: HallName> Seat<'h, J> {
+    /// The desk at its hall. The number of workers, 0 to 8, has no effect yet: it is for questions
+    /// whose answers are searched for by several workers.
+    pub fn new(hall: &'h Hall<J>, desk: Desk<J>, workers: u32) -> Seat<'h, J>
+        requires { workers ≤ 8 }
+        ensures { result ≡ record { capacity = length J.cells; desk = desk.state; untold = untold desk } }
+    {
+        Seat {
+            hall,
+            desk,
+            workers,
+        }
+    }
+
+    /// The number of the desk in its hall.
+    pub fn number(&self) -> u32
+        ensures { result ≡ self.now.desk.number }
+    {
+        self.desk.number()
+    }
+
+    /// How many changes were accepted at the desk.
+    pub fn accepted(&self) -> usize
+        ensures { result ≡ length self.now.desk.calls }
+    {
+        self.desk.accepted()
+    }
+
+    /// The desk as it is.
+    pub fn into_desk(self) -> Desk<J>
+        ensures state { result.state ≡ self.entry.desk }
+        ensures told { untold result ≡ self.entry.untold }
+    {
+        self.desk
+    }
+}
+
+impl<'h, J: HallName> Door for Seat<'h, J> {
+    ghost use Rattle.mud_hall.specs.Desk.{TakesIn};
+
+    ghost state = { λ seat. seat };
+
+    ghost takes_in = { TakesIn };
+
+    fn act<X: Threads + Wait + Sync>(&mut self, rt: &X, line: &str) -> Result<Reply, Fault> {
+        self.hall.act(rt, &mut self.desk, line)
+    }
+
+    fn see(&mut self) -> Result<(), Fault> {
+        self.desk.see(self.hall)
+    }
+
+    fn ask<X: Threads + Wait + Sync>(&mut self, _rt: &X, line: &str) -> Result<Answer, Fault> {
+        self.desk.ask(self.hall, line)
+    }
+
+    fn take_told(&mut self) -> Vec<String> {
+        self.desk.take_told()
+    }
+}

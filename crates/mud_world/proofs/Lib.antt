@@ -1,10 +1,12 @@
 pub mod Places
 pub mod Records
 pub mod Moving
+pub mod Slotted
 pub mod Begun
 pub mod Listing
 pub mod Containing
 pub mod Reaching
+pub mod Shaping
 pub mod Numbering
 pub mod Relocating
 pub mod Going
@@ -28,11 +30,6 @@ pub mod Nested
 pub mod Least
 pub mod Sounding
 pub mod Histories
+pub mod Halving
 pub mod Players
-pub mod Owned
-pub mod Holders
-pub mod Needed
-pub mod Kept
-pub mod Asking
-pub mod Climbing
 pub mod Worlds

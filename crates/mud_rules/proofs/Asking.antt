@@ -98,7 +98,7 @@ asks-command w p l verb.Look =
     let named = object_named w p (joined (looked_at l.args)) in
     let shown : ℕ → Verdict = λ x. verdict.Ask (query.View (LookAt x)) in
     asks-either true (is_empty l.args) (verdict.Ask (query.View Look)) (on_found named shown) refl
-        (asks-found true named shown (λ x. refl))
+    (asks-found true named shown (λ x. refl))
 asks-command w p l verb.Inventory = asks-shaped true (is_empty l.args) (verdict.Ask (query.View Inventory)) refl
 asks-command w p l verb.Go = asks-found false _ _ (λ x. asks-does false w p _ _)
 asks-command w p l verb.Take = asks-found false _ _ (λ x. asks-does false w p _ _)
@@ -109,10 +109,10 @@ asks-command w p l verb.Say = asks-does false w p _ _
 asks-command w p l verb.Emote = asks-does false w p _ _
 asks-command w p l verb.Dig =
     asks-either false (is_none l.prep) (on_found (text_behind l) (dig_room w p))
-        (shaped (is_pair To l && not (has_empty_side l.direct)) (dig_exits w p l.direct l.indirect))
-        (asks-found false (text_behind l) (dig_room w p) (λ x. asks-does false w p _ _))
-        (asks-shaped false (is_pair To l && not (has_empty_side l.direct)) (dig_exits w p l.direct l.indirect)
-            (asks-does false w p _ _))
+    (shaped (is_pair To l && not (has_empty_side l.direct)) (dig_exits w p l.direct l.indirect))
+    (asks-found false (text_behind l) (dig_room w p) (λ x. asks-does false w p _ _))
+    (asks-shaped false (is_pair To l && not (has_empty_side l.direct)) (dig_exits w p l.direct l.indirect)
+    (asks-does false w p _ _))
 asks-command w p l verb.Create = asks-found false _ _ (λ x. asks-does false w p _ _)
 asks-command w p l verb.Lock = asks-found false _ _ (λ x. asks-does false w p _ _)
 asks-command w p l verb.Unlock = asks-found false _ _ (λ x. asks-does false w p _ _)
@@ -187,12 +187,79 @@ none e word = absurd (true≢false (sym e))
 
 -- each word of a verb that asks is one of a question
 listed : AllByRecursion IsListed verbs
-listed =
-    (λ e. none e _, (λ e. (0, refl), (λ e. (1, refl), (λ e. (2, refl), (λ e. (3, refl), (λ e. (4, refl),
-    (λ e. none e _, (λ e. none e _, (λ e. none e _, (λ e. none e _, (λ e. none e _, (λ e. none e _,
-    (λ e. none e _, (λ e. none e _, (λ e. none e _, (λ e. none e _, (λ e. none e _, (λ e. none e _,
-    (λ e. (5, refl), (λ e. none e _, (λ e. none e _, (λ e. none e _, (λ e. (6, refl), (λ e. (7, refl),
-    (λ e. (8, refl), (λ e. (9, refl), (λ e. (10, refl), (λ e. (11, refl), tt))))))))))))))))))))))))))))
+listed = (
+  λ e. none e _,
+  (
+    λ e. (0, refl),
+    (
+      λ e. (1, refl),
+      (
+        λ e. (2, refl),
+        (
+          λ e. (3, refl),
+          (
+            λ e. (4, refl),
+            (
+              λ e. none e _,
+              (
+                λ e. none e _,
+                (
+                  λ e. none e _,
+                  (
+                    λ e. none e _,
+                    (
+                      λ e. none e _,
+                      (
+                        λ e. none e _,
+                        (
+                          λ e. none e _,
+                          (
+                            λ e. none e _,
+                            (
+                              λ e. none e _,
+                              (
+                                λ e. none e _,
+                                (
+                                  λ e. none e _,
+                                  (
+                                    λ e. none e _,
+                                    (
+                                      λ e. (5, refl),
+                                      (
+                                        λ e. none e _,
+                                        (
+                                          λ e. none e _,
+                                          (
+                                            λ e. none e _,
+                                            (
+                                              λ e. (6, refl),
+                                              (
+                                                λ e. (7, refl),
+                                                (λ e. (8, refl), (λ e. (9, refl), (λ e. (10, refl), (λ e. (11, refl), tt)))),
+                                              ),
+                                            ),
+                                          ),
+                                        ),
+                                      ),
+                                    ),
+                                  ),
+                                ),
+                              ),
+                            ),
+                          ),
+                        ),
+                      ),
+                    ),
+                  ),
+                ),
+              ),
+            ),
+          ),
+        ),
+      ),
+    ),
+  ),
+)
 
 or_true : (b : Bool) → (b || true) ≡ true
 or_true true = refl
@@ -223,5 +290,5 @@ pub are_questions : AreQuestions
 unfolding verb_named
 are_questions w player l q is =
     let asked : AsksIf (option_map_or asks (verb_named l.verb) false) (verdict.Ask q) =
-            subst (AsksIf (option_map_or asks (verb_named l.verb) false)) is (asks-decision w player l) in
+    subst (AsksIf (option_map_or asks (verb_named l.verb) false)) is (asks-decision w player l) in
     named-asks (str_eq_ignore_ascii_case l.verb) verbs listed asked

@@ -8,3 +8,4 @@ mod Party
 mod Replies
 mod Rising
 pub mod Single
+pub mod Walked

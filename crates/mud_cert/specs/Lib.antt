@@ -1,3 +1,4 @@
+pub mod Places
 pub mod Certificate
 pub mod Lookup
 pub mod Ways

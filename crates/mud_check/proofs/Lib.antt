@@ -1,4 +1,5 @@
 mod Parting
 mod Trials
 mod Pushing
+mod Cutting
 mod Telling

@@ -1,8 +1,8 @@
 //! What is found of two texts.
 
 ghost use Rattle.std.specs.Prelude.{◌≡◌, ◌≢◌, ◌≤◌, length, IfOk, IfErr};
-ghost use Rattle.mud_chron.specs.Replay.{changes_of, world_at, AreLegal};
-ghost use Rattle.mud_cert.specs.Finding.{IsHistory, IsUnfit, IsTried, IsFinding};
+ghost use Rattle.mud_chron.specs.Replay.{changes_of, AreLegal};
+ghost use Rattle.mud_cert.specs.Finding.{world_at, IsHistory, IsUnfit, IsTried, IsFinding};
 
 use crate::line_ends::without_returns;
 use mud_cert::{Cert, CertFault, Doubt, Finding, check, read};
@@ -60,8 +60,7 @@ fn tried(alloc: Global, entries: &[Entry], cert: &Cert) -> Result<Finding, Alloc
 /// the world of its version. Only want of memory is an error.
 pub fn finding_of(alloc: Global, history: &[u8], proof: &[u8]) -> Result<Finding, AllocError>
     ensures finding { IfOk result (IsFinding history.now proof.now) }
-    ensures accepted { IfOk result
-        (λ finding. finding ≡ Finding.Accepted → IsFinding history.now proof.now Finding.Accepted) }
+    ensures accepted { IfOk result (λ finding. finding ≡ Finding.Accepted → IsFinding history.now proof.now Finding.Accepted) }
 {
     let history = without_returns(alloc, history)?;
     let proof = without_returns(alloc, proof)?;

@@ -1,7 +1,6 @@
 mod Grown
 mod Reader
 mod Cutting
-pub mod Lined
 mod Digits
 mod Spelled
 mod Again

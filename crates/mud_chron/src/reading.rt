@@ -9,7 +9,6 @@ use crate::entry::Entry;
 use crate::fault::ChronFault;
 use crate::format::Format;
 use crate::line::{Line, line_of};
-use memchr::memchr;
 use std::alloc::Global;
 
 // The most entries of a history.
@@ -20,11 +19,12 @@ fn cut_line(bytes: &[u8]) -> Option<(&[u8], &[u8])>
     ensures { MatchOption result (HasNoLineFeed bytes.now)
         (λ p. HasNoLineFeed p.0.now × (bytes.now ≡ p.0.now ++ line_feed ++ p.1.now)) }
 {
-    let Some(at) = memchr(b'\n', bytes) else {
-        return None;
-    };
-    let (line, ended) = bytes.split_at(at);
-    Some((line, &ended[1..]))
+    for (i, byte) in bytes.iter().enumerate() {
+        if *byte == b'\n' {
+            return Some((&bytes[..i], &bytes[i + 1..]));
+        }
+    }
+    None
 }
 
 // The format by the first line, and what stands behind it.

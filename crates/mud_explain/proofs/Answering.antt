@@ -13,8 +13,7 @@ goes_on-none Says input later answers = answers
 
 -- one more line is answered
 pub goes_on-next : (Says : List ℕ → List ℕ → Type 0) (input rest line behind old new : List ℕ)
-    → GoesOn Says input rest old → IsLine line → rest ≡ line ++ 10 ∷ behind → AnswersOne Says line old new
-    → GoesOn Says input behind new
+    → GoesOn Says input rest old → IsLine line → rest ≡ line ++ 10 ∷ behind → AnswersOne Says line old new → GoesOn Says input behind new
 goes_on-next Says input rest line behind old new on whole cut one later answers =
     let P : List ℕ → Type 0 = λ r. Answers Says r (one.answer ++ 10 ∷ later) in
     let here : Answers Says rest (one.answer ++ 10 ∷ later) = subst P (sym cut) (next whole one.says answers) in
@@ -25,8 +24,7 @@ goes_on-next Says input rest line behind old new on whole cut one later answers 
     subst Q shape (on (one.answer ++ 10 ∷ later) here)
 
 -- all lines were ended
-pub goes_on-end : (Says : List ℕ → List ℕ → Type 0) (input rest out : List ℕ) → GoesOn Says input rest out → rest ≡ []
-    → Answers Says input out
+pub goes_on-end : (Says : List ℕ → List ℕ → Type 0) (input rest out : List ℕ) → GoesOn Says input rest out → rest ≡ [] → Answers Says input out
 goes_on-end Says input rest out on empty =
     let P : List ℕ → Type 0 = λ r. Answers Says r [] in
     let Q : List ℕ → Type 0 = λ o. Answers Says input o in

@@ -1,3 +1,4 @@
 pub mod Handing
 pub mod Answering
+pub mod Cutting
 pub mod Writing

@@ -12,14 +12,17 @@ mod lines;
 mod listed;
 mod opened;
 mod play;
+mod sink;
+mod source;
 mod step;
 mod told;
 mod units;
 
 use crate::explain::{ExplainFault, explain};
 use crate::hall::explain_hall;
+use crate::sink::Sink;
+use crate::source::Source;
 use mud_command::{CommandFault, Task, show, task_of, words_of};
-use mud_ends::{Sink, Source};
 use std::io::{self, Eprint};
 use std::process::ExitCode;
 use std::rt::Runtime;

@@ -8,4 +8,3 @@ mod Party
 mod Replies
 mod Rising
 pub mod Single
-pub mod Walked

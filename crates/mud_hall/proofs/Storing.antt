@@ -19,8 +19,7 @@ use Rattle.mud_rules.specs.Outcome.{IsActor}
 use Rattle.mud_chron.specs.Entry.{Accepted}
 use Rattle.mud_chron.specs.Replay.{changes_of}
 use Rattle.std.proofs.lemmas.List.{map_push}
-use Rattle.mud_chron.specs.Replay.{world_at}
-use Rattle.mud_row.specs.Known.{Standing}
+use Rattle.mud_row.specs.Known.{Standing, world_at}
 use Rattle.mud_hall.specs.declared.reply.Reply.{Reply as Returned}
 use Rattle.mud_hall.specs.declared.fault.Fault.{Fault}
 use Rattle.mud_hall.specs.declared.fault.Fault.TheVariants.{OutOfMemory}

@@ -3,8 +3,9 @@ use Rattle.std.specs.Prelude.{ℕ, length, ◌≤◌, All}
 use Rattle.mud_nvt.specs.declared.TheConstants.{MOST}
 use Rattle.mud_nvt.specs.declared.codes.TheConstants.{SPACE, TILDE}
 use Rattle.mud_nvt.specs.declared.strokes.Stroke.{Stroke}
-use Rattle.mud_nvt.specs.declared.strokes.Stroke.TheVariants.{Character}
-use Rattle.mud_nvt.specs.Units.{Given, Text}
+use Rattle.mud_nvt.specs.declared.strokes.Stroke.TheVariants.{Character, EraseCharacter, EraseLine, EndLine}
+use Rattle.mud_nvt.specs.declared.strokes.Stroke.TheVariants.{AreYouThere, Refuse, Nothing}
+use Rattle.mud_nvt.specs.Units.{Given, Text, TooLong, Ayt, Answer}
 
 -- a character from the space to the tilde
 abbrev pub IsPrintable : ℕ → Type 0
@@ -13,9 +14,16 @@ IsPrintable c = (SPACE ≤ c) × (c ≤ TILDE)
 -- a line is of printable characters, and of 1,000 at most
 abbrev pub IsSound : Given → Type 0
 IsSound (Text text) = All IsPrintable text × (length text ≤ MOST)
-IsSound other = Unit {0}
+IsSound TooLong = Unit {0}
+IsSound Ayt = Unit {0}
+IsSound (Answer bytes) = Unit {0}
 
 -- a stroke types a printable character, or none
 abbrev pub IsPlain : Stroke → Type 0
 IsPlain (Character c) = IsPrintable c
-IsPlain other = Unit {0}
+IsPlain EraseCharacter = Unit {0}
+IsPlain EraseLine = Unit {0}
+IsPlain EndLine = Unit {0}
+IsPlain AreYouThere = Unit {0}
+IsPlain (Refuse verb option) = Unit {0}
+IsPlain Nothing = Unit {0}

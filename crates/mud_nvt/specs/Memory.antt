@@ -2,8 +2,8 @@
 use Rattle.std.specs.Prelude.{ℕ, List, [], ◌∷◌, ◌++◌, ◌≡◌, Bool, true, false, IsTrue}
 use Rattle.std.specs.List.{list_any}
 use Rattle.mud_nvt.specs.declared.strokes.Stroke.{Stroke}
-use Rattle.mud_nvt.specs.declared.strokes.Stroke.TheVariants.{EraseCharacter, EraseLine}
-use Rattle.mud_nvt.specs.declared.strokes.Stroke.TheVariants.{Nothing}
+use Rattle.mud_nvt.specs.declared.strokes.Stroke.TheVariants.{Character, EraseCharacter, EraseLine, EndLine}
+use Rattle.mud_nvt.specs.declared.strokes.Stroke.TheVariants.{AreYouThere, Refuse, Nothing}
 use Rattle.mud_nvt.specs.Telnet.{pieces}
 use Rattle.mud_nvt.specs.Editing.{strokes}
 use Rattle.mud_nvt.specs.Machine.{Held}
@@ -11,10 +11,13 @@ use Rattle.mud_nvt.specs.History.{StandsAfter}
 
 -- whether a stroke may take memory: a character that is typed, and what gives a unit
 abbrev pub takes_memory : Stroke → Bool
+takes_memory (Character c) = true
 takes_memory EraseCharacter = false
 takes_memory EraseLine = false
+takes_memory EndLine = true
+takes_memory AreYouThere = true
+takes_memory (Refuse verb option) = true
 takes_memory Nothing = false
-takes_memory other = true
 
 -- behind these bytes the byte finishes a piece whose stroke may take memory
 pub record NeedsMemory (bytes : List ℕ) (b : ℕ) : Type 0 where

@@ -2,8 +2,8 @@
 use Rattle.std.specs.Prelude.{ℕ, List, [], ◌∷◌, ◌++◌, if◌then◌else◌}
 use Rattle.mud_nvt.specs.declared.codes.TheConstants.{IAC}
 use Rattle.mud_nvt.specs.declared.strokes.Stroke.{Stroke}
-use Rattle.mud_nvt.specs.declared.strokes.Stroke.TheVariants.{EndLine}
-use Rattle.mud_nvt.specs.declared.strokes.Stroke.TheVariants.{AreYouThere, Refuse}
+use Rattle.mud_nvt.specs.declared.strokes.Stroke.TheVariants.{Character, EraseCharacter, EraseLine, EndLine}
+use Rattle.mud_nvt.specs.declared.strokes.Stroke.TheVariants.{AreYouThere, Refuse, Nothing}
 use Rattle.mud_nvt.specs.Telnet.{pieces}
 use Rattle.mud_nvt.specs.Editing.{strokes, line, is_too_long}
 
@@ -19,7 +19,10 @@ abbrev pub units_at : List Stroke → Stroke → List Given
 units_at earlier EndLine = (if is_too_long earlier then TooLong else Text (line earlier)) ∷ []
 units_at earlier AreYouThere = Ayt ∷ []
 units_at earlier (Refuse verb option) = Answer (IAC ∷ verb ∷ option ∷ []) ∷ []
-units_at earlier other = []
+units_at earlier (Character c) = []
+units_at earlier EraseCharacter = []
+units_at earlier EraseLine = []
+units_at earlier Nothing = []
 
 -- the units that these strokes give, each where it stands, after the earlier ones, the latest of them first
 abbrev pub units_after : List Stroke → List Stroke → List Given

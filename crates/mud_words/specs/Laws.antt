@@ -20,10 +20,9 @@ quoted word = 34 ∷ (flat_map guarded word ++ 34 ∷ [])
 abbrev pub QuotedWordsReadBack : Type 0
 QuotedWordsReadBack = (ws : List (List ℕ)) → plain_words (join_with_byte 32 (map quoted ws)) ≡ ws
 
--- there is nothing in it
-abbrev pub is_empty : {A : Type 0} → List A → Bool
+abbrev pub is_empty : List ℕ → Bool
 is_empty [] = true
-is_empty (x ∷ xs) = false
+is_empty (b ∷ bs) = false
 
 -- a line without quotes and backslashes has the words that stand between its spaces
 abbrev pub PlainLinesSplitAtSpaces : Type 0

@@ -11,10 +11,8 @@ pub mod Refusals
 pub mod Speech
 pub mod Going
 pub mod Numbers
-pub mod Edits
-pub mod Bearing
+pub mod Slots
 pub mod Nesting
-pub mod Climbing
 pub mod Laws
 pub mod Inside
 pub mod History

@@ -5,7 +5,7 @@ ghost use Rattle.mud_world.specs.Sound.{IsSound};
 ghost use Rattle.mud_world.specs.Legal.{refusal, moved, after, keyed, renamed};
 ghost use Rattle.mud_world.specs.Going.{CanGo, CanKey, CanName};
 
-use crate::maps::{forget, rekey, relocate_in, rename_in, set_cost, unkey};
+use crate::slots::{Slot, add_slot, forget, relocate_in, set_cost, set_key, set_names};
 use crate::world::World;
 use crate::{Change, Deed, Doors, Kind, Passage, Record, Target};
 use mud_key::{Key, Name, Names};
@@ -18,13 +18,7 @@ impl World {
         ensures ok { OnOk result (self.new ≡ moved self.old object to) }
         ensures err { OnErr result (self.new ≡ self.old) }
     {
-        relocate_in(
-            &mut self.records,
-            &mut self.links.contents,
-            object,
-            from,
-            to,
-        )
+        relocate_in(&mut self.slots, object, from, to)
     }
 
     // The actor goes to where the exit leads.
@@ -76,20 +70,11 @@ impl World {
     }
 
     // Gives an object another key, or none.
-    fn set_key(&mut self, object: u32, key: Option<Key>) -> Result<(), AllocError>
+    fn set_key(&mut self, object: u32, key: Option<Key>)
         requires { CanKey self.old object key }
-        ensures ok { OnOk result (self.new ≡ keyed self.old object key) }
-        ensures err { OnErr result (self.new ≡ self.old) }
+        ensures { self.new ≡ keyed self.old object key }
     {
-        rekey(&mut self.records, &mut self.askers, object, key)
-    }
-
-    // Takes the key of an object away.
-    fn drop_key(&mut self, object: u32)
-        requires { CanKey self.old object None }
-        ensures { self.new ≡ keyed self.old object None }
-    {
-        unkey(&mut self.records, &mut self.askers, object);
+        set_key(&mut self.slots, object, key);
     }
 
     // The object gets a copy of the key.
@@ -101,7 +86,8 @@ impl World {
         ensures err { OnErr result (self.new ≡ self.old) }
     {
         let key = key.copy(self.alloc)?;
-        self.set_key(object, Some(key))
+        self.set_key(object, Some(key));
+        Ok(())
     }
 
     // The object has no key from then on.
@@ -110,7 +96,7 @@ impl World {
         ensures { self.new ≡ after self.old (record { actor = actor; deed = Deed.Unlock object }) }
     {
         self.is_sound();
-        self.drop_key(object);
+        self.set_key(object, None);
     }
 
     // The exit costs so much.
@@ -118,7 +104,7 @@ impl World {
         requires { refusal self.old (record { actor = actor; deed = Deed.Cost exit cost }) ≡ None }
         ensures { self.new ≡ after self.old (record { actor = actor; deed = Deed.Cost exit cost }) }
     {
-        set_cost(&mut self.records, exit, cost);
+        set_cost(&mut self.slots, exit, cost);
     }
 
     // A player in the hall, who owns himself.
@@ -139,12 +125,11 @@ impl World {
     }
 
     // Gives an object other names.
-    fn set_names(&mut self, object: u32, names: Names) -> Result<(), AllocError>
+    fn set_names(&mut self, object: u32, names: Names)
         requires { CanName self.old object names }
-        ensures ok { OnOk result (self.new ≡ renamed self.old object names) }
-        ensures err { OnErr result (self.new ≡ self.old) }
+        ensures { self.new ≡ renamed self.old object names }
     {
-        rename_in(&mut self.records, &mut self.owners, object, names)
+        set_names(&mut self.slots, object, names);
     }
 
     // The object gets a copy of the names.
@@ -156,7 +141,8 @@ impl World {
         ensures err { OnErr result (self.new ≡ self.old) }
     {
         let names = names.copy(self.alloc)?;
-        self.set_names(object, names)
+        self.set_names(object, names);
+        Ok(())
     }
 
     // The object is gone.
@@ -164,7 +150,7 @@ impl World {
         requires { refusal self.old (record { actor = actor; deed = Deed.Recycle object }) ≡ None }
         ensures { self.new ≡ after self.old (record { actor = actor; deed = Deed.Recycle object }) }
     {
-        forget(&mut self.records, &mut self.links, &mut self.askers, object);
+        forget(&mut self.slots, object);
     }
 
     /// Makes the world after a legal change (`after`). The only error is want of memory, and then

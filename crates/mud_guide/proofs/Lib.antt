@@ -6,5 +6,6 @@ mod Entries
 mod Shown
 mod Party
 mod Replies
+mod Parts
 mod Rising
 pub mod Single

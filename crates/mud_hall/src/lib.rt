@@ -13,6 +13,7 @@ mod kept;
 pub mod laws;
 mod name;
 mod reply;
+mod seeker;
 mod solo;
 mod texts;
 

@@ -33,3 +33,5 @@ mod search;
 mod village;
 #[cfg(test)]
 mod world;
+#[cfg(test)]
+mod workers;

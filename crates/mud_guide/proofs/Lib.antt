@@ -6,6 +6,5 @@ mod Entries
 mod Shown
 mod Party
 mod Replies
-mod Parts
 mod Rising
 pub mod Single

@@ -7,4 +7,3 @@ pub mod Laws
 pub mod Arrivals
 pub mod Listings
 pub mod Gatherings
-pub mod Parts

@@ -13,8 +13,7 @@ ghost use Rattle.mud_guide.specs.Answers.{IsRouteAnswer, IsMeetAnswer};
 
 use crate::accounts::accounts_of;
 use crate::answer::Answer;
-use crate::journey::{Journey, journey_to};
-use crate::lister::{Alone, Lister};
+use crate::journey::{Journey, journey_to, journeys_to};
 use crate::meeting::meeting_place;
 use crate::texts::{meet_text, route_text};
 use crate::way::Way;
@@ -45,8 +44,8 @@ pub fn route_alone(
     route_by(alloc, world, version, &traveller, &labels, room)
 }
 
-// The route of a traveller, from his least labels.
-pub(crate) fn route_by(
+// The same, from the least labels.
+fn route_by(
     alloc: Global,
     world: &World,
     version: u32,
@@ -102,22 +101,11 @@ pub fn meet_alone(
 {
     let travellers = travellers_of(alloc, world, party)?;
     let labels = labels_alone(alloc, world, travellers.as_slice())?;
-    meet_by(
-        &Alone,
-        alloc,
-        world,
-        version,
-        travellers.as_slice(),
-        &labels,
-    )
+    meet_by(alloc, world, version, travellers.as_slice(), &labels)
 }
 
 // The travellers who are these players.
-pub(crate) fn travellers_of(
-    alloc: Global,
-    world: &World,
-    party: &[u32],
-) -> Result<Vec<Traveller>, AllocError>
+fn travellers_of(alloc: Global, world: &World, party: &[u32]) -> Result<Vec<Traveller>, AllocError>
     requires { All (λ p. IsTrue (is_player world.now p)) party.now }
     ensures travellers { IfOk result (λ ts. All (IsTraveller world.now) ts.items) }
     ensures players { IfOk result (λ ts. map (λ t. t.player) ts.items ≡ party.now) }
@@ -130,8 +118,7 @@ pub(crate) fn travellers_of(
 }
 
 // Where travellers meet, from their least labels.
-pub(crate) fn meet_by<L: Lister>(
-    lister: &L,
+fn meet_by(
     alloc: Global,
     world: &World,
     version: u32,
@@ -149,7 +136,7 @@ pub(crate) fn meet_by<L: Lister>(
 {
     let next = world.next_number();
     let place = meeting_place(world, party, labels);
-    let journeys = lister.journeys(alloc, world, party, labels, room_of(place))?;
+    let journeys = journeys_to(alloc, world, party, labels, room_of(place))?;
     let text = meet_text(alloc, place, journeys.as_slice())?;
     let conclusion = Conclusion::Meet(place);
     let cert = certify(

@@ -8,9 +8,8 @@ ghost use Rattle.mud_rules.specs.Answers.{show_text};
 ghost use Rattle.mud_hall.specs.Desk.{IsSeated};
 ghost use Rattle.mud_hall.specs.Answers.{IsGuided, IsProven};
 
-use crate::seeker::Seeker;
 use crate::texts::proof_answer;
-use mud_guide::Answer;
+use mud_guide::{Answer, meet_alone, route_alone};
 use mud_rules::{Journey, Refusal, View, refusal_text, show};
 use mud_world::World;
 use std::alloc::{AllocError, Global};
@@ -60,8 +59,7 @@ pub(crate) fn view(
 }
 
 /// The guide's answer to a player's question about a journey.
-pub(crate) fn guide<S: Seeker>(
-    seeker: &S,
+pub(crate) fn guide(
     alloc: Global,
     world: &World,
     version: u32,
@@ -79,14 +77,13 @@ pub(crate) fn guide<S: Seeker>(
         unreachable!();
     };
     match journey {
-        Journey::Route { to } => seeker.route(alloc, world, version, player, *to),
-        Journey::Meet(party) => seeker.meet(alloc, world, version, party.members()),
+        Journey::Route { to } => route_alone(alloc, world, version, player, *to),
+        Journey::Meet(party) => meet_alone(alloc, world, version, party.members()),
     }
 }
 
 /// That answer's certificate as a text.
-pub(crate) fn prove<S: Seeker>(
-    seeker: &S,
+pub(crate) fn prove(
     alloc: Global,
     world: &World,
     version: u32,
@@ -100,7 +97,7 @@ pub(crate) fn prove<S: Seeker>(
     ensures version { IfOk result (λ a. a.version ≡ version) }
     ensures proven { IfOk result (IsProven world.now version player journey.now) }
 {
-    let answer = guide(seeker, alloc, world, version, player, journey)?;
+    let answer = guide(alloc, world, version, player, journey)?;
     let text = match &answer.cert {
         Some(cert) => proof_answer(alloc, cert)?,
         None => unreachable!(),

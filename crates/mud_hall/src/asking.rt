@@ -10,7 +10,6 @@ use crate::answering;
 use crate::desk::Desk;
 use crate::entries::entries_of;
 use crate::name::HallName;
-use crate::seeker::Seeker;
 use crate::texts::history_answer;
 use mud_guide::Answer;
 use mud_row::Row;
@@ -20,9 +19,8 @@ use std::alloc::{AllocError, Global};
 
 impl<J: HallName> Desk<J> {
     // Answers a line at exactly what it has seen.
-    pub(crate) fn answer<S: Seeker>(
+    pub(crate) fn answer(
         &mut self,
-        seeker: &S,
         alloc: Global,
         row: &Row,
         line: &str,
@@ -32,24 +30,18 @@ impl<J: HallName> Desk<J> {
         ensures ok { IfOk result (λ a. Answers self.old.state line.now (answered a)) }
     {
         self.catch_up(alloc, row)?;
-        self.respond(seeker, alloc, row, line)
+        self.respond(alloc, row, line)
     }
 
     // Answers a line in the world of all that it has seen.
-    fn respond<S: Seeker>(
-        &mut self,
-        seeker: &S,
-        alloc: Global,
-        row: &Row,
-        line: &str,
-    ) -> Result<Answer, AllocError>
+    fn respond(&mut self, alloc: Global, row: &Row, line: &str) -> Result<Answer, AllocError>
         requires row { row.now ≡ J.cells }
         requires all { self.old.at ≡ length self.old.state.seen }
         ensures same { self.new.state ≡ self.old.state }
         ensures ok { IfOk result (λ a. Answers self.old.state line.now (answered a)) }
     {
         match self.verdict(alloc, line)? {
-            Verdict::Ask(query) => self.explain(seeker, alloc, row, &query),
+            Verdict::Ask(query) => self.explain(alloc, row, &query),
             Verdict::Refused(refusal) => {
                 answering::plain(alloc, self.seen(), refusal_text(refusal))
             }
@@ -69,13 +61,7 @@ impl<J: HallName> Desk<J> {
     }
 
     // The answer to a question.
-    fn explain<S: Seeker>(
-        &mut self,
-        seeker: &S,
-        alloc: Global,
-        row: &Row,
-        query: &Query,
-    ) -> Result<Answer, AllocError>
+    fn explain(&mut self, alloc: Global, row: &Row, query: &Query) -> Result<Answer, AllocError>
         requires row { row.now ≡ J.cells }
         requires all { self.old.at ≡ length self.old.state.seen }
         requires question { IsQuestion (world_after self.old.state.seen) query.now }
@@ -88,12 +74,10 @@ impl<J: HallName> Desk<J> {
         let world = self.replica.world();
         match query {
             Query::View(view) => answering::view(alloc, world, version, player, view),
-            Query::Journey(journey) => Ok(answering::guide(
-                seeker, alloc, world, version, player, journey,
-            )?),
-            Query::Proof(journey) => {
-                answering::prove(seeker, alloc, world, version, player, journey)
+            Query::Journey(journey) => {
+                Ok(answering::guide(alloc, world, version, player, journey)?)
             }
+            Query::Proof(journey) => answering::prove(alloc, world, version, player, journey),
             Query::History => {
                 let entries = entries_of(alloc, row, &mut self.replica)?;
                 Ok(Answer {

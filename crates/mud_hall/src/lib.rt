@@ -13,7 +13,6 @@ mod kept;
 pub mod laws;
 mod name;
 mod reply;
-mod seeker;
 mod solo;
 mod texts;
 

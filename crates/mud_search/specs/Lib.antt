@@ -1,7 +1,6 @@
 pub mod Boards
 pub mod Facts
 pub mod Least
-pub mod Parts
 pub mod Queues
 pub mod Rooms
 pub mod Slots

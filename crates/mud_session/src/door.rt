@@ -61,8 +61,8 @@ impl Door for Solo {
         Ok(())
     }
 
-    fn ask<X: Threads + Wait + Sync>(&mut self, rt: &X, line: &str) -> Result<Answer, Fault> {
-        Ok(Solo::ask(self, rt, line)?)
+    fn ask<X: Threads + Wait + Sync>(&mut self, _rt: &X, line: &str) -> Result<Answer, Fault> {
+        Ok(Solo::ask(self, line)?)
     }
 
     fn take_told(&mut self) -> Vec<String> {

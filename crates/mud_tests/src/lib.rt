@@ -33,5 +33,3 @@ mod search;
 mod village;
 #[cfg(test)]
 mod world;
-#[cfg(test)]
-mod workers;

@@ -11,7 +11,7 @@ use Rattle.mud_guide.proofs.Replies.{meeting-limits, meet-answer}
 use Rattle.mud_guide.proofs.ask.meet_by.Goals as goal
 
 pub certify-requires-clause-inside : goal.certify-requires-clause-inside
-certify-requires-clause-inside g c =
+certify-requires-clause-inside c =
     let w = c.args.world.now in
     let sound = c.next_number-next.ensures.sound in
     let N : ℕ → Type 0 = λ n. All (IsInside n) c.as_slice-2.result.now in
@@ -22,7 +22,7 @@ certify-requires-clause-inside g c =
     c.requires.travellers c.in_ok-journeys.ensures))
 
 pub certify-requires-clause-conclusion : goal.certify-requires-clause-conclusion
-certify-requires-clause-conclusion g c =
+certify-requires-clause-conclusion c =
     let w = c.args.world.now in
     let R : Knowledge → Journey → Type 0 = λ t j. IsJourney w c.room_of.result t.player j in
     let long : length c.as_slice-2.result.now ≡ length c.args.party.now =
@@ -37,7 +37,7 @@ certify-requires-clause-conclusion g c =
     )
 
 pub returns : goal.returns
-returns g c =
+returns c =
     let w = c.args.world.now in
     let sound = c.next_number-next.ensures.sound in
     let js = c.in_ok-journeys.journeys.items in
@@ -61,10 +61,3 @@ returns g c =
       limits = made.limits;
     })
     refl (c.in_ok-text.ensures ∙ ap (meet_text c.meeting_place-place.result) c.as_slice.ensures.value) refl
-
-pub journeys-requires-clause-members : goal.journeys-requires-clause-members
-journeys-requires-clause-members g c = record {
-  travellers = c.requires.travellers;
-  least = c.requires.least;
-  few = c.requires.few;
-}

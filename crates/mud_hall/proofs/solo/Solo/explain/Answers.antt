@@ -5,7 +5,7 @@ use Rattle.mud_hall.proofs.Showing.{IsAt, guided-shown, proven-shown}
 use Rattle.mud_hall.proofs.solo.Solo.explain.Goals as goal
 
 pub returns-in_ok-guide-in-Journey-clause-shown : goal.returns-in_ok-guide-in-Journey-clause-shown
-returns-in_ok-guide-in-Journey-clause-shown g c =
+returns-in_ok-guide-in-Journey-clause-shown c =
     let d = c.self.inside in
     let s = c.args.self.now.state in
     let v = c.version-version.result in
@@ -18,7 +18,7 @@ returns-in_ok-guide-in-Journey-clause-shown g c =
     c.in_ok-guide-in-Journey.field-0 at c.in-Journey.is c.in_ok-guide-in-Journey.ensures.guided
 
 pub returns-in-Proof-clause-shown : goal.returns-in-Proof-clause-shown
-returns-in-Proof-clause-shown g c =
+returns-in-Proof-clause-shown c =
     let d = c.self.inside in
     let s = c.args.self.now.state in
     let v = c.version-version.result in

@@ -30,8 +30,6 @@ mod rules;
 #[cfg(test)]
 mod search;
 #[cfg(test)]
-mod sessions;
-#[cfg(test)]
 mod village;
 #[cfg(test)]
 mod world;

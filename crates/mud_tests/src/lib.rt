@@ -18,6 +18,8 @@ mod hall;
 #[cfg(test)]
 mod house;
 #[cfg(test)]
+mod listen;
+#[cfg(test)]
 mod nvt;
 #[cfg(test)]
 mod plain;
@@ -29,6 +31,8 @@ mod rows;
 mod rules;
 #[cfg(test)]
 mod search;
+#[cfg(test)]
+mod sessions;
 #[cfg(test)]
 mod village;
 #[cfg(test)]

@@ -1,2 +1,1 @@
 pub mod Task
-pub mod Service

@@ -5,11 +5,11 @@ ghost use Rattle.std.specs.Io.KnownBytes.{IsAtEnd, Keeps};
 ghost use Rattle.mud_explain.specs.Explained.{Explains, Writes, WritesFront};
 
 use crate::lines::explained_lines;
+use crate::opened::Unopened;
 use crate::sink::Sink;
 use crate::source::Source;
 use crate::units::explained_units;
 use mud_command::Subject;
-use mud_load::Unloaded;
 use std::alloc::{AllocError, Global};
 use std::io::{ErrorKind, Read, Write};
 use thiserror::Error;
@@ -28,7 +28,7 @@ pub enum ExplainFault {
     Write,
     /// There is no hall to play in.
     #[error("cannot load: {0}")]
-    Unloaded(Unloaded),
+    Unopened(Unopened),
 }
 
 // All that the source has left.

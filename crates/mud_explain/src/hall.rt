@@ -4,14 +4,13 @@ ghost use Rattle.std.specs.Prelude.{◌≡◌, ◌⊎◌, ◌≤◌, Err, true, 
 ghost use Rattle.std.specs.Io.KnownBytes.{IsAtEnd, Keeps};
 
 use crate::explain::{ExplainFault, input_of};
-use crate::opened::opened;
+use crate::opened::{Unopened, opened};
 use crate::play::Play;
 use crate::sink::Sink;
 use crate::source::Source;
 use memchr::memchr;
 use mud_command::Opening;
 use mud_hall::{HallName, NewHall};
-use mud_load::Unloaded;
 use std::alloc::{AllocError, Global};
 use std::io::{Read, Write};
 use std::marker::Brand;
@@ -67,8 +66,8 @@ pub(crate) fn explain_hall<H: Wait + Files + AllocGlobal, R: Read, W: Write>(
 {
     let hall = match opened(rt, opening) {
         Ok(hall) => hall,
-        Err(Unloaded::OutOfMemory) => return Err(ExplainFault::OutOfMemory),
-        Err(fault) => return Err(ExplainFault::Unloaded(fault)),
+        Err(Unopened::OutOfMemory) => return Err(ExplainFault::OutOfMemory),
+        Err(fault) => return Err(ExplainFault::Unopened(fault)),
     };
     let input = input_of(rt.alloc(), source)?;
     let out = match told(rt, rt.alloc(), hall, &input) {

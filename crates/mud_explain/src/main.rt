@@ -66,6 +66,6 @@ fn stopped<R: Eprint>(rt: &R, fault: ExplainFault) -> ExitCode {
     let _ = eprintln!(rt; "mud_explain: {fault}");
     ExitCode::from(match fault {
         ExplainFault::OutOfMemory => 4,
-        ExplainFault::Read | ExplainFault::Write | ExplainFault::Unloaded(_) => 3,
+        ExplainFault::Read | ExplainFault::Write | ExplainFault::Unopened(_) => 3,
     })
 }

@@ -7,11 +7,10 @@ use mud_chron::Entry;
 use mud_hall::{Desk, Fault, Hall, HallName, NewHall, Reply};
 use std::alloc::{AllocError, Global};
 use std::marker::Brand;
+use std::mem;
 use std::process::Abort;
 use std::sync::Wait;
 use std::test::Fail;
-use std::thread::Threads;
-use std::{mem, thread};
 
 // A hall until it is closed, its desks, and then its history.
 #[derive(Drop)]
@@ -21,11 +20,9 @@ struct House<J: HallName> {
     history: Vec<Entry>,
 }
 
-// A desk, and what came of its lines: accepted changes, changes that found the history full, and the
-// rest.
+// What came of lines: accepted changes, changes that found the history full, and the rest.
 #[derive(Drop)]
-struct Tally<J: HallName> {
-    desk: Desk<J>,
+struct Tally {
     accepted: u32,
     full: u32,
     rest: u32,
@@ -100,48 +97,25 @@ fn turn<J: HallName, R: Wait>(
     }
 }
 
-// A desk acts so many times.
-fn act_often<J: HallName, R: Wait>(
+// Each desk acts once, in turn.
+fn round<J: HallName, R: Wait>(
     rt: &R,
     hall: &Hall<J>,
-    desk: Desk<J>,
-    count: u32,
+    desks: &mut Vec<Desk<J>>,
     line: &str,
-) -> Tally<J> {
-    let mut tally = Tally {
-        desk,
-        accepted: 0,
-        full: 0,
-        rest: 0,
-    };
-    for _ in 0..count {
-        match hall.act(rt, &mut tally.desk, line) {
+    tally: &mut Tally,
+) {
+    for desk in desks {
+        match hall.act(rt, desk, line) {
             Ok(Reply::Accepted { .. }) => tally.accepted = tally.accepted.saturating_add(1),
             Err(Fault::HistoryFull) => tally.full = tally.full.saturating_add(1),
             _ => tally.rest = tally.rest.saturating_add(1),
         }
     }
-    tally
 }
 
-// What came of all the lines of these desks, which are put back.
-fn added<J: HallName>(
-    alloc: Global,
-    desks: &mut Vec<Desk<J>>,
-    tallies: Vec<Tally<J>>,
-) -> Result<String, AllocError> {
-    let (mut accepted, mut full, mut rest) = (0_u32, 0_u32, 0_u32);
-    for tally in tallies {
-        accepted = accepted.saturating_add(tally.accepted);
-        full = full.saturating_add(tally.full);
-        rest = rest.saturating_add(tally.rest);
-        desks.push(tally.desk)?;
-    }
-    format!(in alloc; "{accepted} accepted, {full} full, {rest} else")
-}
-
-// Each desk acts so many times, on a thread of its own, and what came of all the lines.
-fn each<J: HallName + Send + Sync, R: Threads + Wait + Sync>(
+// Each desk acts so many times, and what came of all the lines.
+fn each<J: HallName, R: Wait>(
     rt: &R,
     alloc: Global,
     hall: &Hall<J>,
@@ -149,9 +123,20 @@ fn each<J: HallName + Send + Sync, R: Threads + Wait + Sync>(
     count: u32,
     line: &str,
 ) -> Result<String, AllocError> {
-    let sent = mem::replace(desks, Vec::new(alloc));
-    let tallies = thread::map_vec(rt, sent, &|desk| act_often(rt, hall, desk, count, line))?;
-    added(alloc, desks, tallies)
+    let mut tally = Tally {
+        accepted: 0,
+        full: 0,
+        rest: 0,
+    };
+    for _ in 0..count {
+        round(rt, hall, desks, line, &mut tally);
+    }
+    let Tally {
+        accepted,
+        full,
+        rest,
+    } = tally;
+    format!(in alloc; "{accepted} accepted, {full} full, {rest} else")
 }
 
 // The desks to close with, and those of the numbers in a text, which are withheld.
@@ -195,7 +180,7 @@ fn close<J: HallName, R: Wait>(
 }
 
 // What came of a step of a hall that is open.
-fn step<J: HallName + Send + Sync, R: Threads + Wait + Sync>(
+fn step<J: HallName, R: Wait>(
     rt: &R,
     alloc: Global,
     hall: &Hall<J>,
@@ -217,7 +202,7 @@ fn step<J: HallName + Send + Sync, R: Threads + Wait + Sync>(
 }
 
 // What came of a step.
-fn answer<J: HallName + Send + Sync, R: Threads + Wait + Sync>(
+fn answer<J: HallName, R: Wait>(
     rt: &R,
     alloc: Global,
     house: &mut House<J>,
@@ -239,7 +224,7 @@ fn answer<J: HallName + Send + Sync, R: Threads + Wait + Sync>(
 }
 
 // Sees that the row `ASKED => WANTED` is answered as it says.
-fn check_row<J: HallName + Send + Sync, R: Threads + Wait + Sync + Abort>(
+fn check_row<J: HallName, R: Wait + Abort>(
     rt: &R,
     alloc: Global,
     house: &mut House<J>,
@@ -253,7 +238,7 @@ fn check_row<J: HallName + Send + Sync, R: Threads + Wait + Sync + Abort>(
 }
 
 // Sees that each row is answered as it says, and gives the history of the hall, once it is closed.
-fn play_in<J: HallName + Send + Sync, R: Threads + Wait + Sync + Abort>(
+fn play_in<J: HallName, R: Wait + Abort>(
     rt: &R,
     alloc: Global,
     hall: NewHall,
@@ -282,9 +267,9 @@ fn play_in<J: HallName + Send + Sync, R: Threads + Wait + Sync + Abort>(
 /// | `N ask LINE` | the question at desk N: its answer |
 /// | `N see`, `N seen` | desk N takes in what it finds, or does not: how many entries it has seen |
 /// | `N told` | the lines that desk N was told since it was last asked, each with a `;` |
-/// | `each N LINE` | the line N times at each desk, on a thread of its own: what came of how many |
+/// | `each N LINE` | the line at each desk in turn, N times: what came of how many |
 /// | `close`, `close N N` | closes with all desks, or all but these: what came of it |
-pub(crate) fn play<R: Threads + Wait + Sync + Abort>(
+pub(crate) fn play<R: Wait + Abort>(
     rt: &R,
     alloc: Global,
     hall: NewHall,

@@ -18,8 +18,6 @@ mod hall;
 #[cfg(test)]
 mod house;
 #[cfg(test)]
-mod listen;
-#[cfg(test)]
 mod nvt;
 #[cfg(test)]
 mod plain;
@@ -31,8 +29,6 @@ mod rows;
 mod rules;
 #[cfg(test)]
 mod search;
-#[cfg(test)]
-mod sessions;
 #[cfg(test)]
 mod village;
 #[cfg(test)]

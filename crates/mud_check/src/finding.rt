@@ -60,7 +60,8 @@ fn tried(alloc: Global, entries: &[Entry], cert: &Cert) -> Result<Finding, Alloc
 /// the world of its version. Only want of memory is an error.
 pub fn finding_of(alloc: Global, history: &[u8], proof: &[u8]) -> Result<Finding, AllocError>
     ensures finding { IfOk result (IsFinding history.now proof.now) }
-    ensures accepted { IfOk result (λ finding. finding ≡ Finding.Accepted → IsFinding history.now proof.now Finding.Accepted) }
+    ensures accepted { IfOk result
+        (λ finding. finding ≡ Finding.Accepted → IsFinding history.now proof.now Finding.Accepted) }
 {
     let history = without_returns(alloc, history)?;
     let proof = without_returns(alloc, proof)?;

@@ -103,7 +103,8 @@ fn status_of(finding: &Finding) -> Status
 /// the least there. Only want of memory is an error.
 pub fn verdict(alloc: Global, history: &[u8], proof: &[u8]) -> Result<Outcome, AllocError>
     ensures finding { IfOk result (IsVerdict history.now proof.now) }
-    ensures accepted { IfOk result (λ outcome. outcome.status ≡ Accepted → IsFinding history.now proof.now Finding.Accepted) }
+    ensures accepted { IfOk result
+        (λ outcome. outcome.status ≡ Accepted → IsFinding history.now proof.now Finding.Accepted) }
 {
     let finding = finding_of(alloc, history, proof)?;
     let mut text = String::new(alloc);

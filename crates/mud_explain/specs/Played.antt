@@ -72,6 +72,7 @@ Settles loaded handed hall told = (history : List Entry) × IsSettled loaded han
     × (told ≡ settled_lines (length (made loaded history)) (length loaded) history)
 
 -- the hall goes on with all its desks
-abbrev pub GoesOn : {H : Type 0} → List Entry → List View → List View → Option H → Option H → List View → List ℕ → Type 0
+abbrev pub GoesOn : {H : Type 0} → List Entry → List View → List View → Option H → Option H → List View → List ℕ
+    → Type 0
 GoesOn loaded handed rest was hall desks told = (fault : CloseFault) × IsCloseFault loaded handed fault × (hall ≡ was)
     × (desks ≡ rest ++ handed) × (told ≡ unsettled_line fault)

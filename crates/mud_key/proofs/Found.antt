@@ -1,5 +1,6 @@
 -- What the readers find is what the relations say.
-use Rattle.std.proofs.Common.{◌≡◌, ℕ, Bool, true, false, List, [], ◌∷◌, Option, Some, None, Ok, Err, Result, refl, sym, ◌∙◌, ap, subst, arith, append-nil}
+use Rattle.std.proofs.Common.{◌≡◌, ℕ, Bool, true, false, List, [], ◌∷◌, Option, Some, None, Ok, Err, Result, refl, sym}
+use Rattle.std.proofs.Common.{◌∙◌, ap, subst, arith, append-nil}
 use Rattle.std.specs.Prelude.{nat_le, if◌then◌else◌}
 use Rattle.std.specs.Option.{option_and_then}
 use Rattle.std.proofs.lemmas.List.Elements.{All-head}
@@ -16,7 +17,8 @@ use Rattle.mud_key.specs.NameReader.{Stand, name_run, name_start, settled}
 use Rattle.mud_key.specs.KeyText.{SpellsKey, ReadsAs}
 use Rattle.mud_key.specs.Machine.{run, start, State, Mode, settled as mode_settled}
 use Rattle.mud_key.specs.Builder.{outer_settled}
-use Rattle.mud_key.specs.Reading.{names_in, name_in, key_in, is_within_limits, FindsNames, FindsName, FindsKey, AreTheNames, IsTheName, IsTheKey}
+use Rattle.mud_key.specs.Reading.{names_in, name_in, key_in, is_within_limits, FindsNames, FindsName, FindsKey}
+use Rattle.mud_key.specs.Reading.{AreTheNames, IsTheName, IsTheKey}
 use Rattle.mud_key.proofs.NamesSound.{names_sound}
 use Rattle.mud_key.proofs.NamesTaken.{names_taken, each_name, one_list}
 use Rattle.mud_key.proofs.Sound.{sound}
@@ -24,7 +26,8 @@ use Rattle.mud_key.proofs.Complete.{taken, one_key, Reaches}
 
 -- ---- names
 
-found_names : (text : List ℕ) (names : List (List ℕ)) (s : Option Stand) → name_run (Some name_start) text ≡ s → option_and_then settled s ≡ Some names → IsNamesText text names
+found_names : (text : List ℕ) (names : List (List ℕ)) (s : Option Stand) → name_run (Some name_start) text ≡ s
+    → option_and_then settled s ≡ Some names → IsNamesText text names
 found_names text names None e h = absurd (let bad : ◌≡◌ {A = Option (List (List ℕ))} None (Some names) = h in cc)
 found_names text names (Some s) e h = names_sound text s names e h
 
@@ -35,7 +38,8 @@ names_law = λ text names. (
   (λ spells. let t = names_taken text names spells in ap (option_and_then settled) t.1 ∙ t.2),
 )
 
-pub names_found : (text : List ℕ) (result : Result (List (List ℕ)) NamesFault) → NamesReadAs text result → FindsNames text result
+pub names_found : (text : List ℕ) (result : Result (List (List ℕ)) NamesFault) → NamesReadAs text result
+    → FindsNames text result
 names_found text (Ok names) h = (names_law text names).1 h
 names_found text (Err NoMemory) h = tt
 names_found text (Err BadName) h = none (names_in text) refl
@@ -44,22 +48,31 @@ names_found text (Err BadName) h = none (names_in text) refl
     none None e = e
     none (Some names) e = absurd (h names ((names_law text names).0 e))
 
-pub no_names : (text : List ℕ) → IsNoNamesText text → record { reads : IsNoNamesText text; finds : names_in text ≡ None }
+pub no_names : (text : List ℕ) → IsNoNamesText text
+    → record { reads : IsNoNamesText text; finds : names_in text ≡ None }
 no_names text h = record { reads = h; finds = names_found text (Err BadName) h }
 
-pub are_found : (text : List ℕ) (names : List (List ℕ)) → IsNamesText text names → record { reads : IsNamesText text names; finds : names_in text ≡ Some names }
+pub are_found : (text : List ℕ) (names : List (List ℕ)) → IsNamesText text names
+    → record { reads : IsNamesText text names; finds : names_in text ≡ Some names }
 are_found text names h = record { reads = h; finds = names_found text (Ok names) h }
 
 -- ---- one name
 
 -- a text that is a name is the names text of that name
 pub name_alone : (text : List ℕ) → IsName text → IsNamesText text (text ∷ [])
-name_alone text name = record { spells = one (record { before = 0; behind = 0; spaces = sym (append-nil text); is_name = name }); few = omega arith }
+name_alone text name =
+    record {
+      spells =
+          one (record { before = 0; behind = 0; spaces = sym (append-nil text); is_name = name });
+      few = omega arith;
+    }
 
 -- a names text of itself alone is a name
-pub alone_name : (text : List ℕ) (names : List (List ℕ)) → IsNamesText text names → is_only text names ≡ true → IsName text
+pub alone_name : (text : List ℕ) (names : List (List ℕ)) → IsNamesText text names → is_only text names ≡ true
+    → IsName text
 alone_name text [] h e = absurd (cc)
-alone_name text (name ∷ []) h e = subst IsName ((bytes_eq-Decides name text).0 e) (All-head IsName name [] (each_name h.spells))
+alone_name text (name ∷ []) h e =
+    subst IsName ((bytes_eq-Decides name text).0 e) (All-head IsName name [] (each_name h.spells))
 alone_name text (name ∷ next ∷ names) h e = absurd (cc)
 
 same_text : (text : List ℕ) → is_only text (text ∷ []) ≡ true
@@ -68,11 +81,14 @@ same_text text = (bytes_eq-Decides text text).1 refl
 abbrev one_of : List ℕ → List (List ℕ) → Option (List ℕ)
 one_of text names = if is_only text names then Some text else None
 
-one_of_is : (text name : List ℕ) (names : List (List ℕ)) (b : Bool) → is_only text names ≡ b → (if b then Some text else None) ≡ Some name → (name ≡ text) × (is_only text names ≡ true)
-one_of_is text name names true e h = (sym (let same : ◌≡◌ {A = Option (List ℕ)} (Some text) (Some name) = h in let it : text ≡ name = cc in it), e)
+one_of_is : (text name : List ℕ) (names : List (List ℕ)) (b : Bool) → is_only text names ≡ b
+    → (if b then Some text else None) ≡ Some name → (name ≡ text) × (is_only text names ≡ true)
+one_of_is text name names true e h =
+    (sym (let same : ◌≡◌ {A = Option (List ℕ)} (Some text) (Some name) = h in let it : text ≡ name = cc in it), e)
 one_of_is text name names false e h = absurd (let bad : ◌≡◌ {A = Option (List ℕ)} None (Some name) = h in cc)
 
-is_name_found : (text name : List ℕ) (o : Option (List (List ℕ))) → names_in text ≡ o → option_and_then (one_of text) o ≡ Some name → (name ≡ text) × IsName text
+is_name_found : (text name : List ℕ) (o : Option (List (List ℕ))) → names_in text ≡ o
+    → option_and_then (one_of text) o ≡ Some name → (name ≡ text) × IsName text
 is_name_found text name None e h = absurd (let bad : ◌≡◌ {A = Option (List ℕ)} None (Some name) = h in cc)
 is_name_found text name (Some names) e h =
     let parts = one_of_is text name names (is_only text names) refl h in
@@ -101,8 +117,10 @@ pub not_read : (text : List ℕ) (fault : NamesFault) → NamesReadAs text (Err 
 not_read text NoMemory h = tt
 not_read text BadName h = λ is. h (text ∷ []) (name_alone text is)
 
-pub not_alone : (text : List ℕ) (names : List (List ℕ)) → IsNamesText text names → is_only text names ≡ false → IsName text → ⊥
-not_alone text names h e is = true≢false (sym (same_text text) ∙ ap (is_only text) (one_list text (text ∷ []) names (name_alone text is) h) ∙ e)
+pub not_alone : (text : List ℕ) (names : List (List ℕ)) → IsNamesText text names → is_only text names ≡ false
+    → IsName text → ⊥
+not_alone text names h e is =
+    true≢false (sym (same_text text) ∙ ap (is_only text) (one_list text (text ∷ []) names (name_alone text is) h) ∙ e)
 
 -- ---- keys
 
@@ -119,22 +137,29 @@ limited key = if is_within_limits key then Some key else None
 abbrev whole_of : State → Option (Tree (List ℕ))
 whole_of s = outer_settled s.0 s.1
 
-limited_is : (k key : Tree (List ℕ)) (b : Bool) → is_within_limits k ≡ b → (if b then Some k else None) ≡ Some key → (k ≡ key) × (is_within_limits k ≡ true)
-limited_is k key true e h = ((let same : ◌≡◌ {A = Option (Tree (List ℕ))} (Some k) (Some key) = h in let it : k ≡ key = cc in it), e)
+limited_is : (k key : Tree (List ℕ)) (b : Bool) → is_within_limits k ≡ b → (if b then Some k else None) ≡ Some key
+    → (k ≡ key) × (is_within_limits k ≡ true)
+limited_is k key true e h =
+    ((let same : ◌≡◌ {A = Option (Tree (List ℕ))} (Some k) (Some key) = h in let it : k ≡ key = cc in it), e)
 limited_is k key false e h = absurd (let bad : ◌≡◌ {A = Option (Tree (List ℕ))} None (Some key) = h in cc)
 
-settled_key : (text : List ℕ) (key : Tree (List ℕ)) (m : Mode) (o : Option (Tree (List ℕ))) → run start text ≡ Some ([], m) → mode_settled m ≡ o → option_and_then limited o ≡ Some key → SpellsKey text key × IsWithinLimits key
+settled_key : (text : List ℕ) (key : Tree (List ℕ)) (m : Mode) (o : Option (Tree (List ℕ)))
+    → run start text ≡ Some ([], m) → mode_settled m ≡ o → option_and_then limited o ≡ Some key
+    → SpellsKey text key × IsWithinLimits key
 settled_key text key m None at e h = absurd (let bad : ◌≡◌ {A = Option (Tree (List ℕ))} None (Some key) = h in cc)
 settled_key text key m (Some k) at e h =
     let parts = limited_is k key (is_within_limits k) refl h in
     subst (λ k. SpellsKey text k × IsWithinLimits k) parts.0 (sound text m k at e, is_within k parts.1)
 
-found_key : (text : List ℕ) (key : Tree (List ℕ)) (s : Option State) → run start text ≡ s → option_and_then limited (option_and_then whole_of s) ≡ Some key → SpellsKey text key × IsWithinLimits key
+found_key : (text : List ℕ) (key : Tree (List ℕ)) (s : Option State) → run start text ≡ s
+    → option_and_then limited (option_and_then whole_of s) ≡ Some key → SpellsKey text key × IsWithinLimits key
 found_key text key None at h = absurd (let bad : ◌≡◌ {A = Option (Tree (List ℕ))} None (Some key) = h in cc)
 found_key text key (Some ([], m)) at h = settled_key text key m (mode_settled m) at refl h
-found_key text key (Some (f ∷ outer, m)) at h = absurd (let bad : ◌≡◌ {A = Option (Tree (List ℕ))} None (Some key) = h in cc)
+found_key text key (Some (f ∷ outer, m)) at h =
+    absurd (let bad : ◌≡◌ {A = Option (Tree (List ℕ))} None (Some key) = h in cc)
 
-key_reached : (text : List ℕ) (key : Tree (List ℕ)) → Reaches (run start text) [] key → option_and_then whole_of (run start text) ≡ Some key
+key_reached : (text : List ℕ) (key : Tree (List ℕ)) → Reaches (run start text) [] key
+    → option_and_then whole_of (run start text) ≡ Some key
 key_reached text key r = ap (option_and_then whole_of) r.there ∙ r.whole
 
 pub key_law : IsTheKey
@@ -146,7 +171,8 @@ key_law = λ text key. (
       ∙ ap (λ b. if b then Some key else None) (within key is.1)),
 )
 
-no_key : (text : List ℕ) → ((key : Tree (List ℕ)) → SpellsKey text key → IsWithinLimits key → ⊥) → (o : Option (Tree (List ℕ))) → key_in text ≡ o → key_in text ≡ None
+no_key : (text : List ℕ) → ((key : Tree (List ℕ)) → SpellsKey text key → IsWithinLimits key → ⊥)
+    → (o : Option (Tree (List ℕ))) → key_in text ≡ o → key_in text ≡ None
 no_key text none None e = e
 no_key text none (Some key) e = let is = (key_law text key).0 e in absurd (none key is.0 is.1)
 
@@ -154,6 +180,8 @@ pub key_found : (text : List ℕ) (result : Result (Tree (List ℕ)) KeyFault) �
 key_found text (Ok key) h = (key_law text key).1 h
 key_found text (Err OutOfMemory) h = tt
 key_found text (Err (BadKey at)) h = no_key text (λ key spells within. h.0 key spells) (key_in text) refl
-key_found text (Err TooManyAtoms) h = no_key text (λ key spells within. h.2 (subst IsWithinLimits (one_key text key h.0 spells h.1) within)) (key_in text) refl
+key_found text (Err TooManyAtoms) h =
+    no_key text (λ key spells within. h.2 (subst IsWithinLimits (one_key text key h.0 spells h.1) within))
+    (key_in text) refl
 key_found text (Err NoSuch) h = h
 key_found text (Err Ambiguous) h = h

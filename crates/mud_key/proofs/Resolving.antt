@@ -21,20 +21,26 @@ not_counts : (o n : ℕ) (r : Result (Tree ℕ) Miss) → CountsAs o n r → Cou
 not_counts o n (Ok k) h = (h.0, omega (arith, h.1))
 not_counts o n (Err e) h = tt
 
-join_counts : (op : Operator) (o n p m : ℕ) (r s : Result (Tree ℕ) Miss) → CountsAs o n r → CountsAs p m s → CountsAs (o + p) (n + m) (joined_result op r s)
+join_counts : (op : Operator) (o n p m : ℕ) (r s : Result (Tree ℕ) Miss) → CountsAs o n r → CountsAs p m s
+    → CountsAs (o + p) (n + m) (joined_result op r s)
 join_counts op o n p m (Ok a) (Ok b) h i = (omega (arith, h.0, i.0), omega (arith, h.1, i.1))
 join_counts op o n p m (Ok a) (Err e) h i = tt
 join_counts op o n p m (Err e) s h i = tt
 
-resolved_counts : (meaning : List ℕ → Result ℕ Miss) (t : Tree (List ℕ)) → CountsAs (objects_of t) (nots_of t) (resolved meaning t)
+resolved_counts : (meaning : List ℕ → Result ℕ Miss) (t : Tree (List ℕ))
+    → CountsAs (objects_of t) (nots_of t) (resolved meaning t)
 resolved_counts meaning (Has o) = has_counts (meaning o)
 resolved_counts meaning (Asks o) = asks_counts (meaning o)
 resolved_counts meaning (Not k) = not_counts (objects_of k) (nots_of k) (resolved meaning k) (resolved_counts meaning k)
-resolved_counts meaning (Join op a b) = join_counts op (objects_of a) (nots_of a) (objects_of b) (nots_of b) (resolved meaning a) (resolved meaning b) (resolved_counts meaning a) (resolved_counts meaning b)
+resolved_counts meaning (Join op a b) =
+    join_counts op (objects_of a) (nots_of a) (objects_of b) (nots_of b) (resolved meaning a) (resolved meaning b)
+    (resolved_counts meaning a) (resolved_counts meaning b)
 
 -- a key that was resolved from a key text, to numbers
-pub resolved_key : (meaning : List ℕ → Result ℕ Miss) (t : Tree (List ℕ)) (k : Tree ℕ) → resolved meaning t ≡ Ok k → IsWithinLimits t → AllObjects (λ n. n ≤ 8191) k → IsKey k
-resolved_key meaning t k e h numbers = go (subst (λ r. CountsAs (objects_of t) (nots_of t) r) e (resolved_counts meaning t))
+pub resolved_key : (meaning : List ℕ → Result ℕ Miss) (t : Tree (List ℕ)) (k : Tree ℕ) → resolved meaning t ≡ Ok k
+    → IsWithinLimits t → AllObjects (λ n. n ≤ 8191) k → IsKey k
+resolved_key meaning t k e h numbers =
+    go (subst (λ r. CountsAs (objects_of t) (nots_of t) r) e (resolved_counts meaning t))
   where
     go : CountsAs (objects_of t) (nots_of t) (Ok k) → IsKey k
     go c = record {

@@ -2,7 +2,7 @@
 use Rattle.std.specs.Prelude.{ℕ, ◌<◌, ◌≤◌, List, ◌++◌, length, take, codes, Result, Ok, Err}
 use Rattle.std.specs.List.{All}
 use Rattle.mud_key.specs.declared.key_fault.KeyFault.{KeyFault}
-use Rattle.mud_key.specs.declared.key_fault.KeyFault.TheVariants.{OutOfMemory, BadKey, TooManyAtoms, NoSuch, Ambiguous}
+use Rattle.mud_key.specs.declared.key_fault.KeyFault.TheVariants.{OutOfMemory, BadKey, TooManyAtoms}
 use Rattle.mud_key.specs.declared.operator.Operator.{Operator}
 use Rattle.mud_key.specs.declared.operator.Operator.TheVariants.{And, Or}
 use Rattle.mud_key.specs.Tree.{Tree, Has, Asks, Not, Join, IsWithinLimits}
@@ -68,5 +68,4 @@ ReadsAs text (Ok key) = SpellsKey text key × IsWithinLimits key
 ReadsAs text (Err OutOfMemory) = Unit {0}
 ReadsAs text (Err (BadKey at)) = IsNoKeyText text × IsLongestFront text at
 ReadsAs text (Err TooManyAtoms) = (key : Tree (List ℕ)) × SpellsKey text key × (IsWithinLimits key → ⊥)
-ReadsAs text (Err NoSuch) = ⊥
-ReadsAs text (Err Ambiguous) = ⊥
+ReadsAs text (Err other) = ⊥

@@ -20,9 +20,7 @@ by_text (Join op a b) = Join op (by_text a) (by_text b)
 -- the text of a key where a unary is wanted: in parentheses if the key joins two
 abbrev pub enclosed : Tree (List ℕ) → List ℕ → List ℕ
 enclosed (Join op a b) text = codes "(" ++ text ++ codes ")"
-enclosed (Has o) text = text
-enclosed (Asks o) text = text
-enclosed (Not k) text = text
+enclosed other text = text
 
 -- the printed text of a key
 abbrev pub printed : Tree (List ℕ) → List ℕ
@@ -49,12 +47,8 @@ pub record ReadsBack (text : List ℕ) (key : Tree ℕ) : Type 0 where
 -- the parentheses that `enclosed` puts round a key, or none; clauses of private parts alone cite them
 abbrev pub opening_of : Tree (List ℕ) → List ℕ
 opening_of (Join op a b) = codes "("
-opening_of (Has o) = []
-opening_of (Asks o) = []
-opening_of (Not k) = []
+opening_of other = []
 
 abbrev pub closing_of : Tree (List ℕ) → List ℕ
 closing_of (Join op a b) = codes ")"
-closing_of (Has o) = []
-closing_of (Asks o) = []
-closing_of (Not k) = []
+closing_of other = []

@@ -6,7 +6,7 @@ use Rattle.std.specs.Option.{option_and_then}
 use Rattle.mud_key.specs.declared.names.NamesFault.{NamesFault}
 use Rattle.mud_key.specs.declared.names.NamesFault.TheVariants.{OutOfMemory as NoMemory, BadName}
 use Rattle.mud_key.specs.declared.key_fault.KeyFault.{KeyFault}
-use Rattle.mud_key.specs.declared.key_fault.KeyFault.TheVariants.{OutOfMemory, BadKey, TooManyAtoms, NoSuch, Ambiguous}
+use Rattle.mud_key.specs.declared.key_fault.KeyFault.TheVariants.{OutOfMemory, BadKey, TooManyAtoms}
 use Rattle.mud_key.specs.Tree.{Tree, objects_of, nots_of, IsWithinLimits}
 use Rattle.mud_key.specs.Name.{IsName}
 use Rattle.mud_key.specs.Names.{IsNamesText, is_only}
@@ -52,8 +52,7 @@ FindsKey text (Ok key) = key_in text ≡ Some key
 FindsKey text (Err OutOfMemory) = Unit {0}
 FindsKey text (Err (BadKey at)) = key_in text ≡ None
 FindsKey text (Err TooManyAtoms) = key_in text ≡ None
-FindsKey text (Err NoSuch) = ⊥
-FindsKey text (Err Ambiguous) = ⊥
+FindsKey text (Err other) = ⊥
 
 -- the names found are those of the names text
 abbrev pub AreTheNames : Type 0

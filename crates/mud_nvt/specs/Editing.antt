@@ -14,9 +14,7 @@ use Rattle.mud_nvt.specs.declared.strokes.Stroke.TheVariants.{AreYouThere, Refus
 -- whether the piece is the data byte CR
 abbrev pub is_cr : Piece → Bool
 is_cr (Data b) = b == CR
-is_cr (Command b) = false
-is_cr (Request verb option) = false
-is_cr Subnegotiation = false
+is_cr other = false
 
 -- what a data byte does: LF and CR end the line, but for a LF or NUL right behind a CR
 abbrev pub data_stroke : Bool → ℕ → Stroke
@@ -68,19 +66,13 @@ line (Character c ∷ earlier) = line earlier ++ c ∷ []
 line (EraseCharacter ∷ earlier) = without_last (line earlier)
 line (EraseLine ∷ earlier) = []
 line (EndLine ∷ earlier) = []
-line (AreYouThere ∷ earlier) = line earlier
-line (Refuse verb option ∷ earlier) = line earlier
-line (Nothing ∷ earlier) = line earlier
+line (other ∷ earlier) = line earlier
 
 -- whether the stroke leaves an empty line, whatever stood there before
 abbrev pub empties_line : Stroke → Bool
-empties_line (Character c) = false
-empties_line EraseCharacter = false
 empties_line EraseLine = true
 empties_line EndLine = true
-empties_line AreYouThere = false
-empties_line (Refuse verb option) = false
-empties_line Nothing = false
+empties_line other = false
 
 -- the moments since the present line began or the last EL: at each all strokes up to then, the latest
 -- of them first

@@ -14,16 +14,9 @@ IsPrintable c = (SPACE ≤ c) × (c ≤ TILDE)
 -- a line is of printable characters, and of 1,000 at most
 abbrev pub IsSound : Given → Type 0
 IsSound (Text text) = All IsPrintable text × (length text ≤ MOST)
-IsSound TooLong = Unit {0}
-IsSound Ayt = Unit {0}
-IsSound (Answer bytes) = Unit {0}
+IsSound other = Unit {0}
 
 -- a stroke types a printable character, or none
 abbrev pub IsPlain : Stroke → Type 0
 IsPlain (Character c) = IsPrintable c
-IsPlain EraseCharacter = Unit {0}
-IsPlain EraseLine = Unit {0}
-IsPlain EndLine = Unit {0}
-IsPlain AreYouThere = Unit {0}
-IsPlain (Refuse verb option) = Unit {0}
-IsPlain Nothing = Unit {0}
+IsPlain other = Unit {0}

@@ -61,30 +61,22 @@ next_text too_long text (Character c) = text_with too_long text c
 next_text too_long text EraseCharacter = without_last text
 next_text too_long text EraseLine = []
 next_text too_long text EndLine = []
-next_text too_long text AreYouThere = text
-next_text too_long text (Refuse verb option) = text
-next_text too_long text Nothing = text
+next_text too_long text other = text
 
 -- whether the line is too long after a stroke
 abbrev pub next_too_long : Bool → List ℕ → Stroke → Bool
 next_too_long too_long text (Character c) =
     if too_long then true else (if nat_lt (length text) MOST then false else true)
-next_too_long too_long text EraseCharacter = too_long
 next_too_long too_long text EraseLine = false
 next_too_long too_long text EndLine = false
-next_too_long too_long text AreYouThere = too_long
-next_too_long too_long text (Refuse verb option) = too_long
-next_too_long too_long text Nothing = too_long
+next_too_long too_long text other = too_long
 
 -- the units that a stroke gives
 abbrev pub stroke_units : Bool → List ℕ → Stroke → List Given
 stroke_units too_long text EndLine = (if too_long then TooLong else Text text) ∷ []
 stroke_units too_long text AreYouThere = Ayt ∷ []
 stroke_units too_long text (Refuse verb option) = Answer (IAC ∷ verb ∷ option ∷ []) ∷ []
-stroke_units too_long text (Character c) = []
-stroke_units too_long text EraseCharacter = []
-stroke_units too_long text EraseLine = []
-stroke_units too_long text Nothing = []
+stroke_units too_long text other = []
 
 -- what is held after a stroke
 abbrev pub after_stroke : Held → Stroke → Held

@@ -11,13 +11,10 @@ use Rattle.mud_nvt.specs.History.{StandsAfter}
 
 -- whether a stroke may take memory: a character that is typed, and what gives a unit
 abbrev pub takes_memory : Stroke → Bool
-takes_memory (Character c) = true
 takes_memory EraseCharacter = false
 takes_memory EraseLine = false
-takes_memory EndLine = true
-takes_memory AreYouThere = true
-takes_memory (Refuse verb option) = true
 takes_memory Nothing = false
+takes_memory other = true
 
 -- behind these bytes the byte finishes a piece whose stroke may take memory
 pub record NeedsMemory (bytes : List ℕ) (b : ℕ) : Type 0 where

@@ -19,10 +19,7 @@ abbrev pub units_at : List Stroke → Stroke → List Given
 units_at earlier EndLine = (if is_too_long earlier then TooLong else Text (line earlier)) ∷ []
 units_at earlier AreYouThere = Ayt ∷ []
 units_at earlier (Refuse verb option) = Answer (IAC ∷ verb ∷ option ∷ []) ∷ []
-units_at earlier (Character c) = []
-units_at earlier EraseCharacter = []
-units_at earlier EraseLine = []
-units_at earlier Nothing = []
+units_at earlier other = []
 
 -- the units that these strokes give, each where it stands, after the earlier ones, the latest of them first
 abbrev pub units_after : List Stroke → List Stroke → List Given

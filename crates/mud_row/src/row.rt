@@ -1,6 +1,7 @@
 //! The cells of one history.
 
-ghost use Rattle.std.specs.Prelude.{◌≡◌, ◌++◌, ◌∷◌, [], ◌<◌, ◌≤◌, ◌+◌, ◌↔◌, ◌⊎◌, length, IfOk, IfErr, IsErrAnd, MatchOption, OnOk, OnErr, take};
+ghost use Rattle.std.specs.Prelude.{◌≡◌, ◌++◌, ◌∷◌, [], ◌<◌, ◌≤◌, ◌+◌, ◌↔◌, ◌⊎◌, length, take};
+ghost use Rattle.std.specs.Prelude.{IfOk, IfErr, IsErrAnd, MatchOption, OnOk, OnErr};
 ghost use Rattle.std.specs.Option.{option_copied};
 ghost use Rattle.mud_row.specs.Known.{entry_at, Fills};
 

@@ -235,7 +235,10 @@ listed = (
                                               λ e. (6, refl),
                                               (
                                                 λ e. (7, refl),
-                                                (λ e. (8, refl), (λ e. (9, refl), (λ e. (10, refl), (λ e. (11, refl), tt)))),
+                                                (
+                                                  λ e. (8, refl),
+                                                  (λ e. (9, refl), (λ e. (10, refl), (λ e. (11, refl), tt))),
+                                                ),
                                               ),
                                             ),
                                           ),

@@ -1,11 +1,12 @@
 -- Which object a text means.
-use Rattle.std.specs.Prelude.{ℕ, ◌+◌, ◌-◌, ◌*◌, Bool, true, false, ◌&&◌, nat_eq, nat_lt, List, [], ◌∷◌, ◌++◌, length}
+use Rattle.std.specs.Prelude.{ℕ, ◌+◌, ◌-◌, ◌*◌, Bool, ◌&&◌, nat_eq, nat_lt, List, [], ◌∷◌, ◌++◌, length}
 use Rattle.std.specs.Prelude.{take}
 use Rattle.std.specs.Prelude.{filter, codes, Option, Some, None, ok_or, Result, Ok, Err, if◌then◌else◌}
 use Rattle.std.specs.Option.{option_map_or}
 use Rattle.std.specs.List.{list_any, list_all, fold, range_with_len}
 use Rattle.std.specs.Char.{is_ascii_digit}
 use Rattle.std.specs.Str.{str_eq_ignore_ascii_case}
+pub use Rattle.mud_words.specs.Laws.{is_empty}
 use Rattle.mud_world.specs.State.{State, has, exists, is_room, is_player, place_of, contents_of, leaving_of}
 use Rattle.mud_rules.specs.declared.matching.Likeness.{Likeness}
 use Rattle.mud_rules.specs.declared.matching.Likeness.TheVariants.{Equal, Prefix}
@@ -57,10 +58,6 @@ object_number [] = None
 object_number (c ∷ digits) = if nat_eq c 35 then number_in digits else None
 
 -- ---- texts
-
-abbrev pub is_empty : {A : Type 0} → List A → Bool
-is_empty [] = true
-is_empty (x ∷ xs) = false
 
 -- the object that a text means to a player: `#n`, `me` and `here` are what they say; all else is the sole candidate
 -- that has the text as a name, or if there is none, the sole one with a name that begins with it

@@ -1,5 +1,6 @@
 -- The words of a line are those of the grammar.
-use Rattle.std.proofs.Common.{◌≡◌, ◌≢◌, ℕ, Bool, true, false, not, eqb, List, [], ◌∷◌, ◌++◌, codes, None, refl, sym, ap, ◌∙◌, ◌⊎◌, append_assoc, arith, inl, inr}
+use Rattle.std.proofs.Common.{◌≡◌, ◌≢◌, ℕ, Bool, true, false, not, eqb, List, [], ◌∷◌, ◌++◌, codes, None, refl, sym, ap}
+use Rattle.std.proofs.Common.{◌∙◌, ◌⊎◌, append_assoc, arith, inl, inr}
 use Rattle.std.specs.List.{slice_split, position_or_len}
 use Rattle.std.proofs.lemmas.List.{append-nil}
 use Rattle.std.proofs.lemmas.Bool.{cases_eq}
@@ -19,46 +20,69 @@ other : (b c : ℕ) → b ≢ c → eqb b c ≡ false
 other b c differs = elim (cases_eq b c) [ inl same ↦ absurd (differs same) | inr _ ↦ grind (arith, nat_tests) ]
 
 -- a byte that stands for itself, outside quotes and between them
-plain_goes : (v : List ℕ) (b : ℕ) (rest : List ℕ) → b ≢ 32 → b ≢ 34 → b ≢ 92 → goes v false false (b ∷ rest) ≡ goes (v ++ b ∷ []) false false rest
-plain_goes v b rest space quote slash = rw (other b 32 space, other b 34 quote, other b 92 slash) (onto v b (slice_split is_gap (pieces_from false false rest)))
+plain_goes : (v : List ℕ) (b : ℕ) (rest : List ℕ) → b ≢ 32 → b ≢ 34 → b ≢ 92
+    → goes v false false (b ∷ rest) ≡ goes (v ++ b ∷ []) false false rest
+plain_goes v b rest space quote slash =
+    rw (other b 32 space, other b 34 quote, other b 92 slash)
+    (onto v b (slice_split is_gap (pieces_from false false rest)))
 
-plain_begins : (b : ℕ) (rest : List ℕ) → b ≢ 32 → b ≢ 34 → b ≢ 92 → plain_words (b ∷ rest) ≡ goes (b ∷ []) false false rest
-plain_begins b rest space quote slash = rw (other b 32 space, other b 34 quote, other b 92 slash) (first b (slice_split is_gap (pieces_from false false rest)))
+plain_begins : (b : ℕ) (rest : List ℕ) → b ≢ 32 → b ≢ 34 → b ≢ 92
+    → plain_words (b ∷ rest) ≡ goes (b ∷ []) false false rest
+plain_begins b rest space quote slash =
+    rw (other b 32 space, other b 34 quote, other b 92 slash)
+    (first b (slice_split is_gap (pieces_from false false rest)))
 
-byte_goes : (v : List ℕ) (b : ℕ) (rest : List ℕ) → b ≢ 34 → b ≢ 92 → goes v true false (b ∷ rest) ≡ goes (v ++ b ∷ []) true false rest
-byte_goes v b rest quote slash = rw (other b 34 quote, other b 92 slash) (onto v b (slice_split is_gap (pieces_from true false rest)))
+byte_goes : (v : List ℕ) (b : ℕ) (rest : List ℕ) → b ≢ 34 → b ≢ 92
+    → goes v true false (b ∷ rest) ≡ goes (v ++ b ∷ []) true false rest
+byte_goes v b rest quote slash =
+    rw (other b 34 quote, other b 92 slash) (onto v b (slice_split is_gap (pieces_from true false rest)))
 
 -- a backslash and the byte behind it
-slash_goes : (v : List ℕ) (inside : Bool) (b : ℕ) (rest : List ℕ) → goes v inside false (92 ∷ b ∷ rest) ≡ goes (v ++ b ∷ []) inside false rest
-slash_goes v inside b rest = more_mark v (slice_split is_gap (pieces_from inside true (b ∷ rest))) ∙ onto v b (slice_split is_gap (pieces_from inside false rest))
+slash_goes : (v : List ℕ) (inside : Bool) (b : ℕ) (rest : List ℕ)
+    → goes v inside false (92 ∷ b ∷ rest) ≡ goes (v ++ b ∷ []) inside false rest
+slash_goes v inside b rest =
+    more_mark v (slice_split is_gap (pieces_from inside true (b ∷ rest)))
+    ∙ onto v b (slice_split is_gap (pieces_from inside false rest))
 
 -- ---- what the grammar allows is found
-between : {x text : List ℕ} → SpellsQuoted x text → (v rest : List ℕ) → goes v true false (x ++ rest) ≡ goes (v ++ text) true false rest
+between : {x text : List ℕ} → SpellsQuoted x text → (v rest : List ℕ)
+    → goes v true false (x ++ rest) ≡ goes (v ++ text) true false rest
 between grammar.nothing v rest = ap (λ l. goes l true false rest) (sym (append-nil v))
-between (grammar.byte {b} {x} {text} quote slash q) v rest = byte_goes v b (x ++ rest) quote slash ∙ between q (v ++ b ∷ []) rest ∙ ap (λ l. goes l true false rest) (append_assoc v (b ∷ []) text)
-between (grammar.guarded {b} {x} {text} q) v rest = slash_goes v true b (x ++ rest) ∙ between q (v ++ b ∷ []) rest ∙ ap (λ l. goes l true false rest) (append_assoc v (b ∷ []) text)
+between (grammar.byte {b} {x} {text} quote slash q) v rest =
+    byte_goes v b (x ++ rest) quote slash ∙ between q (v ++ b ∷ []) rest
+    ∙ ap (λ l. goes l true false rest) (append_assoc v (b ∷ []) text)
+between (grammar.guarded {b} {x} {text} q) v rest =
+    slash_goes v true b (x ++ rest) ∙ between q (v ++ b ∷ []) rest
+    ∙ ap (λ l. goes l true false rest) (append_assoc v (b ∷ []) text)
 
-in_quotes : {x text : List ℕ} → SpellsQuoted x text → (v rest : List ℕ) → goes v false false (34 ∷ ((x ++ 34 ∷ []) ++ rest)) ≡ goes (v ++ text) false false rest
+in_quotes : {x text : List ℕ} → SpellsQuoted x text → (v rest : List ℕ)
+    → goes v false false (34 ∷ ((x ++ 34 ∷ []) ++ rest)) ≡ goes (v ++ text) false false rest
 in_quotes {x} {text} q v rest =
     more_mark v (slice_split is_gap (pieces_from true false ((x ++ 34 ∷ []) ++ rest)))
     ∙ ap (goes v true false) (append_assoc x (34 ∷ []) rest)
     ∙ between q v (34 ∷ rest)
     ∙ more_mark (v ++ text) (slice_split is_gap (pieces_from false false rest))
 
-run_goes : {x text : List ℕ} → SpellsRun x text → (v rest : List ℕ) → goes v false false (x ++ rest) ≡ goes (v ++ text) false false rest
+run_goes : {x text : List ℕ} → SpellsRun x text → (v rest : List ℕ)
+    → goes v false false (x ++ rest) ≡ goes (v ++ text) false false rest
 run_goes (grammar.plain {b} space quote slash) v rest = plain_goes v b rest space quote slash
 run_goes (grammar.escaped {b}) v rest = slash_goes v false b rest
 run_goes (grammar.quoted q) v rest = in_quotes q v rest
 
-run_begins : {x text : List ℕ} → SpellsRun x text → (rest : List ℕ) → plain_words (x ++ rest) ≡ goes text false false rest
+run_begins : {x text : List ℕ} → SpellsRun x text → (rest : List ℕ)
+    → plain_words (x ++ rest) ≡ goes text false false rest
 run_begins (grammar.plain {b} space quote slash) rest = plain_begins b rest space quote slash
-run_begins (grammar.escaped {b}) rest = mark None (pieces_from false true (b ∷ rest)) ∙ onto [] b (slice_split is_gap (pieces_from false false rest))
+run_begins (grammar.escaped {b}) rest =
+    mark None (pieces_from false true (b ∷ rest)) ∙ onto [] b (slice_split is_gap (pieces_from false false rest))
 run_begins (grammar.quoted {x} q) rest =
-    mark None (pieces_from true false ((x ++ 34 ∷ []) ++ rest)) ∙ sym (more_mark [] (slice_split is_gap (pieces_from true false ((x ++ 34 ∷ []) ++ rest)))) ∙ in_quotes q [] rest
+    mark None (pieces_from true false ((x ++ 34 ∷ []) ++ rest))
+    ∙ sym (more_mark [] (slice_split is_gap (pieces_from true false ((x ++ 34 ∷ []) ++ rest))))
+    ∙ in_quotes q [] rest
 
 word_begins : {x w : List ℕ} → SpellsWord x w → (rest : List ℕ) → plain_words (x ++ rest) ≡ goes w false false rest
 word_begins (grammar.one run) rest = run_begins run rest
-word_begins (grammar.more {x} {v} {y} word run) rest = ap plain_words (append_assoc x y rest) ∙ word_begins word (y ++ rest) ∙ run_goes run v rest
+word_begins (grammar.more {x} {v} {y} word run) rest =
+    ap plain_words (append_assoc x y rest) ∙ word_begins word (y ++ rest) ∙ run_goes run v rest
 
 -- the word that the end of a line ends
 ended : (v : List ℕ) → goes v false false [] ≡ v ∷ []
@@ -78,8 +102,11 @@ open_goes (grammar.quote_backslash {x} {text} q) v =
 
 open_begins : {x text : List ℕ} → SpellsOpen x text → plain_words x ≡ goes [] false false x
 open_begins grammar.backslash = refl
-open_begins (grammar.quote {x} q) = mark None (pieces_from true false x) ∙ sym (more_mark [] (slice_split is_gap (pieces_from true false x)))
-open_begins (grammar.quote_backslash {x} q) = mark None (pieces_from true false (x ++ 92 ∷ [])) ∙ sym (more_mark [] (slice_split is_gap (pieces_from true false (x ++ 92 ∷ []))))
+open_begins (grammar.quote {x} q) =
+    mark None (pieces_from true false x) ∙ sym (more_mark [] (slice_split is_gap (pieces_from true false x)))
+open_begins (grammar.quote_backslash {x} q) =
+    mark None (pieces_from true false (x ++ 92 ∷ []))
+    ∙ sym (more_mark [] (slice_split is_gap (pieces_from true false (x ++ 92 ∷ []))))
 
 last_found : {x w : List ℕ} → SpellsLast x w → plain_words x ≡ w ∷ []
 last_found (grammar.whole {x} {w} word) = ap plain_words (sym (append-nil x)) ∙ word_begins word [] ∙ ended w
@@ -89,7 +116,9 @@ last_found (grammar.word_unclosed {x} {v} {y} word rest) = word_begins word y �
 pub found : {line : List ℕ} {ws : List (List ℕ)} → HasWords line ws → plain_words line ≡ ws
 found grammar.none = refl
 found (grammar.space line) = found line
-found (grammar.word {x} {w} {y} {ws} word line) = ap plain_words (append_assoc x (32 ∷ []) y) ∙ word_begins word (32 ∷ y) ∙ ap (λ (l : List ℕ). l ∷ plain_words y) (append-nil w) ∙ ap (λ (l : List (List ℕ)). w ∷ l) (found line)
+found (grammar.word {x} {w} {y} {ws} word line) =
+    ap plain_words (append_assoc x (32 ∷ []) y) ∙ word_begins word (32 ∷ y)
+    ∙ ap (λ (l : List ℕ). l ∷ plain_words y) (append-nil w) ∙ ap (λ (l : List (List ℕ)). w ∷ l) (found line)
 found (grammar.last word) = last_found word
 
 -- ---- what is found the grammar allows
@@ -120,61 +149,87 @@ record Reads (text : List ℕ) : Type 0 where
   starts : HasWords text (plain_words text)
   in_word : {x w : List ℕ} → SpellsWord x w → HasWords (x ++ text) (goes w false false text)
   behind_slash : {x v : List ℕ} → Front x v → HasWords (x ++ 92 ∷ text) (goes v false true text)
-  quoted : {x v y w : List ℕ} → Front x v → SpellsQuoted y w → HasWords (x ++ 34 ∷ (y ++ text)) (goes (v ++ w) true false text)
-  quoted_behind_slash : {x v y w : List ℕ} → Front x v → SpellsQuoted y w → HasWords (x ++ 34 ∷ (y ++ 92 ∷ text)) (goes (v ++ w) true true text)
+  quoted : {x v y w : List ℕ} → Front x v → SpellsQuoted y w
+      → HasWords (x ++ 34 ∷ (y ++ text)) (goes (v ++ w) true false text)
+  quoted_behind_slash : {x v y w : List ℕ} → Front x v → SpellsQuoted y w
+      → HasWords (x ++ 34 ∷ (y ++ 92 ∷ text)) (goes (v ++ w) true true text)
 
 reads_nothing : Reads []
 reads_nothing = record {
   starts = grammar.none;
   in_word = λ {x} {w} word. line_is (append-nil x) (ended w) (grammar.last (grammar.whole word));
   behind_slash = λ {x} {v} front. with_open front grammar.backslash;
-  quoted = λ {x} {v} {y} {w} front q. line_is (ap (λ l. x ++ 34 ∷ l) (append-nil y)) (ended (v ++ w)) (with_open front (grammar.quote q));
-  quoted_behind_slash = λ {x} {v} {y} {w} front q. line_is refl (ended (v ++ w)) (with_open front (grammar.quote_backslash q));
+  quoted = λ {x} {v} {y} {w} front q.
+      line_is (ap (λ l. x ++ 34 ∷ l) (append-nil y)) (ended (v ++ w)) (with_open front (grammar.quote q));
+  quoted_behind_slash =
+      λ {x} {v} {y} {w} front q. line_is refl (ended (v ++ w)) (with_open front (grammar.quote_backslash q));
 }
 
 abbrev Splits : ℕ → ℕ → Type 0
 Splits b c = (b ≡ c) ⊎ (b ≢ c)
 
 -- a byte at the start of a line
-start_with : (b : ℕ) (rest : List ℕ) → Splits b 32 → Splits b 34 → Splits b 92 → Reads rest → HasWords (b ∷ rest) (plain_words (b ∷ rest))
+start_with : (b : ℕ) (rest : List ℕ) → Splits b 32 → Splits b 34 → Splits b 92 → Reads rest
+    → HasWords (b ∷ rest) (plain_words (b ∷ rest))
 start_with b rest (inl space) quote slash reads = rw space (grammar.space reads.starts)
-start_with b rest (inr space) (inl quote) slash reads = rw quote (line_is refl (mark None (pieces_from true false rest)) (reads.quoted bare grammar.nothing))
-start_with b rest (inr space) (inr quote) (inl slash) reads = rw slash (line_is refl (mark None (pieces_from false true rest)) (reads.behind_slash bare))
-start_with b rest (inr space) (inr quote) (inr slash) reads = line_is refl (plain_begins b rest space quote slash) (reads.in_word (grammar.one (grammar.plain space quote slash)))
+start_with b rest (inr space) (inl quote) slash reads =
+    rw quote (line_is refl (mark None (pieces_from true false rest)) (reads.quoted bare grammar.nothing))
+start_with b rest (inr space) (inr quote) (inl slash) reads =
+    rw slash (line_is refl (mark None (pieces_from false true rest)) (reads.behind_slash bare))
+start_with b rest (inr space) (inr quote) (inr slash) reads =
+    line_is refl (plain_begins b rest space quote slash) (reads.in_word (grammar.one (grammar.plain space quote slash)))
 
 -- a byte in a word
-go_on_with : (b : ℕ) (rest : List ℕ) {x w : List ℕ} → Splits b 32 → Splits b 34 → Splits b 92 → Reads rest → SpellsWord x w → HasWords (x ++ b ∷ rest) (goes w false false (b ∷ rest))
-go_on_with b rest {x} {w} (inl space) quote slash reads word = rw space (line_is (sym (append_assoc x (32 ∷ []) rest)) (ap (λ (l : List ℕ). l ∷ plain_words rest) (append-nil w)) (grammar.word word reads.starts))
+go_on_with : (b : ℕ) (rest : List ℕ) {x w : List ℕ} → Splits b 32 → Splits b 34 → Splits b 92 → Reads rest
+    → SpellsWord x w → HasWords (x ++ b ∷ rest) (goes w false false (b ∷ rest))
+go_on_with b rest {x} {w} (inl space) quote slash reads word =
+    rw space (line_is (sym (append_assoc x (32 ∷ []) rest)) (ap (λ (l : List ℕ). l ∷ plain_words rest) (append-nil w))
+    (grammar.word word reads.starts))
 go_on_with b rest {x} {w} (inr space) (inl quote) slash reads word =
-    rw quote (line_is refl (more_mark w (slice_split is_gap (pieces_from true false rest)) ∙ ap (λ l. goes l true false rest) (sym (append-nil w))) (reads.quoted (runs word) grammar.nothing))
-go_on_with b rest {x} {w} (inr space) (inr quote) (inl slash) reads word = rw slash (line_is refl (more_mark w (slice_split is_gap (pieces_from false true rest))) (reads.behind_slash (runs word)))
+    rw quote (line_is refl
+    (more_mark w (slice_split is_gap (pieces_from true false rest))
+    ∙ ap (λ l. goes l true false rest) (sym (append-nil w))) (reads.quoted (runs word) grammar.nothing))
+go_on_with b rest {x} {w} (inr space) (inr quote) (inl slash) reads word =
+    rw slash (line_is refl (more_mark w (slice_split is_gap (pieces_from false true rest)))
+    (reads.behind_slash (runs word)))
 go_on_with b rest {x} {w} (inr space) (inr quote) (inr slash) reads word =
-    line_is (sym (append_assoc x (b ∷ []) rest)) (plain_goes w b rest space quote slash) (reads.in_word (grammar.more word (grammar.plain space quote slash)))
+    line_is (sym (append_assoc x (b ∷ []) rest)) (plain_goes w b rest space quote slash)
+    (reads.in_word (grammar.more word (grammar.plain space quote slash)))
 
 -- a byte behind a backslash in a word
-slash_with : (b : ℕ) (rest : List ℕ) {x v : List ℕ} → Reads rest → Front x v → HasWords (x ++ 92 ∷ b ∷ rest) (goes v false true (b ∷ rest))
+slash_with : (b : ℕ) (rest : List ℕ) {x v : List ℕ} → Reads rest → Front x v
+    → HasWords (x ++ 92 ∷ b ∷ rest) (goes v false true (b ∷ rest))
 slash_with b rest {x} {v} reads front =
-    line_is (sym (append_assoc x (92 ∷ b ∷ []) rest)) (onto v b (slice_split is_gap (pieces_from false false rest))) (reads.in_word (with_run front (grammar.escaped {b = b})))
+    line_is (sym (append_assoc x (92 ∷ b ∷ []) rest)) (onto v b (slice_split is_gap (pieces_from false false rest)))
+    (reads.in_word (with_run front (grammar.escaped {b = b})))
 
 -- the front of a line, and an open quote with a text in it
 quote_assoc : (x y z rest : List ℕ) → x ++ 34 ∷ (y ++ (z ++ rest)) ≡ x ++ 34 ∷ ((y ++ z) ++ rest)
 quote_assoc x y z rest = ap (λ l. x ++ 34 ∷ l) (sym (append_assoc y z rest))
 
 -- a byte between quotes
-quote_with : (b : ℕ) (rest : List ℕ) {x v y w : List ℕ} → Splits b 34 → Splits b 92 → Reads rest → Front x v → SpellsQuoted y w → HasWords (x ++ 34 ∷ (y ++ b ∷ rest)) (goes (v ++ w) true false (b ∷ rest))
+quote_with : (b : ℕ) (rest : List ℕ) {x v y w : List ℕ} → Splits b 34 → Splits b 92 → Reads rest → Front x v
+    → SpellsQuoted y w → HasWords (x ++ 34 ∷ (y ++ b ∷ rest)) (goes (v ++ w) true false (b ∷ rest))
 quote_with b rest {x} {v} {y} {w} (inl quote) slash reads front q =
     rw quote
-    (line_is (quote_assoc x y (34 ∷ []) rest ∙ sym (append_assoc x (34 ∷ (y ++ 34 ∷ [])) rest)) (more_mark (v ++ w) (slice_split is_gap (pieces_from false false rest)))
+    (line_is (quote_assoc x y (34 ∷ []) rest ∙ sym (append_assoc x (34 ∷ (y ++ 34 ∷ [])) rest))
+    (more_mark (v ++ w) (slice_split is_gap (pieces_from false false rest)))
     (reads.in_word (with_run front (grammar.quoted q))))
-quote_with b rest {x} {v} {y} {w} (inr quote) (inl slash) reads front q = rw slash (line_is refl (more_mark (v ++ w) (slice_split is_gap (pieces_from true true rest))) (reads.quoted_behind_slash front q))
+quote_with b rest {x} {v} {y} {w} (inr quote) (inl slash) reads front q =
+    rw slash (line_is refl (more_mark (v ++ w) (slice_split is_gap (pieces_from true true rest)))
+    (reads.quoted_behind_slash front q))
 quote_with b rest {x} {v} {y} {w} (inr quote) (inr slash) reads front q =
-    line_is (quote_assoc x y (b ∷ []) rest) (byte_goes (v ++ w) b rest quote slash ∙ ap (λ l. goes l true false rest) (append_assoc v w (b ∷ [])))
+    line_is (quote_assoc x y (b ∷ []) rest)
+    (byte_goes (v ++ w) b rest quote slash ∙ ap (λ l. goes l true false rest) (append_assoc v w (b ∷ [])))
     (reads.quoted front (with_quoted q (grammar.byte quote slash grammar.nothing)))
 
 -- a byte behind a backslash between quotes
-quote_slash_with : (b : ℕ) (rest : List ℕ) {x v y w : List ℕ} → Reads rest → Front x v → SpellsQuoted y w → HasWords (x ++ 34 ∷ (y ++ 92 ∷ b ∷ rest)) (goes (v ++ w) true true (b ∷ rest))
+quote_slash_with : (b : ℕ) (rest : List ℕ) {x v y w : List ℕ} → Reads rest → Front x v → SpellsQuoted y w
+    → HasWords (x ++ 34 ∷ (y ++ 92 ∷ b ∷ rest)) (goes (v ++ w) true true (b ∷ rest))
 quote_slash_with b rest {x} {v} {y} {w} reads front q =
-    line_is (quote_assoc x y (92 ∷ b ∷ []) rest) (onto (v ++ w) b (slice_split is_gap (pieces_from true false rest)) ∙ ap (λ l. goes l true false rest) (append_assoc v w (b ∷ [])))
+    line_is (quote_assoc x y (92 ∷ b ∷ []) rest)
+    (onto (v ++ w) b (slice_split is_gap (pieces_from true false rest))
+    ∙ ap (λ l. goes l true false rest) (append_assoc v w (b ∷ [])))
     (reads.quoted front (with_quoted q (grammar.guarded {b = b} grammar.nothing)))
 
 reads_byte : (b : ℕ) (rest : List ℕ) → Splits b 32 → Splits b 34 → Splits b 92 → Reads rest → Reads (b ∷ rest)
@@ -198,25 +253,34 @@ spelled line ws same = line_is refl (sym same) (reads_text line).starts
 abbrev behind : Bool → Bool → List ℕ → List ℕ
 behind quoted escaped text = from_gap (pieces_from quoted escaped text) text
 
-behind_plain : (b : ℕ) (rest : List ℕ) → b ≢ 32 → b ≢ 34 → b ≢ 92 → behind false false (b ∷ rest) ≡ behind false false rest
-behind_plain b rest space quote slash = rw (other b 32 space, other b 34 quote, other b 92 slash) (drop-past_one (position_or_len is_gap (pieces_from false false rest)) b rest)
+behind_plain : (b : ℕ) (rest : List ℕ) → b ≢ 32 → b ≢ 34 → b ≢ 92
+    → behind false false (b ∷ rest) ≡ behind false false rest
+behind_plain b rest space quote slash =
+    rw (other b 32 space, other b 34 quote, other b 92 slash)
+    (drop-past_one (position_or_len is_gap (pieces_from false false rest)) b rest)
 
 behind_byte : (b : ℕ) (rest : List ℕ) → b ≢ 34 → b ≢ 92 → behind true false (b ∷ rest) ≡ behind true false rest
-behind_byte b rest quote slash = rw (other b 34 quote, other b 92 slash) (drop-past_one (position_or_len is_gap (pieces_from true false rest)) b rest)
+behind_byte b rest quote slash =
+    rw (other b 34 quote, other b 92 slash)
+    (drop-past_one (position_or_len is_gap (pieces_from true false rest)) b rest)
 
-behind_slash_byte : (inside : Bool) (b : ℕ) (rest : List ℕ) → behind inside false (92 ∷ b ∷ rest) ≡ behind inside false rest
+behind_slash_byte : (inside : Bool) (b : ℕ) (rest : List ℕ)
+    → behind inside false (92 ∷ b ∷ rest) ≡ behind inside false rest
 behind_slash_byte inside b rest =
-    drop-past_one (position_or_len is_gap (pieces_from inside true (b ∷ rest))) 92 (b ∷ rest) ∙ drop-past_one (position_or_len is_gap (pieces_from inside false rest)) b rest
+    drop-past_one (position_or_len is_gap (pieces_from inside true (b ∷ rest))) 92 (b ∷ rest)
+    ∙ drop-past_one (position_or_len is_gap (pieces_from inside false rest)) b rest
 
 behind_quote : (inside : Bool) (rest : List ℕ) → behind inside false (34 ∷ rest) ≡ behind (not inside) false rest
 behind_quote inside rest = drop-past_one (position_or_len is_gap (pieces_from (not inside) false rest)) 34 rest
 
-behind_between : {x text : List ℕ} → SpellsQuoted x text → (rest : List ℕ) → behind true false (x ++ rest) ≡ behind true false rest
+behind_between : {x text : List ℕ} → SpellsQuoted x text → (rest : List ℕ)
+    → behind true false (x ++ rest) ≡ behind true false rest
 behind_between grammar.nothing rest = refl
 behind_between (grammar.byte {b} {x} quote slash q) rest = behind_byte b (x ++ rest) quote slash ∙ behind_between q rest
 behind_between (grammar.guarded {b} {x} q) rest = behind_slash_byte true b (x ++ rest) ∙ behind_between q rest
 
-behind_run : {x text : List ℕ} → SpellsRun x text → (rest : List ℕ) → behind false false (x ++ rest) ≡ behind false false rest
+behind_run : {x text : List ℕ} → SpellsRun x text → (rest : List ℕ)
+    → behind false false (x ++ rest) ≡ behind false false rest
 behind_run (grammar.plain {b} space quote slash) rest = behind_plain b rest space quote slash
 behind_run (grammar.escaped {b}) rest = behind_slash_byte false b rest
 behind_run (grammar.quoted {x} q) rest =
@@ -225,13 +289,16 @@ behind_run (grammar.quoted {x} q) rest =
     ∙ behind_between q (34 ∷ rest)
     ∙ behind_quote true rest
 
-behind_word : {x w : List ℕ} → SpellsWord x w → (rest : List ℕ) → behind false false (x ++ rest) ≡ behind false false rest
+behind_word : {x w : List ℕ} → SpellsWord x w → (rest : List ℕ)
+    → behind false false (x ++ rest) ≡ behind false false rest
 behind_word (grammar.one run) rest = behind_run run rest
-behind_word (grammar.more {x} {v} {y} word run) rest = ap (behind false false) (append_assoc x y rest) ∙ behind_word word (y ++ rest) ∙ behind_run run rest
+behind_word (grammar.more {x} {v} {y} word run) rest =
+    ap (behind false false) (append_assoc x y rest) ∙ behind_word word (y ++ rest) ∙ behind_run run rest
 
 behind_open : {x w : List ℕ} → SpellsOpen x w → behind false false x ≡ []
 behind_open grammar.backslash = refl
-behind_open (grammar.quote {x} q) = behind_quote false x ∙ ap (behind true false) (sym (append-nil x)) ∙ behind_between q []
+behind_open (grammar.quote {x} q) =
+    behind_quote false x ∙ ap (behind true false) (sym (append-nil x)) ∙ behind_between q []
 behind_open (grammar.quote_backslash {x} q) = behind_quote false (x ++ 92 ∷ []) ∙ behind_between q (92 ∷ [])
 
 pub behind_last : {x w : List ℕ} → SpellsLast x w → after_first_word x ≡ []

@@ -13,14 +13,21 @@ joined_by f [] = refl
 joined_by f (x ∷ []) = append-nil (f x)
 joined_by f (x ∷ y ∷ xs) = ap (λ (l : List ℕ). f x ++ (32 ∷ l)) (joined_by f (y ∷ xs))
 
-round_is : {X : Type 0} (f : X → List ℕ) (verb rest direct indirect : List ℕ) (xs : List X) (spot : Spot) (o : Option Found) → Some spot ≡ option_map spot_of o → direct ≡ joined (map f (take spot.start xs)) → indirect ≡ joined (map f (drop spot.end xs))
-    → record { verb = verb; args = map f xs; direct = direct; prep = Some spot.prep; indirect = indirect; rest = rest } ≡ round verb (map f xs) rest o
+round_is : {X : Type 0} (f : X → List ℕ) (verb rest direct indirect : List ℕ) (xs : List X) (spot : Spot)
+    (o : Option Found) → Some spot ≡ option_map spot_of o → direct ≡ joined (map f (take spot.start xs))
+    → indirect ≡ joined (map f (drop spot.end xs))
+    → record { verb = verb; args = map f xs; direct = direct; prep = Some spot.prep; indirect = indirect; rest = rest }
+    ≡ round verb (map f xs) rest o
 round_is f verb rest direct indirect xs spot None is before behind = cc
 round_is f verb rest direct indirect xs spot (Some g) is before behind =
     let same : spot ≡ spot_of g = cc in
     rw (before, behind, same, take-map, drop-map) refl
 
 -- what stands round a preposition
-pub split_is : {X : Type 0} (f : X → List ℕ) (verb rest direct indirect : List ℕ) (xs : List X) (spot : Spot) → Some spot ≡ option_map spot_of (counted (map f xs)) → direct ≡ joined (map f (take spot.start xs)) → indirect ≡ joined (map f (drop spot.end xs))
-    → record { verb = verb; args = map f xs; direct = direct; prep = Some spot.prep; indirect = indirect; rest = rest } ≡ split verb (map f xs) rest
-split_is f verb rest direct indirect xs spot is before behind = round_is f verb rest direct indirect xs spot _ is before behind
+pub split_is : {X : Type 0} (f : X → List ℕ) (verb rest direct indirect : List ℕ) (xs : List X) (spot : Spot)
+    → Some spot ≡ option_map spot_of (counted (map f xs)) → direct ≡ joined (map f (take spot.start xs))
+    → indirect ≡ joined (map f (drop spot.end xs))
+    → record { verb = verb; args = map f xs; direct = direct; prep = Some spot.prep; indirect = indirect; rest = rest }
+    ≡ split verb (map f xs) rest
+split_is f verb rest direct indirect xs spot is before behind =
+    round_is f verb rest direct indirect xs spot _ is before behind

@@ -1,5 +1,6 @@
 -- The laws of the words of a line.
-use Rattle.std.proofs.Common.{◌≡◌, ℕ, ◌==◌, Bool, true, false, not, ◌&&◌, ◌||◌, cond, eqb, List, [], ◌∷◌, ◌++◌, map, filter, None, refl, sym, ap, ◌∙◌, append_assoc}
+use Rattle.std.proofs.Common.{◌≡◌, ℕ, ◌==◌, Bool, true, false, not, ◌&&◌, ◌||◌, cond, eqb, List, [], ◌∷◌, ◌++◌, map}
+use Rattle.std.proofs.Common.{filter, None, refl, sym, ap, ◌∙◌, append_assoc}
 use Rattle.std.specs.List.{slice_split, onto_first, flat_map, join_with_byte, list_all}
 use Rattle.std.proofs.lemmas.List.{append-nil}
 use Rattle.std.proofs.lemmas.Bool.{false≢true}
@@ -16,10 +17,16 @@ abbrev goes : List ℕ → Bool → Bool → List ℕ → List (List ℕ)
 goes word quoted escaped text = goes_on word (slice_split is_gap (pieces_from quoted escaped text))
 
 -- a guarded byte between quotes adds itself, whichever test finds it to be a mark
-guarded_goes : (word : List ℕ) (b : ℕ) (rest : List ℕ) (quote backslash : Bool) → eqb b 34 ≡ quote → eqb b 92 ≡ backslash → goes word true false (cond (quote || backslash) (92 ∷ b ∷ []) (b ∷ []) ++ rest) ≡ goes (word ++ b ∷ []) true false rest
-guarded_goes word b rest true backslash is_quote is_backslash = more_mark word _ ∙ onto word b (slice_split is_gap (pieces_from true false rest))
-guarded_goes word b rest false true is_quote is_backslash = more_mark word _ ∙ onto word b (slice_split is_gap (pieces_from true false rest))
-guarded_goes word b rest false false is_quote is_backslash = rw (is_quote, is_backslash) (onto word b (slice_split is_gap (pieces_from true false rest)))
+guarded_goes : (word : List ℕ) (b : ℕ) (rest : List ℕ) (quote backslash : Bool) → eqb b 34 ≡ quote
+    → eqb b 92 ≡ backslash
+    → goes word true false (cond (quote || backslash) (92 ∷ b ∷ []) (b ∷ []) ++ rest)
+    ≡ goes (word ++ b ∷ []) true false rest
+guarded_goes word b rest true backslash is_quote is_backslash =
+    more_mark word _ ∙ onto word b (slice_split is_gap (pieces_from true false rest))
+guarded_goes word b rest false true is_quote is_backslash =
+    more_mark word _ ∙ onto word b (slice_split is_gap (pieces_from true false rest))
+guarded_goes word b rest false false is_quote is_backslash =
+    rw (is_quote, is_backslash) (onto word b (slice_split is_gap (pieces_from true false rest)))
 
 inside : (word w rest : List ℕ) → goes word true false (flat_map guarded w ++ rest) ≡ goes (word ++ w) true false rest
 inside word [] rest = ap (λ l. goes l true false rest) (sym (append-nil word))
@@ -46,7 +53,9 @@ word_then w rest = ap (λ (l : List ℕ). l ∷ plain_words rest) (append-nil w)
 pub quoted_words : (ws : List (List ℕ)) → plain_words (join_with_byte 32 (map quoted ws)) ≡ ws
 quoted_words [] = refl
 quoted_words (w ∷ []) = ap plain_words (sym (append-nil (quoted w))) ∙ quoted_goes w [] ∙ last_word w
-quoted_words (w ∷ v ∷ vs) = quoted_goes w (32 ∷ join_with_byte 32 (map quoted (v ∷ vs))) ∙ word_then w (join_with_byte 32 (map quoted (v ∷ vs))) ∙ ap (λ (l : List (List ℕ)). w ∷ l) (quoted_words (v ∷ vs))
+quoted_words (w ∷ v ∷ vs) =
+    quoted_goes w (32 ∷ join_with_byte 32 (map quoted (v ∷ vs))) ∙ word_then w (join_with_byte 32 (map quoted (v ∷ vs)))
+    ∙ ap (λ (l : List (List ℕ)). w ∷ l) (quoted_words (v ∷ vs))
 
 -- ---- a line without quotes and backslashes
 both : (a b : Bool) → (a && b) ≡ true → (a ≡ true) × (b ≡ true)
@@ -58,15 +67,19 @@ no_mark true backslash h = absurd (false≢true h)
 no_mark false true h = absurd (false≢true h)
 no_mark false false h = (refl, refl)
 
-onto_chars : (b : ℕ) (parts : List (List ℕ)) → onto_first (Char b) (map (map Char) parts) ≡ map (map Char) (onto_first b parts)
+onto_chars : (b : ℕ) (parts : List (List ℕ))
+    → onto_first (Char b) (map (map Char) parts) ≡ map (map Char) (onto_first b parts)
 onto_chars b [] = refl
 onto_chars b (part ∷ parts) = refl
 
-plain_byte : (b : ℕ) (space : Bool) (ps : List Piece) (parts : List (List ℕ)) → slice_split is_gap ps ≡ map (map Char) parts → slice_split is_gap (cond space Gap (Char b) ∷ ps) ≡ map (map Char) (cond space ([] ∷ parts) (onto_first b parts))
+plain_byte : (b : ℕ) (space : Bool) (ps : List Piece) (parts : List (List ℕ))
+    → slice_split is_gap ps ≡ map (map Char) parts
+    → slice_split is_gap (cond space Gap (Char b) ∷ ps) ≡ map (map Char) (cond space ([] ∷ parts) (onto_first b parts))
 plain_byte b true ps parts h = ap (λ (l : List (List Piece)). [] ∷ l) h
 plain_byte b false ps parts h = ap (onto_first (Char b)) h ∙ onto_chars b parts
 
-plain_pieces : (line : List ℕ) → list_all (λ b. not (is_mark b)) line ≡ true → slice_split is_gap (pieces line) ≡ map (map Char) (slice_split is_space line)
+plain_pieces : (line : List ℕ) → list_all (λ b. not (is_mark b)) line ≡ true
+    → slice_split is_gap (pieces line) ≡ map (map Char) (slice_split is_space line)
 plain_pieces [] all = refl
 plain_pieces (b ∷ bs) all =
     let parts = both (not (is_mark b)) (list_all (λ b. not (is_mark b)) bs) all in
@@ -80,7 +93,10 @@ chars_text (b ∷ bs) = ap (λ (l : List ℕ). b ∷ l) (chars_text bs)
 chars_texts : (parts : List (List ℕ)) → texts_of (map (map Char) parts) ≡ filter (λ word. not (is_empty word)) parts
 chars_texts [] = refl
 chars_texts ([] ∷ parts) = chars_texts parts
-chars_texts ((b ∷ bs) ∷ parts) = ap (λ (l : List ℕ). (b ∷ l) ∷ texts_of (map (map Char) parts)) (chars_text bs) ∙ ap (λ (l : List (List ℕ)). (b ∷ bs) ∷ l) (chars_texts parts)
+chars_texts ((b ∷ bs) ∷ parts) =
+    ap (λ (l : List ℕ). (b ∷ l) ∷ texts_of (map (map Char) parts)) (chars_text bs)
+    ∙ ap (λ (l : List (List ℕ)). (b ∷ bs) ∷ l) (chars_texts parts)
 
-pub plain_lines : (line : List ℕ) → list_all (λ b. not (is_mark b)) line ≡ true → plain_words line ≡ filter (λ word. not (is_empty word)) (slice_split is_space line)
+pub plain_lines : (line : List ℕ) → list_all (λ b. not (is_mark b)) line ≡ true
+    → plain_words line ≡ filter (λ word. not (is_empty word)) (slice_split is_space line)
 plain_lines line all = ap texts_of (plain_pieces line all) ∙ chars_texts (slice_split is_space line)

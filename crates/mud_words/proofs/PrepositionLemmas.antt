@@ -1,5 +1,6 @@
 -- Prepositions, as the code meets them word by word.
-use Rattle.std.proofs.Common.{◌≡◌, ℕ, ◌+◌, ◌-◌, ◌<◌, ◌≤◌, false, List, [], ◌∷◌, length, map, take, drop, get_or, Option, Some, None, option_map, refl, sym, ap, ◌∙◌, arith, add-zero, zero-add}
+use Rattle.std.proofs.Common.{◌≡◌, ℕ, ◌+◌, ◌-◌, ◌<◌, ◌≤◌, false, List, [], ◌∷◌, length, map, take, drop, get_or, Option}
+use Rattle.std.proofs.Common.{Some, None, option_map, refl, sym, ap, ◌∙◌, arith, add-zero, zero-add}
 use Rattle.std.proofs.lemmas.List.{take_rest, drop-map, drop-drop, drop_all, length-map, length-drop}
 use Rattle.std.proofs.lemmas.Slice.Eq.{bytes_eq-Decides}
 use Rattle.mud_words.specs.declared.Prep.{Prep}
@@ -11,21 +12,26 @@ abbrev pub moved : ℕ → Found → Found
 moved n f = record f { place = n + f.place }
 
 -- a phrase does not stand where no word is left
-pub begins_none : {X Y : Type 0} (f : X → List ℕ) (g : Y → List ℕ) (xs : List X) (ys : List Y) → length xs ≡ 0 → 0 < length ys → false ≡ begins (map f xs) (map g ys)
+pub begins_none : {X Y : Type 0} (f : X → List ℕ) (g : Y → List ℕ) (xs : List X) (ys : List Y) → length xs ≡ 0
+    → 0 < length ys → false ≡ begins (map f xs) (map g ys)
 begins_none f g xs [] none some = absurd (omega arith)
 begins_none f g [] (y ∷ ys) none some = refl
 begins_none f g (x ∷ xs) (y ∷ ys) none some = absurd (omega arith)
 
 -- the first word of each, and then the others
-pub begins_more : {X Y : Type 0} (f : X → List ℕ) (g : Y → List ℕ) (xs : List X) (ys : List Y) (d : X) (e : Y) → 0 < length xs → 0 < length ys → lower (f (get_or xs 0 d)) ≡ lower (g (get_or ys 0 e))
-    → begins (map f xs) (map g ys) ≡ begins (map f (take (length xs - 1) (drop 1 xs))) (map g (take (length ys - 1) (drop 1 ys)))
+pub begins_more : {X Y : Type 0} (f : X → List ℕ) (g : Y → List ℕ) (xs : List X) (ys : List Y) (d : X) (e : Y)
+    → 0 < length xs → 0 < length ys → lower (f (get_or xs 0 d)) ≡ lower (g (get_or ys 0 e))
+    → begins (map f xs) (map g ys)
+    ≡ begins (map f (take (length xs - 1) (drop 1 xs))) (map g (take (length ys - 1) (drop 1 ys)))
 begins_more f g [] ys d e some more same = absurd (omega arith)
 begins_more f g (x ∷ xs) [] d e some more same = absurd (omega arith)
 begins_more f g (x ∷ xs) (y ∷ ys) d e some more same =
     rw (take_rest (x ∷ xs) 1, take_rest (y ∷ ys) 1, (bytes_eq-Decides (lower (g y)) (lower (f x))).1 (sym same)) refl
 
 -- the preposition at the first of the words that follow place i
-found : (i : ℕ) (ws : List (List ℕ)) (o : Option Phrase) (prep : Prep) (len : ℕ) → 0 < length ws → o ≡ phrase_at ws → Some (prep, len) ≡ option_map phrase_len o → Some (record { prep = prep; start = i; end = i + len }) ≡ option_map spot_of (option_map (moved i) (counted ws))
+found : (i : ℕ) (ws : List (List ℕ)) (o : Option Phrase) (prep : Prep) (len : ℕ) → 0 < length ws → o ≡ phrase_at ws
+    → Some (prep, len) ≡ option_map phrase_len o
+    → Some (record { prep = prep; start = i; end = i + len }) ≡ option_map spot_of (option_map (moved i) (counted ws))
 unfolding counted
 found i [] o prep len some is this = absurd (omega arith)
 found i (w ∷ ws) None prep len some is this = cc
@@ -37,24 +43,33 @@ later : (i : ℕ) (o : Option Found) → option_map (moved i) (or_later None o) 
 later i None = refl
 later i (Some f) = let e : i + (f.place + 1) ≡ i + 1 + f.place = omega arith in rw e refl
 
-passed : (i : ℕ) (ws : List (List ℕ)) (o : Option Phrase) → 0 < length ws → o ≡ phrase_at ws → None ≡ option_map phrase_len o → option_map (moved i) (counted ws) ≡ option_map (moved (i + 1)) (counted (drop 1 ws))
+passed : (i : ℕ) (ws : List (List ℕ)) (o : Option Phrase) → 0 < length ws → o ≡ phrase_at ws
+    → None ≡ option_map phrase_len o
+    → option_map (moved i) (counted ws) ≡ option_map (moved (i + 1)) (counted (drop 1 ws))
 unfolding counted
 passed i [] o some is this = absurd (omega arith)
 passed i (w ∷ ws) (Some p) some is this = cc
 passed i (w ∷ ws) None some is this = rw (← is) (later i (counted ws))
 
 -- the same in the code's words: one stands at place i
-pub counted_here : {X : Type 0} (f : X → List ℕ) (xs : List X) (i : ℕ) (prep : Prep) (len : ℕ) → i < length xs → Some (prep, len) ≡ option_map phrase_len (phrase_at (map f (take (length xs - i) (drop i xs))))
-    → Some (record { prep = prep; start = i; end = i + len }) ≡ option_map spot_of (option_map (moved i) (counted (map f (drop i xs))))
+pub counted_here : {X : Type 0} (f : X → List ℕ) (xs : List X) (i : ℕ) (prep : Prep) (len : ℕ) → i < length xs
+    → Some (prep, len) ≡ option_map phrase_len (phrase_at (map f (take (length xs - i) (drop i xs))))
+    → Some (record { prep = prep; start = i; end = i + len })
+    ≡ option_map spot_of (option_map (moved i) (counted (map f (drop i xs))))
 counted_here f xs i prep len lt here =
-    found i (map f (drop i xs)) _ prep len (omega (arith, length-map (drop i xs) f, length-drop i xs)) refl (rw take_rest at here)
+    found i (map f (drop i xs)) _ prep len (omega (arith, length-map (drop i xs) f, length-drop i xs)) refl
+    (rw take_rest at here)
 
 -- and none does
-pub counted_later : {X : Type 0} (f : X → List ℕ) (xs : List X) (i : ℕ) → i < length xs → None ≡ option_map phrase_len (phrase_at (map f (take (length xs - i) (drop i xs))))
-    → option_map (moved i) (counted (map f (drop i xs))) ≡ option_map (moved (i + 1)) (counted (map f (drop (i + 1) xs)))
+pub counted_later : {X : Type 0} (f : X → List ℕ) (xs : List X) (i : ℕ) → i < length xs
+    → None ≡ option_map phrase_len (phrase_at (map f (take (length xs - i) (drop i xs))))
+    → option_map (moved i) (counted (map f (drop i xs)))
+    ≡ option_map (moved (i + 1)) (counted (map f (drop (i + 1) xs)))
 counted_later f xs i lt here =
-    passed i (map f (drop i xs)) _ (omega (arith, length-map (drop i xs) f, length-drop i xs)) refl (rw take_rest at here)
-    ∙ ap (λ (ws : List (List ℕ)). option_map (moved (i + 1)) (counted ws)) (drop-map f 1 (drop i xs) ∙ ap (map f) (drop-drop 1 i xs))
+    passed i (map f (drop i xs)) _ (omega (arith, length-map (drop i xs) f, length-drop i xs)) refl
+    (rw take_rest at here)
+    ∙ ap (λ (ws : List (List ℕ)). option_map (moved (i + 1)) (counted ws))
+    (drop-map f 1 (drop i xs) ∙ ap (map f) (drop-drop 1 i xs))
 
 moved_none : (o : Option Found) → option_map (moved 0) o ≡ o
 moved_none None = refl
@@ -64,6 +79,7 @@ moved_none (Some f) = rw zero-add refl
 pub counted_first : (ws : List (List ℕ)) → option_map (moved 0) (counted ws) ≡ counted ws
 counted_first ws = moved_none (counted ws)
 
-pub counted_end : {X : Type 0} (f : X → List ℕ) (xs : List X) (i : ℕ) → length xs ≤ i → None ≡ option_map (moved i) (counted (map f (drop i xs)))
+pub counted_end : {X : Type 0} (f : X → List ℕ) (xs : List X) (i : ℕ) → length xs ≤ i
+    → None ≡ option_map (moved i) (counted (map f (drop i xs)))
 unfolding counted
 counted_end f xs i end = rw (drop_all i xs end) refl

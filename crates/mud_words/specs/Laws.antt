@@ -20,9 +20,10 @@ quoted word = 34 ∷ (flat_map guarded word ++ 34 ∷ [])
 abbrev pub QuotedWordsReadBack : Type 0
 QuotedWordsReadBack = (ws : List (List ℕ)) → plain_words (join_with_byte 32 (map quoted ws)) ≡ ws
 
-abbrev pub is_empty : List ℕ → Bool
+-- there is nothing in it
+abbrev pub is_empty : {A : Type 0} → List A → Bool
 is_empty [] = true
-is_empty (b ∷ bs) = false
+is_empty (x ∷ xs) = false
 
 -- a line without quotes and backslashes has the words that stand between its spaces
 abbrev pub PlainLinesSplitAtSpaces : Type 0

@@ -1,5 +1,6 @@
 -- What a line says.
-use Rattle.std.specs.Prelude.{ℕ, ◌+◌, List, [], ◌∷◌, length, take, drop, Option, None, Some}
+use Rattle.std.specs.Prelude.{ℕ, ◌+◌, List, [], ◌∷◌, length, take, drop, Option, None}
+use Rattle.std.specs.Option.{option_map, option_map_or}
 use Rattle.std.specs.List.{join_with_byte}
 use Rattle.mud_words.specs.Words.{words, after_first_word, without_front, without_back, spelled_out}
 use Rattle.mud_words.specs.Line.{Line}
@@ -15,20 +16,12 @@ rest_of text = without_back (without_front (after_first_word text))
 
 -- the objects round a preposition: the words before it are direct, those behind it indirect; without one all are direct
 abbrev pub round : List ℕ → List (List ℕ) → List ℕ → Option Found → Line
-round verb args rest None = record {
+round verb args rest found = record {
   verb = verb;
   args = args;
-  direct = joined args;
-  prep = None;
-  indirect = [];
-  rest = rest;
-}
-round verb args rest (Some f) = record {
-  verb = verb;
-  args = args;
-  direct = joined (take f.place args);
-  prep = Some f.phrase.prep;
-  indirect = joined (drop (f.place + length f.phrase.words) args);
+  direct = joined (option_map_or (λ f. take f.place args) found args);
+  prep = option_map (λ f. f.phrase.prep) found;
+  indirect = joined (option_map_or (λ f. drop (f.place + length f.phrase.words) args) found []);
   rest = rest;
 }
 
@@ -38,7 +31,7 @@ split verb args rest = round verb args rest (counted args)
 
 -- what some words say, of which the first is the verb
 abbrev pub said : List (List ℕ) → List ℕ → Line
-said [] rest = record { verb = []; args = []; direct = []; prep = None; indirect = []; rest = rest }
+said [] rest = round [] [] rest None
 said (verb ∷ args) rest = split (lower verb) args rest
 
 -- what a line says: what its words say, with the text behind the first of them

@@ -7,58 +7,44 @@ use Rattle.mud_world.specs.declared.record.Kind.TheVariants.{Room, Exit, Thing, 
 -- a room
 abbrev pub is_room_kind : Kind → Bool
 is_room_kind Room = true
-is_room_kind (Exit p) = false
-is_room_kind (Thing p) = false
-is_room_kind (Player p) = false
+is_room_kind other = false
 
 -- an exit
 abbrev pub is_exit_kind : Kind → Bool
-is_exit_kind Room = false
 is_exit_kind (Exit p) = true
-is_exit_kind (Thing p) = false
-is_exit_kind (Player p) = false
+is_exit_kind other = false
 
 -- a thing
 abbrev pub is_thing_kind : Kind → Bool
-is_thing_kind Room = false
-is_thing_kind (Exit p) = false
-is_thing_kind (Thing p) = true
-is_thing_kind (Player p) = false
+is_thing_kind (Thing place) = true
+is_thing_kind other = false
 
 -- a player
 abbrev pub is_player_kind : Kind → Bool
-is_player_kind Room = false
-is_player_kind (Exit p) = false
-is_player_kind (Thing p) = false
-is_player_kind (Player p) = true
+is_player_kind (Player place) = true
+is_player_kind other = false
 
 -- things and players have a place
 abbrev pub kind_place : Kind → Option ℕ
-kind_place Room = None
-kind_place (Exit p) = None
 kind_place (Thing place) = Some place
 kind_place (Player place) = Some place
+kind_place other = None
 
 -- exits have two ends and a cost
 abbrev pub kind_passage : Kind → Option Passage
-kind_passage Room = None
 kind_passage (Exit p) = Some p
-kind_passage (Thing place) = None
-kind_passage (Player place) = None
+kind_passage other = None
 
 -- the same kind at this place, where it has one
 abbrev pub kind_at : ℕ → Kind → Kind
-kind_at place Room = Room
-kind_at place (Exit p) = Exit p
 kind_at place (Thing old) = Thing place
 kind_at place (Player old) = Player place
+kind_at place other = other
 
 -- the same kind at this cost, where it has one
 abbrev pub kind_costing : ℕ → Kind → Kind
-kind_costing cost Room = Room
 kind_costing cost (Exit p) = Exit (record p { cost = cost })
-kind_costing cost (Thing place) = Thing place
-kind_costing cost (Player place) = Player place
+kind_costing cost other = other
 
 -- what is of this kind lies in n, or has an end at n
 abbrev pub kind_needs : ℕ → Kind → Bool

@@ -97,6 +97,7 @@ refusals =
     NoSuch ∷ WrongKind ∷ NotHere ∷ Denied ∷ BadName ∷ NameTaken ∷ BadKey ∷ KeyNesting ∷ BadCost ∷ RecursiveMove
     ∷ LockedExit ∷ LockedRoom ∷ LockedThing ∷ InUse ∷ WorldFull ∷ []
 
--- the least whose condition holds; none for a legal change
+-- the least whose condition holds; none for a legal change. A reader need not look into this: `laws::refusals` says
+-- that it is the one of least number
 unfoldable pub refusal : State → Change → Option Refusal
 refusal w e = find (fails w e) refusals

@@ -8,8 +8,8 @@ use Rattle.mud_world.specs.declared.change.Doors.{Doors}
 use Rattle.mud_world.specs.declared.change.Target.{Target}
 use Rattle.mud_world.specs.declared.change.Target.TheVariants.{New, Old}
 use Rattle.mud_world.specs.declared.change.Deed.{Deed}
-use Rattle.mud_world.specs.declared.change.Deed.TheVariants.{Dig, Make, Lock, Unlock, Move, Walk, Cost, Player, Rename}
-use Rattle.mud_world.specs.declared.change.Deed.TheVariants.{Recycle, Say, Emote}
+use Rattle.mud_world.specs.declared.change.Deed.TheVariants.{Dig, Make, Lock, Player, Rename}
+use Rattle.mud_world.specs.declared.change.Deed.TheVariants.{Say, Emote}
 
 -- the names of an exit back, where there is one
 abbrev pub AreBackNames : Option (List (List ℕ)) → Type 0
@@ -32,11 +32,7 @@ HasParts (Dig target doors) = IsTarget target × AreDoors doors
 HasParts (Make names) = AreNames names
 HasParts (Player name) = IsName name
 HasParts (Lock object key) = IsKey key
-HasParts (Unlock object) = Unit {0}
-HasParts (Move thing to) = Unit {0}
-HasParts (Walk exit) = Unit {0}
-HasParts (Cost exit cost) = Unit {0}
 HasParts (Rename object names) = AreNames names
-HasParts (Recycle object) = Unit {0}
 HasParts (Say text) = IsTrue (is_speech text)
 HasParts (Emote text) = IsTrue (is_speech text)
+HasParts other = Unit {0}

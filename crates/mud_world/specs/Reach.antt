@@ -20,6 +20,7 @@ arrives w (suc n) actor o =
     option_map_or (λ p. nat_eq p actor || is_number p (place_of w actor) || (is_thing w p && arrives w n actor p))
     (place_of w o) false
 
--- no chain of places is longer than there are numbers
+-- no chain of places is longer than there are numbers. A reader need not look into this: `World::in_reach` says that it
+-- is `InReach`
 abbrev pub in_reach : State → ℕ → ℕ → Bool
 in_reach w actor o = arrives w w.next actor o

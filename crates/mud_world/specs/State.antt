@@ -80,7 +80,8 @@ abbrev pub comes_to : State → ℕ → ℕ → ℕ → Bool
 comes_to w zero o c = false
 comes_to w (suc n) o c = nat_eq o c || option_map_or (λ p. comes_to w n p c) (place_of w o) false
 
--- the same as a test: no chain of places is longer than there are numbers
+-- the same as a test: no chain of places is longer than there are numbers. A reader need not look into this:
+-- `World::holds` says that it is `Within`
 abbrev pub within : State → ℕ → ℕ → Bool
 within w o c = exists w o && comes_to w w.next o c
 
@@ -122,7 +123,7 @@ abbrev pub holds_for : State → (ℕ → Bool) → Tree ℕ → ℕ → Bool
 holds_for w held k n = key_true held (opens w n held) k
 
 -- o exists, and has no key or one that is true for c with 3 levels left; for c these are true: c, and all that it
--- contains
+-- contains. A reader need not look into this: `laws::levels` says what it is, without levels
 abbrev pub unlocked : State → ℕ → ℕ → Bool
 unlocked w c o = has w o (λ r. option_map_or (λ k. holds_for w (λ a. within w a c) k 3) r.key true)
 

@@ -13,11 +13,15 @@ not_empty n r e f = grind (arith, nat_tests)
 
 pub returns : goal.returns
 returns c =
-    let some : 0 < string_len c.args.digits = not_empty (string_len c.args.digits) c.is_empty.result c.is_empty.ensures c.if-is_empty.false in
+    let some : 0 < string_len c.args.digits =
+    not_empty (string_len c.args.digits) c.is_empty.result c.is_empty.ensures c.if-is_empty.false in
     let positive : 0 < length (string_bytes c.args.digits) = omega arith in
     IfOk-weaker c.finish.result _ _
     (λ r e byte.
     e
-    ∙ ap (λ x. after_step (outer_of c.args.outer.items) (combined (front_of c.args.lead.front) (atom c.args.lead.asked x)) c.args.class) c.in_ok-text.ensures
-    ∙ sym (number_behind (outer_of c.args.outer.items) (front_of c.args.lead.front) c.args.lead.asked (string_bytes c.args.digits) c.args.class byte c.requires positive))
+    ∙ ap (λ x.
+    after_step (outer_of c.args.outer.items)
+    (combined (front_of c.args.lead.front) (atom c.args.lead.asked x)) c.args.class) c.in_ok-text.ensures
+    ∙ sym (number_behind (outer_of c.args.outer.items) (front_of c.args.lead.front) c.args.lead.asked
+    (string_bytes c.args.digits) c.args.class byte c.requires positive))
     c.finish.ensures

@@ -10,6 +10,7 @@ returns c =
     let same = c.into_iter-stretch-iterator.ensures.into_iter_gives in
     let split = c.split-stretch-items.ensures in
     let all = YieldsList-end
-    (YieldsList-from_str_split 44 c.args.text.now (lit< tt) (ap split_text same ∙ split.text) (ap split_has_more same ∙ split.has_more) (ap split_pattern same ∙ split.pattern))
+    (YieldsList-from_str_split 44 c.args.text.now (lit< tt) (ap split_text same ∙ split.text)
+    (ap split_has_more same ∙ split.has_more) (ap split_pattern same ∙ split.pattern))
     c.loop-stretch.yielded _ c.loop-stretch.yielded_by _ _ c.in-None.is c.next.ensures.steps in
     c.loop-stretch.invariant ∙ ap (λ z. map without_outer_spaces z) all.0

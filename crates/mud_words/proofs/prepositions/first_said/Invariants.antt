@@ -5,4 +5,6 @@ use Rattle.mud_words.specs.Searching.{shown}
 use Rattle.mud_words.proofs.prepositions.first_said.Given as goal
 
 abbrev pub invariant-loop-prep : goal.invariant-loop-prep
-invariant-loop-prep l = find (λ p. begins (map string_bytes l.words) p.words) (map shown (drop l.prep-index l.phrases)) ≡ find (λ p. begins (map string_bytes l.words) p.words) (map shown l.phrases)
+invariant-loop-prep l =
+    find (λ p. begins (map string_bytes l.words) p.words) (map shown (drop l.prep-index l.phrases))
+    ≡ find (λ p. begins (map string_bytes l.words) p.words) (map shown l.phrases)

@@ -4,4 +4,7 @@ use Rattle.mud_words.proofs.JoinLemmas.{split_is}
 use Rattle.mud_words.proofs.split.objects_of.Goals as goal
 
 pub returns : goal.returns
-returns c = λ verb rest. split_is string_bytes verb rest _ _ c.args.args.now c.in-Some.spot (search rules) (search rules) (search (rules, take_rest))
+returns c =
+    λ verb rest.
+    split_is string_bytes verb rest _ _ c.args.args.now c.in-Some.spot (search rules) (search rules)
+    (search (rules, take_rest))

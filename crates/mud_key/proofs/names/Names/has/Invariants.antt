@@ -6,4 +6,6 @@ use Rattle.mud_key.proofs.names.Names.has.Given as goal
 
 -- what is left has the answer of the whole
 abbrev pub invariant-loop-name : goal.invariant-loop-name
-invariant-loop-name l = list_any (str_eq_ignore_ascii_case l.text) l.self ≡ list_any (str_eq_ignore_ascii_case l.text) (map string_bytes (drop l.name-index l.name-items))
+invariant-loop-name l =
+    list_any (str_eq_ignore_ascii_case l.text) l.self
+    ≡ list_any (str_eq_ignore_ascii_case l.text) (map string_bytes (drop l.name-index l.name-items))

@@ -11,7 +11,8 @@ use Rattle.mud_key.proofs.names.Names.read_text.Goals as goal
 
 refused : (c : goal.In-None) → IsNoNamesText c.args.text.now
 refused c = subst (λ t. IsNoNamesText t) c.as_bytes-byte-items.ensures.value
-    (refused_names c.as_bytes-byte-items.result.now c.loop-byte.byte-index 0 (stand_of c.loop-byte.reader) c.loop-byte-test.true c.loop-byte.invariant
+    (refused_names c.as_bytes-byte-items.result.now c.loop-byte.byte-index 0
+    (stand_of c.loop-byte.reader) c.loop-byte-test.true c.loop-byte.invariant
     (sym c.in_ok-next.ensures ∙ ap next_of c.in-None.is))
 
 pub returns-in-None-clause-reads : goal.returns-in-None-clause-reads
@@ -21,21 +22,26 @@ pub returns-in-None-clause-bad : goal.returns-in-None-clause-bad
 returns-in-None-clause-bad c is = no_names_in_parts c.args.text.now (refused c)
 
 pub loop-byte-preserved : goal.loop-byte-preserved
-loop-byte-preserved c = name_run_more c.as_bytes-byte-items.result.now c.loop-byte.byte-index 0 (stand_of c.loop-byte.reader) _ c.loop-byte-test.true c.loop-byte.invariant
+loop-byte-preserved c =
+    name_run_more c.as_bytes-byte-items.result.now c.loop-byte.byte-index 0
+    (stand_of c.loop-byte.reader) _ c.loop-byte-test.true c.loop-byte.invariant
     (ap next_of (sym c.in-Some.is) ∙ c.in_ok-next.ensures)
 
 -- ---- the names are whole
 
 taken : (c : goal.In-Some-2) → IsNamesText c.as_bytes-byte-items.result.now (map string_bytes c.in-Some-2.list.items)
-taken c = names_sound c.as_bytes-byte-items.result.now (stand_of c.loop-byte.reader) (map string_bytes c.in-Some-2.list.items)
-    (name_run_end c.as_bytes-byte-items.result.now c.loop-byte.byte-index _ c.loop-byte-test.false c.loop-byte.invariant)
+taken c =
+    names_sound c.as_bytes-byte-items.result.now (stand_of c.loop-byte.reader) (map string_bytes c.in-Some-2.list.items)
+    (name_run_end c.as_bytes-byte-items.result.now c.loop-byte.byte-index _ c.loop-byte-test.false
+    c.loop-byte.invariant)
     (sym c.in_ok-list.ensures ∙ ap names_of c.in-Some-2.is)
 
 pub invariant_of-result : goal.invariant_of-result
 invariant_of-result c = are_names c.as_bytes-byte-items.result.now _ (taken c)
 
 pub returns-in-Some-2-clause-reads : goal.returns-in-Some-2-clause-reads
-returns-in-Some-2-clause-reads c = subst (λ t. IsNamesText t (map string_bytes c.in-Some-2.list.items)) c.as_bytes-byte-items.ensures.value (taken c)
+returns-in-Some-2-clause-reads c =
+    subst (λ t. IsNamesText t (map string_bytes c.in-Some-2.list.items)) c.as_bytes-byte-items.ensures.value (taken c)
 
 pub returns-in-Some-2-clause-parts : goal.returns-in-Some-2-clause-parts
 returns-in-Some-2-clause-parts c = names_are_parts c.args.text.now (map string_bytes c.in-Some-2.list.items)
@@ -46,7 +52,8 @@ returns-in-Some-2-clause-parts c = names_are_parts c.args.text.now (map string_b
 unsettled : (c : goal.In-None-2) → IsNoNamesText c.args.text.now
 unsettled c = subst (λ t. IsNoNamesText t) c.as_bytes-byte-items.ensures.value
     (unsettled_names c.as_bytes-byte-items.result.now (stand_of c.loop-byte.reader)
-    (name_run_end c.as_bytes-byte-items.result.now c.loop-byte.byte-index _ c.loop-byte-test.false c.loop-byte.invariant)
+    (name_run_end c.as_bytes-byte-items.result.now c.loop-byte.byte-index _ c.loop-byte-test.false
+    c.loop-byte.invariant)
     (sym c.in_ok-list.ensures ∙ ap names_of c.in-None-2.is))
 
 pub returns-in-None-2-clause-reads : goal.returns-in-None-2-clause-reads

@@ -8,5 +8,6 @@ use Rattle.mud_words.proofs.cut.Cut.take_line.Given as goal
 abbrev pub invariant-loop-c : goal.invariant-loop-c
 invariant-loop-c l =
     map string_bytes l.self.words.items
-    ++ rest_words (option_map string_bytes l.self.word) (pieces_from l.quotes.quoted l.quotes.escaped (chars_rest l.c-iterator))
+    ++ rest_words (option_map string_bytes l.self.word)
+    (pieces_from l.quotes.quoted l.quotes.escaped (chars_rest l.c-iterator))
     ≡ plain_words l.line

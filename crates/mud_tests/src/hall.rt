@@ -1,5 +1,5 @@
 //! Halls: what no contract of a call can refuse, since none knows what lies under a lock, or whether
-//! a cell is found that another desk has set. All desks are on one thread.
+//! a cell is found that another desk has set. In the rows of `each` every desk is on a thread of its own.
 
 ghost use Rattle.std.specs.Prelude.{◌≤◌};
 
@@ -9,7 +9,7 @@ use mud_hall::NewHall;
 use std::alloc::{AllocError, Global};
 use std::test::Fail;
 
-// Four desks in turn. Refused are an `act` that publishes at the desk's own stale place, for which a
+// Four desks at once. Refused are an `act` that publishes at the desk's own stale place, for which a
 // line is not stored; and a `close` that never answers Ok, does without a desk, or ends the hall all
 // the same.
 const FOUR: &str = "
@@ -17,16 +17,28 @@ desks 4 => 4
 each 1 connect wizard => 0 accepted, 0 full, 4 else
 each 50 say hi => 200 accepted, 0 full, 0 else
 close 3 => desk 3 is missing
-3 act say hi => accepted [201] said
-each 20 say hi => 80 accepted, 0 full, 0 else
-close => 281 accepted, 0 loaded
+3 act @version => question 200
+close => 200 accepted, 0 loaded
+";
+
+// Eight desks, with so many lines that their threads meet. Refused is an `act` that takes no lock:
+// another's entry would come between, and a line would not be stored.
+const EIGHT: &str = "
+desks 8 => 8
+each 1 connect wizard => 0 accepted, 0 full, 8 else
+each 5000 say hi => 40000 accepted, 0 full, 0 else
+close 3 => desk 3 is missing
+3 act say hi => accepted [40001] said
+close => 40001 accepted, 0 loaded
 ";
 
 #[test]
-fn four_desks(rt: HostRuntime) -> Result<(), Fail> {
-    let hall = NewHall::open(rt.alloc(), 1000)?;
-    let history = play(&rt, rt.alloc(), hall, FOUR)?;
-    assert!(rt; history.len() == 281);
+fn desks_on_threads(rt: HostRuntime) -> Result<(), Fail> {
+    for (capacity, rows, count) in [(256, FOUR, 200), (65_536, EIGHT, 40_001)] {
+        let hall = NewHall::open(rt.alloc(), capacity)?;
+        let history = play(&rt, rt.alloc(), hall, rows)?;
+        assert!(rt; history.len() == count);
+    }
     Ok(())
 }
 

@@ -7,10 +7,11 @@ use mud_chron::Entry;
 use mud_hall::{Desk, Fault, Hall, HallName, NewHall, Reply};
 use std::alloc::{AllocError, Global};
 use std::marker::Brand;
-use std::mem;
 use std::process::Abort;
 use std::sync::Wait;
 use std::test::Fail;
+use std::thread::Threads;
+use std::{mem, thread};
 
 // A hall until it is closed, its desks, and then its history.
 #[derive(Drop)]
@@ -20,9 +21,11 @@ struct House<J: HallName> {
     history: Vec<Entry>,
 }
 
-// What came of lines: accepted changes, changes that found the history full, and the rest.
+// A desk, and what came of its lines: accepted changes, changes that found the history full, and the
+// rest.
 #[derive(Drop)]
-struct Tally {
+struct Tally<J: HallName> {
+    desk: Desk<J>,
     accepted: u32,
     full: u32,
     rest: u32,
@@ -97,25 +100,48 @@ fn turn<J: HallName, R: Wait>(
     }
 }
 
-// Each desk acts once, in turn.
-fn round<J: HallName, R: Wait>(
+// A desk acts so many times.
+fn act_often<J: HallName, R: Wait>(
     rt: &R,
     hall: &Hall<J>,
-    desks: &mut Vec<Desk<J>>,
+    desk: Desk<J>,
+    count: u32,
     line: &str,
-    tally: &mut Tally,
-) {
-    for desk in desks {
-        match hall.act(rt, desk, line) {
+) -> Tally<J> {
+    let mut tally = Tally {
+        desk,
+        accepted: 0,
+        full: 0,
+        rest: 0,
+    };
+    for _ in 0..count {
+        match hall.act(rt, &mut tally.desk, line) {
             Ok(Reply::Accepted { .. }) => tally.accepted = tally.accepted.saturating_add(1),
             Err(Fault::HistoryFull) => tally.full = tally.full.saturating_add(1),
             _ => tally.rest = tally.rest.saturating_add(1),
         }
     }
+    tally
 }
 
-// Each desk acts so many times, and what came of all the lines.
-fn each<J: HallName, R: Wait>(
+// What came of all the lines of these desks, which are put back.
+fn added<J: HallName>(
+    alloc: Global,
+    desks: &mut Vec<Desk<J>>,
+    tallies: Vec<Tally<J>>,
+) -> Result<String, AllocError> {
+    let (mut accepted, mut full, mut rest) = (0_u32, 0_u32, 0_u32);
+    for tally in tallies {
+        accepted = accepted.saturating_add(tally.accepted);
+        full = full.saturating_add(tally.full);
+        rest = rest.saturating_add(tally.rest);
+        desks.push(tally.desk)?;
+    }
+    format!(in alloc; "{accepted} accepted, {full} full, {rest} else")
+}
+
+// Each desk acts so many times, on a thread of its own, and what came of all the lines.
+fn each<J: HallName + Send + Sync, R: Threads + Wait + Sync>(
     rt: &R,
     alloc: Global,
     hall: &Hall<J>,
@@ -123,20 +149,9 @@ fn each<J: HallName, R: Wait>(
     count: u32,
     line: &str,
 ) -> Result<String, AllocError> {
-    let mut tally = Tally {
-        accepted: 0,
-        full: 0,
-        rest: 0,
-    };
-    for _ in 0..count {
-        round(rt, hall, desks, line, &mut tally);
-    }
-    let Tally {
-        accepted,
-        full,
-        rest,
-    } = tally;
-    format!(in alloc; "{accepted} accepted, {full} full, {rest} else")
+    let sent = mem::replace(desks, Vec::new(alloc));
+    let tallies = thread::map_vec(rt, sent, &|desk| act_often(rt, hall, desk, count, line))?;
+    added(alloc, desks, tallies)
 }
 
 // The desks to close with, and those of the numbers in a text, which are withheld.
@@ -180,7 +195,7 @@ fn close<J: HallName, R: Wait>(
 }
 
 // What came of a step of a hall that is open.
-fn step<J: HallName, R: Wait>(
+fn step<J: HallName + Send + Sync, R: Threads + Wait + Sync>(
     rt: &R,
     alloc: Global,
     hall: &Hall<J>,
@@ -202,7 +217,7 @@ fn step<J: HallName, R: Wait>(
 }
 
 // What came of a step.
-fn answer<J: HallName, R: Wait>(
+fn answer<J: HallName + Send + Sync, R: Threads + Wait + Sync>(
     rt: &R,
     alloc: Global,
     house: &mut House<J>,
@@ -224,7 +239,7 @@ fn answer<J: HallName, R: Wait>(
 }
 
 // Sees that the row `ASKED => WANTED` is answered as it says.
-fn check_row<J: HallName, R: Wait + Abort>(
+fn check_row<J: HallName + Send + Sync, R: Threads + Wait + Sync + Abort>(
     rt: &R,
     alloc: Global,
     house: &mut House<J>,
@@ -238,7 +253,7 @@ fn check_row<J: HallName, R: Wait + Abort>(
 }
 
 // Sees that each row is answered as it says, and gives the history of the hall, once it is closed.
-fn play_in<J: HallName, R: Wait + Abort>(
+fn play_in<J: HallName + Send + Sync, R: Threads + Wait + Sync + Abort>(
     rt: &R,
     alloc: Global,
     hall: NewHall,
@@ -267,9 +282,9 @@ fn play_in<J: HallName, R: Wait + Abort>(
 /// | `N ask LINE` | the question at desk N: its answer |
 /// | `N see`, `N seen` | desk N takes in what it finds, or does not: how many entries it has seen |
 /// | `N told` | the lines that desk N was told since it was last asked, each with a `;` |
-/// | `each N LINE` | the line at each desk in turn, N times: what came of how many |
+/// | `each N LINE` | the line N times at each desk, on a thread of its own: what came of how many |
 /// | `close`, `close N N` | closes with all desks, or all but these: what came of it |
-pub(crate) fn play<R: Wait + Abort>(
+pub(crate) fn play<R: Threads + Wait + Sync + Abort>(
     rt: &R,
     alloc: Global,
     hall: NewHall,

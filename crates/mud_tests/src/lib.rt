@@ -30,6 +30,8 @@ mod rules;
 #[cfg(test)]
 mod search;
 #[cfg(test)]
+mod sessions;
+#[cfg(test)]
 mod village;
 #[cfg(test)]
 mod world;

@@ -14,7 +14,7 @@ use Rattle.mud_chron.specs.declared.fault.ChronFault.{ChronFault}
 use Rattle.mud_chron.specs.declared.fault.ChronFault.TheVariants.{BadChange}
 use Rattle.mud_chron.specs.Entry.{Accepted as Entry}
 use Rattle.mud_chron.specs.Laws.{SpellsOne, HasOneFault, FaultsAreNoTexts}
-use Rattle.mud_chron.specs.Replay.{changes_of, IsFirstIllegal}
+use Rattle.mud_chron.specs.Replay.{changes_of, world_at, IsFirstIllegal}
 use Rattle.mud_cert.specs.declared.finding.Finding.TheVariants.{Accepted, NoVersion, Doubted, BadHistory, BadProof}
 use Rattle.mud_cert.specs.declared.finding.Finding.{Finding}
 use Rattle.mud_cert.specs.Certificate.{Certificate, IsCertificate}
@@ -24,7 +24,7 @@ use Rattle.mud_cert.proofs.First.{one-first, doubted-invalid}
 use Rattle.mud_cert.specs.Faults.{IsBadLine}
 use Rattle.mud_cert.specs.Text.{cert_text}
 use Rattle.mud_cert.specs.TextLaws.{OneCertificate, OneBadLine}
-use Rattle.mud_cert.specs.Finding.{without_returns, world_at, IsHistory, IsUnfit, IsTried, IsFinding}
+use Rattle.mud_cert.specs.Finding.{without_returns, IsHistory, IsUnfit, IsTried, IsFinding}
 use Rattle.mud_cert.specs.FindingLaws.{FindsOne}
 use Rattle.mud_cert.proofs.Legality.{none-illegal, first-once}
 

@@ -24,28 +24,6 @@ use Rattle.mud_cert.proofs.Splitting.{cut, uncut, text-then, no-lines, split-lon
 use Rattle.mud_cert.proofs.Machine.{next-keeps, run-then, run-append, run-fails, run-none, cert-runs, Starts}
 use Rattle.mud_cert.proofs.Machine.{stage-begins}
 
--- ---- the first LF
-
--- at the first LF a line ends
-pub line-found : (bytes : List ℕ) (i : ℕ) → i < length bytes → get_or bytes i 0 ≡ 10
-    → ((k : ℕ) → k < i → get_or bytes k 0 ≡ 10 → ⊥) → IsLine (take i bytes)
-    × (bytes ≡ take i bytes ++ 10 ∷ drop (i + 1) bytes)
-line-found [] i lt at before = absurd (omega arith)
-line-found (b ∷ bs) zero lt at before = (All-nil (λ x. x ≢ 10), ap (λ (x : ℕ). x ∷ bs) at)
-line-found (b ∷ bs) (suc i) lt at before =
-    let r = line-found bs i (omega arith) at (λ k h. before (suc k) (omega arith)) in
-    let plus : suc (i + 1) ≡ suc i + 1 = omega arith in (
-      All-cons (λ x. x ≢ 10) b (take i bs) (before 0 (omega arith)) r.0,
-      ap (λ (x : List ℕ). b ∷ x) r.1
-          ∙ ap (λ (k : ℕ). b ∷ (take i bs ++ 10 ∷ drop k (b ∷ bs))) plus,
-    )
-
--- without one it is not ended
-pub line-all : (bytes : List ℕ) → ((k : ℕ) → k < length bytes → get_or bytes k 0 ≡ 10 → ⊥) → IsLine bytes
-line-all [] before = All-nil (λ x. x ≢ 10)
-line-all (b ∷ bs) before =
-    All-cons (λ x. x ≢ 10) b bs (before 0 (omega arith)) (line-all bs (λ k h. before (suc k) (omega arith)))
-
 -- ---- reading on
 
 pub record Reads (bytes rest : List ℕ) (n : ℕ) (s : Stage) : Type 0 where

@@ -16,7 +16,7 @@ use Rattle.mud_cert.specs.Lookup.{label_at}
 use Rattle.mud_cert.specs.Ways.{step_of, steps_of, end_of}
 use Rattle.mud_cert.specs.Tests.{is_label, leaves, broken, locked}
 use Rattle.mud_cert.specs.Valid.{States}
-use Rattle.mud_cert.specs.Places.{FailsAt}
+use Rattle.mud_chron.specs.Places.{FailsAt}
 use Rattle.mud_cert.specs.Doubts.{IsUnbroken}
 use Rattle.mud_cert.proofs.Ways.{source-passage, leaves-source}
 use Rattle.mud_cert.proofs.Doubtless.{walk-from, label-is, is-label}

@@ -1,12 +1,9 @@
 -- The line at which a text stops being the beginning of a certificate's.
-use Rattle.std.specs.Prelude.{◌≡◌, ◌≢◌, ℕ, ◌≤◌, List, ◌++◌, length, take, All}
-use Rattle.mud_cert.specs.Places.{FailsAt}
+use Rattle.std.specs.Prelude.{◌≡◌, ℕ, ◌≤◌, List, ◌++◌, length, take}
+pub use Rattle.mud_chron.specs.Faults.{HasNoLineFeed as IsLine}
+use Rattle.mud_chron.specs.Places.{FailsAt}
 use Rattle.mud_cert.specs.Certificate.{Certificate, IsCertificate}
 use Rattle.mud_cert.specs.Text.{text_of, cert_lines, cert_text}
-
--- a line has no LF in it
-abbrev pub IsLine : List ℕ → Type 0
-IsLine line = All (λ b. b ≢ 10) line
 
 -- the bytes begin with the first so many lines of some certificate, each with its LF
 abbrev pub Begins : List ℕ → ℕ → Type 0

@@ -1,15 +1,13 @@
 -- What is found of two texts: a history's and a proof's.
 use Rattle.std.specs.Prelude.{◌≡◌, ℕ, ◌<◌, ◌≤◌, ◌⊎◌, ◌==◌, nat_eq, ◌&&◌, if◌then◌else◌}
-use Rattle.std.specs.Prelude.{List, [], ◌∷◌, length, take}
+use Rattle.std.specs.Prelude.{List, [], ◌∷◌, length}
 use Rattle.std.specs.List.{starts_with}
-use Rattle.mud_world.specs.State.{State}
-use Rattle.mud_world.specs.History.{world_of}
 use Rattle.mud_chron.specs.declared.fault.ChronFault.{ChronFault}
 use Rattle.mud_chron.specs.declared.fault.ChronFault.TheVariants.{BadChange}
 use Rattle.mud_chron.specs.Entry.{Accepted as Entry}
 use Rattle.mud_chron.specs.History.{SpellsHistory}
 use Rattle.mud_chron.specs.Faults.{HasFault}
-use Rattle.mud_chron.specs.Replay.{changes_of, AreLegal, IsFirstIllegal}
+use Rattle.mud_chron.specs.Replay.{changes_of, world_at, AreLegal, IsFirstIllegal}
 use Rattle.mud_cert.specs.declared.finding.Finding.{Finding}
 use Rattle.mud_cert.specs.declared.finding.Finding.TheVariants.{Accepted, NoVersion, Doubted, BadHistory, BadProof}
 use Rattle.mud_cert.specs.Certificate.{Certificate, IsCertificate}
@@ -35,10 +33,6 @@ IsUnfit text fault =
     HasFault text fault
     ⊎ ((n : ℕ) × (fault ≡ BadChange n) × ((entries : List Entry) × SpellsHistory text entries
     × IsFirstIllegal (changes_of entries) n))
-
--- the world after the first so many entries
-abbrev pub world_at : List Entry → ℕ → State
-world_at entries version = world_of (changes_of (take version entries))
 
 -- what is found of a certificate behind these entries: its version is looked at, then it is tried in the world of that
 -- version; what is accepted is valid there, and the least

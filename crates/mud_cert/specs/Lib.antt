@@ -1,4 +1,3 @@
-pub mod Places
 pub mod Certificate
 pub mod Lookup
 pub mod Ways

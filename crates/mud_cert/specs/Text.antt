@@ -22,11 +22,15 @@ abbrev pub entry_text : Form → ℕ × Label → List ℕ
 entry_text One e = codes " #" ++ decimal e.0 ++ codes ":" ++ decimal e.1.cost
 entry_text Two e = codes " #" ++ decimal e.0 ++ codes ":" ++ decimal e.1.cost ++ codes "/" ++ decimal e.1.exits
 
+-- the exits of a walk, behind a word: ` #3 #5`, or ` nothing`
+abbrev pub exits_text : List ℕ → List ℕ
+exits_text [] = codes " nothing"
+exits_text exits = flat_map (λ exit. codes " #" ++ decimal exit) exits
+
 -- the line of a walk
 abbrev pub walk_line : Option (List ℕ) → List ℕ
 walk_line None = codes "walk none"
-walk_line (Some []) = codes "walk nothing"
-walk_line (Some (x ∷ xs)) = codes "walk" ++ flat_map (λ exit. codes " #" ++ decimal exit) (x ∷ xs)
+walk_line (Some exits) = codes "walk" ++ exits_text exits
 
 -- the three lines of a member: who he is and where he stands, his labels, and his walk
 abbrev pub member_lines : Form → Account → List (List ℕ)

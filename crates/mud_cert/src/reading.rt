@@ -8,6 +8,7 @@ ghost use Rattle.mud_cert.specs.Faults.{IsLine, IsBadLine};
 use crate::cert::Cert;
 use crate::fault::CertFault;
 use crate::stage::Stage;
+use memchr::memchr;
 use std::alloc::Global;
 
 /// The first line, without its LF, and the bytes behind it.
@@ -15,12 +16,11 @@ fn first_line(bytes: &[u8]) -> Option<(&[u8], &[u8])>
     ensures found { IfSome result (λ s. IsLine s.0.now × (bytes.now ≡ s.0.now ++ 10 ∷ s.1.now)) }
     ensures none { IfNone result (IsLine bytes.now) }
 {
-    for (i, byte) in bytes.iter().enumerate() {
-        if *byte == b'\n' {
-            return Some((&bytes[..i], &bytes[i + 1..]));
-        }
-    }
-    None
+    let Some(at) = memchr(b'\n', bytes) else {
+        return None;
+    };
+    let (line, ended) = bytes.split_at(at);
+    Some((line, &ended[1..]))
 }
 
 /// The certificate that the bytes are the text of, as [`Cert::write`] writes it; each certificate

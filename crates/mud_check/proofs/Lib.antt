@@ -1,5 +1,4 @@
 mod Parting
 mod Trials
 mod Pushing
-mod Cutting
 mod Telling

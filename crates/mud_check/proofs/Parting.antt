@@ -1,5 +1,6 @@
 -- How standard input is split, line by line.
-use Rattle.std.proofs.Common.{◌≡◌, ℕ, ◌-◌, true, false, List, [], ◌∷◌, ◌++◌, length, take, All, refl, sym, ◌∙◌, ap, arith, inl, inr, append_assoc}
+use Rattle.std.proofs.Common.{◌≡◌, ℕ, ◌-◌, true, false, List, [], ◌∷◌, ◌++◌, length, take, All, refl, sym, ◌∙◌, ap}
+use Rattle.std.proofs.Common.{arith, inl, inr, append_assoc}
 use Rattle.std.proofs.Math.Seq.{take-append_seam}
 use Rattle.std.proofs.lemmas.List.{append-nil, length-append}
 use Rattle.std.proofs.lemmas.List.Elements.{All-nil, All-push}
@@ -20,8 +21,10 @@ pub none-passed : (bytes : List ℕ) → IsPassed bytes bytes
 none-passed bytes = record { front = []; inner = All-nil IsInner; bytes_are = refl }
 
 -- the text of lines and one more
-text_of-push : (front : List (List ℕ)) (line : List ℕ) → text_of (front ++ line ∷ []) ≡ text_of front ++ (line ++ 10 ∷ [])
-text_of-push front line = flat_map-append ended front (line ∷ []) ∙ ap (λ t. text_of front ++ t) (append-nil (line ++ 10 ∷ []))
+text_of-push : (front : List (List ℕ)) (line : List ℕ)
+    → text_of (front ++ line ∷ []) ≡ text_of front ++ (line ++ 10 ∷ [])
+text_of-push front line =
+    flat_map-append ended front (line ∷ []) ∙ ap (λ t. text_of front ++ t) (append-nil (line ++ 10 ∷ []))
 
 -- the bytes, with a line parted from what stands behind it
 parted : (front line behind : List ℕ) → front ++ (line ++ 10 ∷ behind) ≡ front ++ (line ++ 10 ∷ []) ++ behind
@@ -29,7 +32,8 @@ parted front line behind =
     ap (λ t. front ++ t) (sym (append_assoc line (10 ∷ []) behind)) ∙ sym (append_assoc front (line ++ 10 ∷ []) behind)
 
 -- one line more is passed
-pub one-passed : (bytes rest line behind : List ℕ) → IsPassed bytes rest → IsLine line → rest ≡ line ++ 10 ∷ behind → begins_end line ≡ false → IsPassed bytes behind
+pub one-passed : (bytes rest line behind : List ℕ) → IsPassed bytes rest → IsLine line → rest ≡ line ++ 10 ∷ behind
+    → begins_end line ≡ false → IsPassed bytes behind
 one-passed bytes rest line behind passed whole cut other = record {
   front = passed.front ++ line ∷ [];
   inner = All-push IsInner passed.front line passed.inner (record { whole = whole; other = other });
@@ -45,12 +49,15 @@ front-of front behind =
     ap (λ n. take n (front ++ behind)) count ∙ take-append_seam front behind
 
 -- the line is the last of the history
-pub ends : (bytes rest line behind : List ℕ) → IsPassed bytes rest → IsLine line → rest ≡ line ++ 10 ∷ behind → begins_end line ≡ true
+pub ends : (bytes rest line behind : List ℕ) → IsPassed bytes rest → IsLine line → rest ≡ line ++ 10 ∷ behind
+    → begins_end line ≡ true
     → IsSplit bytes (take (length bytes - length behind) bytes) behind
 ends bytes rest line behind passed whole cut last =
     let history : List ℕ = text_of passed.front ++ (line ++ 10 ∷ []) in
-    let parts : bytes ≡ history ++ behind = passed.bytes_are ∙ ap (λ t. text_of passed.front ++ t) cut ∙ parted (text_of passed.front) line behind in
-    let front : take (length bytes - length behind) bytes ≡ history = ap (λ b. take (length b - length behind) b) parts ∙ front-of history behind in
+    let parts : bytes ≡ history ++ behind =
+    passed.bytes_are ∙ ap (λ t. text_of passed.front ++ t) cut ∙ parted (text_of passed.front) line behind in
+    let front : take (length bytes - length behind) bytes ≡ history =
+    ap (λ b. take (length b - length behind) b) parts ∙ front-of history behind in
     inl (record {
       front = passed.front;
       line = line;
@@ -64,4 +71,15 @@ ends bytes rest line behind passed whole cut last =
 -- no further line is ended
 pub ends-not : (bytes rest : List ℕ) → IsPassed bytes rest → IsLine rest → IsSplit bytes bytes []
 ends-not bytes rest passed unended =
-    inr (record { front = passed.front; rest = rest; inner = passed.inner; unended = unended; bytes_are = passed.bytes_are; history_is = refl; proof_is = refl })
+    inr (record {
+      front =
+          passed.front;
+      rest =
+          rest;
+      inner =
+          passed.inner;
+      unended = unended;
+      bytes_are = passed.bytes_are;
+      history_is = refl;
+      proof_is = refl;
+    })

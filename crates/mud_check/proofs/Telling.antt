@@ -5,7 +5,8 @@ use Rattle.std.proofs.KnownBytes.{Appends-trans}
 use Rattle.mud_check.specs.Said.{IsCut}
 
 -- the text was not written whole
-pub cut-text : (held now_held : Option (List ℕ)) (text : List ℕ) (n : ℕ) → Appends held now_held (take n text) → IsCut held now_held (text ++ 10 ∷ [])
+pub cut-text : (held now_held : Option (List ℕ)) (text : List ℕ) (n : ℕ) → Appends held now_held (take n text)
+    → IsCut held now_held (text ++ 10 ∷ [])
 cut-text held now_held text n appends = record {
   front = take n text;
   rest = drop n text ++ 10 ∷ [];
@@ -14,7 +15,8 @@ cut-text held now_held text n appends = record {
 }
 
 -- the text was written, and its end was not
-pub cut-end : (held mid now_held : Option (List ℕ)) (text : List ℕ) (n : ℕ) → Appends held mid text → Appends mid now_held (take n (10 ∷ [])) → IsCut held now_held (text ++ 10 ∷ [])
+pub cut-end : (held mid now_held : Option (List ℕ)) (text : List ℕ) (n : ℕ) → Appends held mid text
+    → Appends mid now_held (take n (10 ∷ [])) → IsCut held now_held (text ++ 10 ∷ [])
 cut-end held mid now_held text n first second = record {
   front = text ++ take n (10 ∷ []);
   rest = drop n (10 ∷ []);

@@ -4,7 +4,8 @@ use Rattle.mud_world.specs.State.{State}
 use Rattle.mud_world.specs.Opening.{opening_state}
 use Rattle.mud_world.specs.Legal.{after}
 use Rattle.mud_chron.specs.declared.fault.ChronFault.{ChronFault}
-use Rattle.mud_chron.specs.declared.fault.ChronFault.TheVariants.{OutOfMemory, NotHistory, BadLine, BadChange, TooLong, NoEnd}
+use Rattle.mud_chron.specs.declared.fault.ChronFault.TheVariants.{OutOfMemory, NotHistory, BadLine, BadChange, TooLong}
+use Rattle.mud_chron.specs.declared.fault.ChronFault.TheVariants.{NoEnd}
 use Rattle.mud_chron.specs.Entry.{Accepted as Entry}
 use Rattle.mud_chron.specs.History.{SpellsHistory}
 use Rattle.mud_chron.specs.Replay.{changes_of, AreLegal, AreLegalFrom, HasIllegal}
@@ -18,7 +19,8 @@ use Rattle.mud_cert.specs.Finding.{without_returns, IsHistory, IsUnfit, IsTried,
 use Rattle.mud_cert.proofs.Legality.{none-illegal}
 
 -- a replay that fails makes the text unfit
-pub unfit : (text : List ℕ) (entries : List Entry) (fault : ChronFault) → SpellsHistory text entries → HasIllegal entries fault → fault ≢ OutOfMemory → IsUnfit text fault
+pub unfit : (text : List ℕ) (entries : List Entry) (fault : ChronFault) → SpellsHistory text entries
+    → HasIllegal entries fault → fault ≢ OutOfMemory → IsUnfit text fault
 unfit text entries OutOfMemory spells has other = absurd (other refl)
 unfit text entries (BadChange n) spells has other = inr (n, refl, (entries, spells, has))
 unfit text entries NotHistory spells has other = absurd has
@@ -32,23 +34,28 @@ take-nil zero = refl
 take-nil (suc n) = refl
 
 -- the first changes are legal where all are
-legal-first : (w : State) (entries : List Entry) (n : ℕ) → AreLegalFrom w (changes_of entries) → AreLegalFrom w (changes_of (take n entries))
+legal-first : (w : State) (entries : List Entry) (n : ℕ) → AreLegalFrom w (changes_of entries)
+    → AreLegalFrom w (changes_of (take n entries))
 legal-first w [] n legal = subst (λ (es : List Entry). AreLegalFrom w (changes_of es)) (sym (take-nil n)) tt
 legal-first w (e ∷ entries) zero legal = tt
 legal-first w (e ∷ entries) (suc n) legal = (legal.0, legal-first (after w e.change) entries n legal.1)
 
 -- a replay of the first changes doesn't fail but for memory
-pub no-fault : (entries : List Entry) (n : ℕ) (fault : ChronFault) → AreLegal (changes_of entries) → HasIllegal (take n entries) fault → fault ≢ OutOfMemory → ⊥
+pub no-fault : (entries : List Entry) (n : ℕ) (fault : ChronFault) → AreLegal (changes_of entries)
+    → HasIllegal (take n entries) fault → fault ≢ OutOfMemory → ⊥
 no-fault entries n OutOfMemory legal has other = other refl
-no-fault entries n (BadChange k) legal has other = none-illegal (changes_of (take n entries)) k (legal-first opening_state entries n legal) has
+no-fault entries n (BadChange k) legal has other =
+    none-illegal (changes_of (take n entries)) k (legal-first opening_state entries n legal) has
 no-fault entries n NotHistory legal has other = has
 no-fault entries n (BadLine k) legal has other = has
 no-fault entries n TooLong legal has other = has
 no-fault entries n NoEnd legal has other = has
 
 -- what is found of the certificate is found of the texts
-pub found : (history proof : List ℕ) (entries : List Entry) (c : Certificate) (finding : Finding) → IsHistory (without_returns history) entries
-    → IsCertificate c → without_returns proof ≡ cert_text c → IsTried entries c finding → IsFinding history proof finding
+pub found : (history proof : List ℕ) (entries : List Entry) (c : Certificate) (finding : Finding)
+    → IsHistory (without_returns history) entries
+    → IsCertificate c → without_returns proof ≡ cert_text c → IsTried entries c finding
+    → IsFinding history proof finding
 found history proof entries c (findings.NoVersion version) is cert text tried = (entries, is, (c, cert, text, tried))
 found history proof entries c (findings.Doubted doubt) is cert text tried = (entries, is, (c, cert, text, tried))
 found history proof entries c findings.Accepted is cert text tried = (entries, is, (c, cert, text, tried))

@@ -1,8 +1,8 @@
 //! What is found of two texts.
 
 ghost use Rattle.std.specs.Prelude.{◌≡◌, ◌≢◌, ◌≤◌, length, IfOk, IfErr};
-ghost use Rattle.mud_chron.specs.Replay.{changes_of, AreLegal};
-ghost use Rattle.mud_cert.specs.Finding.{world_at, IsHistory, IsUnfit, IsTried, IsFinding};
+ghost use Rattle.mud_chron.specs.Replay.{changes_of, world_at, AreLegal};
+ghost use Rattle.mud_cert.specs.Finding.{IsHistory, IsUnfit, IsTried, IsFinding};
 
 use crate::line_ends::without_returns;
 use mud_cert::{Cert, CertFault, Doubt, Finding, check, read};

@@ -1,5 +1,6 @@
 -- The entry of a line is found again, and a line is plain.
-use Rattle.std.proofs.Common.{◌≡◌, ℕ, ◌<◌, ◌≤◌, true, List, [], ◌∷◌, ◌++◌, Option, Some, None, refl, sym, ◌∙◌, ap, arith, leb, cond, append_assoc, codes}
+use Rattle.std.proofs.Common.{◌≡◌, ℕ, ◌<◌, ◌≤◌, true, List, [], ◌∷◌, ◌++◌, Option, Some, None, refl, sym, ◌∙◌, ap}
+use Rattle.std.proofs.Common.{arith, leb, cond, append_assoc, codes}
 use Rattle.std.specs.Prelude.{◌^◌}
 use Rattle.std.specs.List.{list_all}
 use Rattle.std.proofs.lemmas.Bool.{cond-true, le-leb}
@@ -11,17 +12,23 @@ use Rattle.mud_world.specs.declared.change.Doors.{Doors}
 use Rattle.mud_world.specs.declared.change.Target.{Target}
 use Rattle.mud_world.specs.declared.change.Target.TheVariants.{New, Old}
 use Rattle.mud_world.specs.declared.change.Deed.{Deed}
-use Rattle.mud_world.specs.declared.change.Deed.TheVariants.{Dig, Make, Lock, Unlock, Move, Walk, Cost, Player, Rename, Recycle, Say, Emote}
+use Rattle.mud_world.specs.declared.change.Deed.TheVariants.{Dig, Make, Lock, Unlock, Move, Walk, Cost, Player, Rename}
+use Rattle.mud_world.specs.declared.change.Deed.TheVariants.{Recycle, Say, Emote}
 use Rattle.mud_chron.specs.declared.verb.Verb.{Verb}
 use Rattle.mud_chron.specs.declared.verb.Verb.TheVariants as verb
 use Rattle.mud_chron.specs.Entry.{Accepted, IsEntry, IsInRange, HasParts, AreDoors, AreBackNames, IsTarget}
 use Rattle.mud_chron.specs.Text.{quoted, listed, target_text, back_text, doors_text, deed_text, change_text, entry_line}
 use Rattle.mud_chron.specs.Fields.{object_in}
 use Rattle.mud_chron.proofs.Reader.{◌>>=◌, cut, object_before, number_up_to, number_key_in}
-use Rattle.mud_chron.proofs.Reader.{names_before, quoted_in, back_in, doors_behind, doors_in, new_in, way_to, old_in, dig_in, make_in, player_in, lock_in, unlock_in, move_in, walk_in, cost_in, rename_in, recycle_in, say_in, emote_in, deed_in, verb_in, change_in, desk_in, entry_in}
+use Rattle.mud_chron.proofs.Reader.{names_before, quoted_in, back_in, doors_behind, doors_in, new_in, way_to, old_in}
+use Rattle.mud_chron.proofs.Reader.{dig_in, make_in, player_in, lock_in, unlock_in, move_in, walk_in, cost_in}
+use Rattle.mud_chron.proofs.Reader.{rename_in, recycle_in, say_in, emote_in, deed_in, verb_in, change_in, desk_in}
+use Rattle.mud_chron.proofs.Reader.{entry_in}
 use Rattle.mud_chron.proofs.Cutting.{lacks, cut_again}
 use Rattle.mud_chron.proofs.Digits.{decimal_lacks, number_again, object_again, object_before_again}
-use Rattle.mud_chron.proofs.Spelled.{plain, both, plain_decimal, plain_names, plain_quoted, names_before_again, quoted_again, quoted_end, name_again, plain_key, key_again, speech_again, plain_speech}
+use Rattle.mud_chron.proofs.Spelled.{plain, both, plain_decimal, plain_names, plain_quoted, names_before_again}
+use Rattle.mud_chron.proofs.Spelled.{quoted_again, quoted_end, name_again, plain_key, key_again, speech_again}
+use Rattle.mud_chron.proofs.Spelled.{plain_speech}
 
 -- ---- the exits of a dig
 
@@ -33,10 +40,14 @@ back_again (Some names) h =
     (ap names_before (sym (append-nil (listed names ++ codes "\""))) ∙ names_before_again names [] h)
 
 -- behind the first quote stand the names of the exit, and then the exit back
-behind_again : (front : List ℕ) (doors : Doors) → AreDoors (Some doors) → doors_behind (Some (front, (listed doors.out ++ codes "\"") ++ back_text doors.back)) ≡ Some (Some doors)
+behind_again : (front : List ℕ) (doors : Doors) → AreDoors (Some doors)
+    → doors_behind (Some (front, (listed doors.out ++ codes "\"") ++ back_text doors.back)) ≡ Some (Some doors)
 behind_again front doors h =
-    ap (λ (o : Option (List (List ℕ) × List ℕ)). o >>= (λ out. back_in out.1 >>= (λ back. Some (Some (record { out = out.0; back = back }))))) (names_before_again doors.out (back_text doors.back) h.0)
-    ∙ ap (λ (o : Option (Option (List (List ℕ)))). o >>= (λ back. Some (Some (record { out = doors.out; back = back })))) (back_again doors.back h.1)
+    ap (λ (o : Option (List (List ℕ) × List ℕ)). o >>=
+    (λ out. back_in out.1 >>= (λ back. Some (Some (record { out = out.0; back = back })))))
+    (names_before_again doors.out (back_text doors.back) h.0)
+    ∙ ap (λ (o : Option (Option (List (List ℕ)))). o >>=
+    (λ back. Some (Some (record { out = doors.out; back = back })))) (back_again doors.back h.1)
 
 doors_again : (doors : Option Doors) → AreDoors doors → doors_in (doors_text doors) ≡ Some doors
 unfolding doors_in
@@ -44,35 +55,49 @@ doors_again None h = refl
 doors_again (Some doors) h = behind_again (codes " out ") doors h
 
 -- the exits without the space in front
-way_again : (doors : Doors) → AreDoors (Some doors) → doors_in (codes "out " ++ quoted doors.out ++ back_text doors.back) ≡ Some (Some doors)
+way_again : (doors : Doors) → AreDoors (Some doors)
+    → doors_in (codes "out " ++ quoted doors.out ++ back_text doors.back) ≡ Some (Some doors)
 unfolding doors_in
 way_again doors h = behind_again (codes "out ") doors h
 
-dig_again : (target : Target) (doors : Option Doors) → IsInRange (Dig target doors) → HasParts (Dig target doors) → dig_in (target_text target ++ doors_text doors) ≡ Some (Dig target doors)
+dig_again : (target : Target) (doors : Option Doors) → IsInRange (Dig target doors) → HasParts (Dig target doors)
+    → dig_in (target_text target ++ doors_text doors) ≡ Some (Dig target doors)
 unfolding dig_in new_in old_in
 dig_again (New names) doors r h =
-    ap (λ (o : Option (List (List ℕ) × List ℕ)). o >>= (λ names. doors_in names.1 >>= (λ doors. Some (Dig (New names.0) doors)))) (quoted_again names (doors_text doors) h.0)
+    ap (λ (o : Option (List (List ℕ) × List ℕ)). o >>=
+    (λ names. doors_in names.1 >>= (λ doors. Some (Dig (New names.0) doors))))
+    (quoted_again names (doors_text doors) h.0)
     ∙ ap (λ (o : Option (Option Doors)). o >>= (λ doors. Some (Dig (New names) doors))) (doors_again doors h.1)
 dig_again (Old room) None r h = absurd r
 dig_again (Old room) (Some doors) r h =
-    ap (λ (o : Option (ℕ × List ℕ)). o >>= (λ room. doors_in room.1 >>= (λ doors. way_to room.0 doors))) (object_before_again room (codes "out " ++ quoted doors.out ++ back_text doors.back) r)
+    ap (λ (o : Option (ℕ × List ℕ)). o >>= (λ room. doors_in room.1 >>= (λ doors. way_to room.0 doors)))
+    (object_before_again room (codes "out " ++ quoted doors.out ++ back_text doors.back) r)
     ∙ ap (λ (o : Option (Option Doors)). o >>= (λ doors. way_to room doors)) (way_again doors h.1)
 
 -- ---- deeds
 
 -- where the parts of a change's text are found, the change is found
-parts_again : (v : Verb) (word rest : List ℕ) (actor : ℕ) (d : Deed) → actor ≤ 8191 → lacks 32 word ≡ true → verb_in word ≡ Some v → deed_in v rest ≡ Some d
+parts_again : (v : Verb) (word rest : List ℕ) (actor : ℕ) (d : Deed) → actor ≤ 8191 → lacks 32 word ≡ true
+    → verb_in word ≡ Some v → deed_in v rest ≡ Some d
     → change_in (word ++ 32 ∷ (number_text actor ++ 32 ∷ rest)) ≡ Some (record { actor = actor; deed = d })
 unfolding change_in
 parts_again v word rest actor d le plain known found =
-    ap (λ (o : Option (List ℕ × List ℕ)). o >>= (λ word. verb_in word.0 >>= (λ v. object_before word.1 >>= (λ actor. deed_in v actor.1 >>= (λ d. Some (record { actor = actor.0; deed = d }))))))
+    ap (λ (o : Option (List ℕ × List ℕ)). o >>=
+    (λ word. verb_in word.0 >>=
+    (λ v. object_before word.1 >>=
+    (λ actor. deed_in v actor.1 >>= (λ d. Some (record { actor = actor.0; deed = d }))))))
     (cut_again 32 word (number_text actor ++ 32 ∷ rest) plain)
-    ∙ ap (λ (o : Option Verb). o >>= (λ v. object_before (number_text actor ++ 32 ∷ rest) >>= (λ actor. deed_in v actor.1 >>= (λ d. Some (record { actor = actor.0; deed = d }))))) known
-    ∙ ap (λ (o : Option (ℕ × List ℕ)). o >>= (λ actor. deed_in v actor.1 >>= (λ d. Some (record { actor = actor.0; deed = d })))) (object_before_again actor rest le)
+    ∙ ap (λ (o : Option Verb). o >>=
+    (λ v. object_before (number_text actor ++ 32 ∷ rest) >>=
+    (λ actor. deed_in v actor.1 >>= (λ d. Some (record { actor = actor.0; deed = d }))))) known
+    ∙ ap (λ (o : Option (ℕ × List ℕ)). o >>=
+    (λ actor. deed_in v actor.1 >>= (λ d. Some (record { actor = actor.0; deed = d }))))
+    (object_before_again actor rest le)
     ∙ ap (λ (o : Option Deed). o >>= (λ d. Some (record { actor = actor; deed = d }))) found
 
 -- an object, and what stands behind it
-then_again : {A B : Type 0} (n : ℕ) (rest : List ℕ) (find : List ℕ → Option A) (make : ℕ → A → B) (x : A) → n ≤ 8191 → find rest ≡ Some x
+then_again : {A B : Type 0} (n : ℕ) (rest : List ℕ) (find : List ℕ → Option A) (make : ℕ → A → B) (x : A) → n ≤ 8191
+    → find rest ≡ Some x
     → (object_before (number_text n ++ 32 ∷ rest) >>= (λ p. find p.1 >>= (λ x. Some (make p.0 x)))) ≡ Some (make n x)
 then_again {A = A} n rest find make x le found =
     ap (λ (o : Option (ℕ × List ℕ)). o >>= (λ p. find p.1 >>= (λ x. Some (make p.0 x)))) (object_before_again n rest le)
@@ -113,7 +138,8 @@ first word actor x = append_assoc (word ++ actor) (codes " ") x ∙ append_assoc
 second : (word actor x y : List ℕ) → word ++ actor ++ codes " " ++ x ++ y ≡ word ++ (actor ++ 32 ∷ (x ++ y))
 second word actor x y = append_assoc (word ++ actor ++ codes " ") x y ∙ first word actor (x ++ y)
 
-third : (word actor x y : List ℕ) → word ++ actor ++ codes " " ++ x ++ codes " " ++ y ≡ word ++ (actor ++ 32 ∷ (x ++ 32 ∷ y))
+third : (word actor x y : List ℕ)
+    → word ++ actor ++ codes " " ++ x ++ codes " " ++ y ≡ word ++ (actor ++ 32 ∷ (x ++ 32 ∷ y))
 third word actor x y = append_assoc (word ++ actor ++ codes " " ++ x) (codes " ") y ∙ second word actor x (32 ∷ y)
 
 pub shape : (actor : List ℕ) (d : Deed) → deed_text actor d ≡ deed_word d ++ 32 ∷ (actor ++ 32 ∷ rest_of d)
@@ -130,20 +156,50 @@ shape actor (Recycle object) = first (codes "recycle ") actor (number_text objec
 shape actor (Say text) = first (codes "say ") actor (text)
 shape actor (Emote text) = first (codes "emote ") actor (text)
 
-deed_again : (actor : ℕ) (d : Deed) → actor ≤ 8191 → IsInRange d → HasParts d → change_in (deed_word d ++ 32 ∷ (number_text actor ++ 32 ∷ rest_of d)) ≡ Some (record { actor = actor; deed = d })
-unfolding verb_in deed_in make_in player_in lock_in unlock_in move_in walk_in cost_in rename_in recycle_in say_in emote_in
-deed_again actor (Dig target doors) le r h = parts_again verb.Dig (codes "dig") (target_text target ++ doors_text doors) actor (Dig target doors) le refl refl (dig_again target doors r h)
-deed_again actor (Make names) le r h = parts_again verb.Make (codes "make") (quoted names) actor (Make names) le refl refl (ap (λ (o : Option (List (List ℕ) × List ℕ)). o >>= (λ names. Some (Make names.0))) (quoted_end names h))
-deed_again actor (Player name) le r h = parts_again verb.Player (codes "player") (quoted (name ∷ [])) actor (Player name) le refl refl (ap (λ (o : Option (List ℕ)). o >>= (λ name. Some (Player name))) (name_again name h))
-deed_again actor (Lock object key) le r h = parts_again verb.Lock (codes "lock") (number_text object ++ 32 ∷ printed (by_text key)) actor (Lock object key) le refl refl (then_again object (printed (by_text key)) number_key_in (λ o k. Lock o k) key r (key_again key h))
-deed_again actor (Unlock object) le r h = parts_again verb.Unlock (codes "unlock") (number_text object) actor (Unlock object) le refl refl (ap (λ (o : Option ℕ). o >>= (λ n. Some (Unlock n))) (object_again object r))
-deed_again actor (Move thing to) le r h = parts_again verb.Move (codes "move") (number_text thing ++ 32 ∷ number_text to) actor (Move thing to) le refl refl (then_again thing (number_text to) object_in (λ o k. Move o k) to r.0 (object_again to r.1))
-deed_again actor (Walk exit) le r h = parts_again verb.Walk (codes "walk") (number_text exit) actor (Walk exit) le refl refl (ap (λ (o : Option ℕ). o >>= (λ n. Some (Walk n))) (object_again exit r))
-deed_again actor (Cost exit cost) le r h = parts_again verb.Cost (codes "cost") (number_text exit ++ 32 ∷ decimal cost) actor (Cost exit cost) le refl refl (then_again exit (decimal cost) (number_up_to 10000) (λ o k. Cost o k) cost r.0 (number_again 10000 cost r.1 (omega (arith, r.1))))
-deed_again actor (Rename object names) le r h = parts_again verb.Rename (codes "rename") (number_text object ++ 32 ∷ quoted names) actor (Rename object names) le refl refl (then_again object (quoted names) quoted_in (λ o (k : List (List ℕ) × List ℕ). Rename o k.0) (names, []) r (quoted_end names h))
-deed_again actor (Recycle object) le r h = parts_again verb.Recycle (codes "recycle") (number_text object) actor (Recycle object) le refl refl (ap (λ (o : Option ℕ). o >>= (λ n. Some (Recycle n))) (object_again object r))
-deed_again actor (Say text) le r h = parts_again verb.Say (codes "say") text actor (Say text) le refl refl (ap (λ (o : Option (List ℕ)). o >>= (λ n. Some (Say n))) (speech_again text h))
-deed_again actor (Emote text) le r h = parts_again verb.Emote (codes "emote") text actor (Emote text) le refl refl (ap (λ (o : Option (List ℕ)). o >>= (λ n. Some (Emote n))) (speech_again text h))
+deed_again : (actor : ℕ) (d : Deed) → actor ≤ 8191 → IsInRange d → HasParts d
+    → change_in (deed_word d ++ 32 ∷ (number_text actor ++ 32 ∷ rest_of d)) ≡ Some (record { actor = actor; deed = d })
+unfolding verb_in deed_in make_in player_in lock_in unlock_in move_in walk_in cost_in rename_in recycle_in say_in
+    emote_in
+deed_again actor (Dig target doors) le r h =
+    parts_again verb.Dig (codes "dig") (target_text target ++ doors_text doors) actor (Dig target doors) le refl refl
+    (dig_again target doors r h)
+deed_again actor (Make names) le r h =
+    parts_again verb.Make (codes "make") (quoted names) actor (Make names) le refl refl
+    (ap (λ (o : Option (List (List ℕ) × List ℕ)). o >>= (λ names. Some (Make names.0))) (quoted_end names h))
+deed_again actor (Player name) le r h =
+    parts_again verb.Player (codes "player") (quoted (name ∷ [])) actor (Player name) le refl refl
+    (ap (λ (o : Option (List ℕ)). o >>= (λ name. Some (Player name))) (name_again name h))
+deed_again actor (Lock object key) le r h =
+    parts_again verb.Lock (codes "lock") (number_text object ++ 32 ∷ printed (by_text key)) actor
+    (Lock object key) le refl refl
+    (then_again object (printed (by_text key)) number_key_in (λ o k. Lock o k) key r (key_again key h))
+deed_again actor (Unlock object) le r h =
+    parts_again verb.Unlock (codes "unlock") (number_text object) actor (Unlock object) le refl refl
+    (ap (λ (o : Option ℕ). o >>= (λ n. Some (Unlock n))) (object_again object r))
+deed_again actor (Move thing to) le r h =
+    parts_again verb.Move (codes "move") (number_text thing ++ 32 ∷ number_text to) actor (Move thing to) le refl refl
+    (then_again thing (number_text to) object_in (λ o k. Move o k) to r.0 (object_again to r.1))
+deed_again actor (Walk exit) le r h =
+    parts_again verb.Walk (codes "walk") (number_text exit) actor (Walk exit) le refl refl
+    (ap (λ (o : Option ℕ). o >>= (λ n. Some (Walk n))) (object_again exit r))
+deed_again actor (Cost exit cost) le r h =
+    parts_again verb.Cost (codes "cost") (number_text exit ++ 32 ∷ decimal cost) actor (Cost exit cost) le refl refl
+    (then_again exit (decimal cost) (number_up_to 10000) (λ o k. Cost o k) cost r.0
+    (number_again 10000 cost r.1 (omega (arith, r.1))))
+deed_again actor (Rename object names) le r h =
+    parts_again verb.Rename (codes "rename") (number_text object ++ 32 ∷ quoted names) actor
+    (Rename object names) le refl refl
+    (then_again object (quoted names) quoted_in (λ o (k : List (List ℕ) × List ℕ). Rename o k.0) (names, []) r
+    (quoted_end names h))
+deed_again actor (Recycle object) le r h =
+    parts_again verb.Recycle (codes "recycle") (number_text object) actor (Recycle object) le refl refl
+    (ap (λ (o : Option ℕ). o >>= (λ n. Some (Recycle n))) (object_again object r))
+deed_again actor (Say text) le r h =
+    parts_again verb.Say (codes "say") text actor (Say text) le refl refl
+    (ap (λ (o : Option (List ℕ)). o >>= (λ n. Some (Say n))) (speech_again text h))
+deed_again actor (Emote text) le r h =
+    parts_again verb.Emote (codes "emote") text actor (Emote text) le refl refl
+    (ap (λ (o : Option (List ℕ)). o >>= (λ n. Some (Emote n))) (speech_again text h))
 
 desk_again : (desk : ℕ) → 1 ≤ desk → desk ≤ 64 → desk_in (decimal desk) ≡ Some desk
 unfolding desk_in
@@ -151,7 +207,8 @@ desk_again desk lo hi =
     ap (λ (o : Option ℕ). o >>= (λ desk. cond (leb 1 desk) (Some desk) None)) (number_again 64 desk hi (omega arith))
     ∙ cond-true (leb 1 desk) (Some desk) None (le-leb 1 desk lo)
 
-pub line_shape : (version : ℕ) (e : Accepted) → entry_line version e ≡ decimal version ++ 32 ∷ (decimal e.desk ++ 32 ∷ change_text e.change)
+pub line_shape : (version : ℕ) (e : Accepted)
+    → entry_line version e ≡ decimal version ++ 32 ∷ (decimal e.desk ++ 32 ∷ change_text e.change)
 unfolding entry_line
 line_shape version e =
     let text : List ℕ = change_text e.change in
@@ -168,12 +225,20 @@ entry_again version e fits is =
     let high : e.desk ≤ 64 = s.desk_to in
     let text : List ℕ = change_text e.change in
     ap entry_in (line_shape version e)
-    ∙ ap (λ (o : Option (List ℕ × List ℕ)). o >>= (λ version. cut 32 version.1 >>= (λ p. desk_in p.0 >>= (λ desk. change_in p.1 >>= (λ change. Some (record { desk = desk; change = change }))))))
+    ∙ ap (λ (o : Option (List ℕ × List ℕ)). o >>=
+    (λ version.
+    cut 32 version.1 >>=
+    (λ p. desk_in p.0 >>= (λ desk. change_in p.1 >>= (λ change. Some (record { desk = desk; change = change }))))))
     (cut_again 32 (decimal version) (decimal e.desk ++ 32 ∷ text) (decimal_lacks 32 version (omega arith) fits))
-    ∙ ap (λ (o : Option (List ℕ × List ℕ)). o >>= (λ p. desk_in p.0 >>= (λ desk. change_in p.1 >>= (λ change. Some (record { desk = desk; change = change })))))
+    ∙ ap (λ (o : Option (List ℕ × List ℕ)). o >>=
+    (λ p. desk_in p.0 >>= (λ desk. change_in p.1 >>= (λ change. Some (record { desk = desk; change = change })))))
     (cut_again 32 (decimal e.desk) text (decimal_lacks 32 e.desk (omega arith) (omega arith)))
-    ∙ ap (λ (o : Option ℕ). o >>= (λ desk. change_in text >>= (λ change. Some (record { desk = desk; change = change })))) (desk_again e.desk low high)
-    ∙ ap (λ (o : Option Change). o >>= (λ change. Some (record { desk = e.desk; change = change }))) (ap change_in (shape (number_text e.change.actor) e.change.deed) ∙ deed_again e.change.actor e.change.deed s.actor s.deed is.parts)
+    ∙ ap (λ (o : Option ℕ). o >>=
+    (λ desk. change_in text >>= (λ change. Some (record { desk = desk; change = change }))))
+    (desk_again e.desk low high)
+    ∙ ap (λ (o : Option Change). o >>= (λ change. Some (record { desk = e.desk; change = change })))
+    (ap change_in (shape (number_text e.change.actor) e.change.deed)
+    ∙ deed_again e.change.actor e.change.deed s.actor s.deed is.parts)
 
 -- ---- bytes
 
@@ -186,27 +251,35 @@ plain_back (Some names) h = plain_names names h
 
 plain_doors : (doors : Option Doors) → AreDoors doors → list_all plain (doors_text doors) ≡ true
 plain_doors None h = refl
-plain_doors (Some doors) h = both plain (quoted doors.out) (back_text doors.back) (plain_names doors.out h.0) (plain_back doors.back h.1)
+plain_doors (Some doors) h =
+    both plain (quoted doors.out) (back_text doors.back) (plain_names doors.out h.0) (plain_back doors.back h.1)
 
-plain_target : (target : Target) (doors : Option Doors) → IsInRange (Dig target doors) → IsTarget target → list_all plain (target_text target) ≡ true
+plain_target : (target : Target) (doors : Option Doors) → IsInRange (Dig target doors) → IsTarget target
+    → list_all plain (target_text target) ≡ true
 plain_target (New names) doors r h = plain_names names h
 plain_target (Old room) None r h = absurd r
 plain_target (Old room) (Some doors) r h = plain_number room r
 
 -- an actor, a space and the rest
-plain_behind : (actor rest : List ℕ) → list_all plain actor ≡ true → list_all plain rest ≡ true → list_all plain (actor ++ 32 ∷ rest) ≡ true
+plain_behind : (actor rest : List ℕ) → list_all plain actor ≡ true → list_all plain rest ≡ true
+    → list_all plain (actor ++ 32 ∷ rest) ≡ true
 plain_behind actor rest h k = both plain actor (32 ∷ rest) h k
 
 plain_rest : (d : Deed) → IsInRange d → HasParts d → list_all plain (rest_of d) ≡ true
-plain_rest (Dig target doors) r h = both plain (target_text target) (doors_text doors) (plain_target target doors r h.0) (plain_doors doors h.1)
+plain_rest (Dig target doors) r h =
+    both plain (target_text target) (doors_text doors) (plain_target target doors r h.0) (plain_doors doors h.1)
 plain_rest (Make names) r h = plain_names names h
 plain_rest (Player name) r h = plain_quoted (name ∷ []) (h, tt)
-plain_rest (Lock object key) r h = plain_behind (number_text object) (printed (by_text key)) (plain_number object r) (plain_key key h.numbers)
+plain_rest (Lock object key) r h =
+    plain_behind (number_text object) (printed (by_text key)) (plain_number object r) (plain_key key h.numbers)
 plain_rest (Unlock object) r h = plain_number object r
-plain_rest (Move thing to) r h = plain_behind (number_text thing) (number_text to) (plain_number thing r.0) (plain_number to r.1)
+plain_rest (Move thing to) r h =
+    plain_behind (number_text thing) (number_text to) (plain_number thing r.0) (plain_number to r.1)
 plain_rest (Walk exit) r h = plain_number exit r
-plain_rest (Cost exit cost) r h = plain_behind (number_text exit) (decimal cost) (plain_number exit r.0) (plain_decimal cost (omega (arith, r.1)))
-plain_rest (Rename object names) r h = plain_behind (number_text object) (quoted names) (plain_number object r) (plain_names names h)
+plain_rest (Cost exit cost) r h =
+    plain_behind (number_text exit) (decimal cost) (plain_number exit r.0) (plain_decimal cost (omega (arith, r.1)))
+plain_rest (Rename object names) r h =
+    plain_behind (number_text object) (quoted names) (plain_number object r) (plain_names names h)
 plain_rest (Recycle object) r h = plain_number object r
 plain_rest (Say text) r h = plain_speech text h
 plain_rest (Emote text) r h = plain_speech text h
@@ -225,14 +298,20 @@ plain_word (Recycle object) = refl
 plain_word (Say text) = refl
 plain_word (Emote text) = refl
 
-plain_deed : (actor : List ℕ) (d : Deed) → list_all plain actor ≡ true → IsInRange d → HasParts d → list_all plain (deed_text actor d) ≡ true
-plain_deed actor d a r h = ap (list_all plain) (shape actor d) ∙ plain_behind (deed_word d) (actor ++ 32 ∷ rest_of d) (plain_word d) (plain_behind actor (rest_of d) a (plain_rest d r h))
+plain_deed : (actor : List ℕ) (d : Deed) → list_all plain actor ≡ true → IsInRange d → HasParts d
+    → list_all plain (deed_text actor d) ≡ true
+plain_deed actor d a r h =
+    ap (list_all plain) (shape actor d)
+    ∙ plain_behind (deed_word d) (actor ++ 32 ∷ rest_of d) (plain_word d)
+    (plain_behind actor (rest_of d) a (plain_rest d r h))
 
 -- a line has bytes from 32 to 126 alone
-pub plain_line : (version : ℕ) (e : Accepted) → version < 2 ^ 64 → IsEntry e → list_all plain (entry_line version e) ≡ true
+pub plain_line : (version : ℕ) (e : Accepted) → version < 2 ^ 64 → IsEntry e
+    → list_all plain (entry_line version e) ≡ true
 plain_line version e fits is =
     let s = is.spellable in
     let high : e.desk ≤ 64 = s.desk_to in
     ap (list_all plain) (line_shape version e)
     ∙ plain_behind (decimal version) (decimal e.desk ++ 32 ∷ change_text e.change) (plain_decimal version fits)
-    (plain_behind (decimal e.desk) (change_text e.change) (plain_decimal e.desk (omega arith)) (plain_deed (number_text e.change.actor) e.change.deed (plain_number e.change.actor s.actor) s.deed is.parts))
+    (plain_behind (decimal e.desk) (change_text e.change) (plain_decimal e.desk (omega arith))
+    (plain_deed (number_text e.change.actor) e.change.deed (plain_number e.change.actor s.actor) s.deed is.parts))

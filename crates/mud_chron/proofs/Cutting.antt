@@ -1,5 +1,6 @@
 -- What stands in front of the first such byte, and what stands behind it.
-use Rattle.std.proofs.Common.{◌≡◌, ◌≢◌, ℕ, suc, ◌+◌, ◌<◌, Bool, true, false, ◌⊎◌, inl, inr, List, [], ◌∷◌, ◌++◌, length, take, drop, Option, Some, None, refl, sym, ◌∙◌, ap, arith, eqb}
+use Rattle.std.proofs.Common.{◌≡◌, ◌≢◌, ℕ, suc, ◌+◌, ◌<◌, Bool, true, false, ◌⊎◌, inl, inr, List, [], ◌∷◌, ◌++◌, length}
+use Rattle.std.proofs.Common.{take, drop, Option, Some, None, refl, sym, ◌∙◌, ap, arith, eqb}
 use Rattle.std.proofs.lemmas.Bool.{cases_Bool, ne_eqb, and_parts, and_from, true≢false}
 use Rattle.std.proofs.lemmas.Bool.Decides.{Decides-eqb}
 use Rattle.std.specs.Prelude.{not}
@@ -19,11 +20,13 @@ abbrev place : ℕ → List ℕ → ℕ
 place c bs = position_or_len (λ b. eqb b c) bs
 
 -- it is found
-cut_found : (c : ℕ) (bs : List ℕ) → place c bs < length bs → cut c bs ≡ Some (before_first (λ b. eqb b c) bs, after_first (λ b. eqb b c) bs)
+cut_found : (c : ℕ) (bs : List ℕ) → place c bs < length bs
+    → cut c bs ≡ Some (before_first (λ b. eqb b c) bs, after_first (λ b. eqb b c) bs)
 cut_found c [] h = absurd (omega arith)
 cut_found c (b ∷ bs) h = go (cut_found c bs) (cases_Bool (eqb b c))
   where
-    go : (place c bs < length bs → cut c bs ≡ Some (take (place c bs) bs, drop (place c bs + 1) bs)) → (eqb b c ≡ true) ⊎ (eqb b c ≡ false)
+    go : (place c bs < length bs → cut c bs ≡ Some (take (place c bs) bs, drop (place c bs + 1) bs))
+        → (eqb b c ≡ true) ⊎ (eqb b c ≡ false)
         → cut c (b ∷ bs) ≡ Some (take (place c (b ∷ bs)) (b ∷ bs), drop (place c (b ∷ bs) + 1) (b ∷ bs))
     go again (inl e) = rw e refl
     go again (inr e) =
@@ -31,7 +34,8 @@ cut_found c (b ∷ bs) h = go (cut_found c bs) (cases_Bool (eqb b c))
         let one : 1 + place c bs ≡ suc (place c bs) = omega arith in
         let two : 1 + place c bs + 1 ≡ suc (place c bs + 1) = omega arith in
         rw e (ap (option_map (λ (p : List ℕ × List ℕ). (b ∷ p.0, p.1))) (again (omega arith))
-        ∙ ap (λ n. Some (take n (b ∷ bs), drop (place c bs + 1) bs)) (sym one) ∙ ap (λ n. Some (take (1 + place c bs) (b ∷ bs), drop n (b ∷ bs))) (sym two))
+        ∙ ap (λ n. Some (take n (b ∷ bs), drop (place c bs + 1) bs)) (sym one)
+        ∙ ap (λ n. Some (take (1 + place c bs) (b ∷ bs), drop n (b ∷ bs))) (sym two))
 
 -- it is not there
 cut_none : (c : ℕ) (bs : List ℕ) → place c bs ≡ length bs → cut c bs ≡ None
@@ -40,7 +44,8 @@ cut_none c (b ∷ bs) h = go (cut_none c bs) (cases_Bool (eqb b c))
   where
     go : (place c bs ≡ length bs → cut c bs ≡ None) → (eqb b c ≡ true) ⊎ (eqb b c ≡ false) → cut c (b ∷ bs) ≡ None
     go again (inl e) = let no : 0 ≡ length (b ∷ bs) = rw e at h in absurd (omega arith)
-    go again (inr e) = let same : 1 + place c bs ≡ length (b ∷ bs) = rw e at h in rw e (ap (option_map (λ (p : List ℕ × List ℕ). (b ∷ p.0, p.1))) (again (omega arith)))
+    go again (inr e) = let same : 1 + place c bs ≡ length (b ∷ bs) = rw e at h in
+        rw e (ap (option_map (λ (p : List ℕ × List ℕ). (b ∷ p.0, p.1))) (again (omega arith)))
 
 -- no such byte stands in the text
 abbrev pub lacks : ℕ → List ℕ → Bool
@@ -65,12 +70,15 @@ lacks_all c (b ∷ text) h =
     (λ same. true≢false (sym p.0 ∙ ap not (ap (λ z. eqb z c) same ∙ eqb-refl c)), lacks_all c text p.1)
 
 -- what passes one test passes the other
-pub implied : (p q : ℕ → Bool) → ((b : ℕ) → p b ≡ true → q b ≡ true) → (text : List ℕ) → list_all p text ≡ true → list_all q text ≡ true
+pub implied : (p q : ℕ → Bool) → ((b : ℕ) → p b ≡ true → q b ≡ true) → (text : List ℕ) → list_all p text ≡ true
+    → list_all q text ≡ true
 implied p q f [] h = refl
-implied p q f (b ∷ text) h = let parts = and_parts (p b) (list_all p text) h in and_from (q b) (list_all q text) (f b parts.0) (implied p q f text parts.1)
+implied p q f (b ∷ text) h = let parts = and_parts (p b) (list_all p text) h in
+    and_from (q b) (list_all q text) (f b parts.0) (implied p q f text parts.1)
 
 -- what is true of each element is tested
-pub tested : (P : ℕ → Type 0) (p : ℕ → Bool) → ((b : ℕ) → P b → p b ≡ true) → (text : List ℕ) → AllByRecursion P text → list_all p text ≡ true
+pub tested : (P : ℕ → Type 0) (p : ℕ → Bool) → ((b : ℕ) → P b → p b ≡ true) → (text : List ℕ) → AllByRecursion P text
+    → list_all p text ≡ true
 tested P p f [] h = refl
 tested P p f (b ∷ text) h = and_from (p b) (list_all p text) (f b h.0) (tested P p f text h.1)
 
@@ -90,14 +98,18 @@ one_found o a b x y h k =
     (ap (λ (p : List ℕ × List ℕ). p.0) pair, ap (λ (p : List ℕ × List ℕ). p.1) pair)
 
 -- what stands round the first such byte is what was found
-pub parts_found : (c : ℕ) (text front rest : List ℕ) → Lacks c front → text ≡ front ++ c ∷ rest → place c text < length text
+pub parts_found : (c : ℕ) (text front rest : List ℕ) → Lacks c front → text ≡ front ++ c ∷ rest
+    → place c text < length text
     → (before_first (λ b. eqb b c) text ≡ front) × (after_first (λ b. eqb b c) text ≡ rest)
 parts_found c text front rest h is here =
-    one_found (cut c text) (before_first (λ b. eqb b c) text) front (after_first (λ b. eqb b c) text) rest (cut_found c text here)
+    one_found (cut c text) (before_first (λ b. eqb b c) text) front (after_first (λ b. eqb b c) text) rest
+    (cut_found c text here)
     (ap (cut c) is ∙ cut_again c front rest (lacks_from c front h))
 
 -- it is there
-pub not_lost : (c : ℕ) (text front rest : List ℕ) → Lacks c front → text ≡ front ++ c ∷ rest → place c text ≡ length text → ⊥
+pub not_lost : (c : ℕ) (text front rest : List ℕ) → Lacks c front → text ≡ front ++ c ∷ rest
+    → place c text ≡ length text → ⊥
 not_lost c text front rest h is gone =
-    let bad : ◌≡◌ {A = Option (List ℕ × List ℕ)} None (Some (front, rest)) = sym (cut_none c text gone) ∙ ap (cut c) is ∙ cut_again c front rest (lacks_from c front h) in
+    let bad : ◌≡◌ {A = Option (List ℕ × List ℕ)} None (Some (front, rest)) =
+    sym (cut_none c text gone) ∙ ap (cut c) is ∙ cut_again c front rest (lacks_from c front h) in
     cc

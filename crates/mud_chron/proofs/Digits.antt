@@ -1,5 +1,7 @@
 -- What is spelled of a number is found as the number.
-use Rattle.std.proofs.Common.{◌≡◌, ℕ, ◌+◌, ◌-◌, ◌*◌, ◌/◌, ◌%◌, ◌^◌, ◌<◌, ◌≤◌, true, List, [], ◌∷◌, ◌++◌, Bool, false, Option, Some, None, Result, Ok, Err, cond, leb, ltb, refl, sym, ◌∙◌, ap, arith, append_assoc, eqb}
+use Rattle.std.proofs.Common.{◌≡◌, ℕ, ◌+◌, ◌-◌, ◌*◌, ◌/◌, ◌%◌, ◌^◌, ◌<◌, ◌≤◌, true, List, [], ◌∷◌, ◌++◌, Bool, false}
+use Rattle.std.proofs.Common.{Option, Some, None, Result, Ok, Err, cond, leb, ltb, refl, sym, ◌∙◌, ap, arith}
+use Rattle.std.proofs.Common.{append_assoc, eqb}
 use Rattle.std.specs.Prelude.{◌&&◌, not, IfOk}
 use Rattle.std.specs.List.{list_all}
 use Rattle.std.specs.Fmt.{decimal}
@@ -13,15 +15,19 @@ use Rattle.mud_chron.specs.Fields.{is_digit, digits_on, up_to, object_in, Gives,
 use Rattle.mud_chron.proofs.Reader.{◌>>=◌, object_before}
 use Rattle.mud_chron.proofs.Cutting.{lacks, cut_again, implied}
 
-step : (n b : ℕ) (bs : List ℕ) → is_digit b ≡ true → n < 100000000 → digits_on n (b ∷ bs) ≡ digits_on (n * 10 + (b - 48)) bs
-step n b bs e few = cond-true (is_digit b && ltb n 100000000) (digits_on (n * 10 + (b - 48)) bs) None (and_from (is_digit b) (ltb n 100000000) e (lt-ltb n 100000000 few))
+step : (n b : ℕ) (bs : List ℕ) → is_digit b ≡ true → n < 100000000
+    → digits_on n (b ∷ bs) ≡ digits_on (n * 10 + (b - 48)) bs
+step n b bs e few =
+    cond-true (is_digit b && ltb n 100000000) (digits_on (n * 10 + (b - 48)) bs) None
+    (and_from (is_digit b) (ltb n 100000000) e (lt-ltb n 100000000 few))
 
 is-digit : (b : ℕ) → 48 ≤ b → b ≤ 57 → is_digit b ≡ true
 is-digit b lo hi = and_from (leb 48 b) (leb b 57) (le-leb 48 b lo) (le-leb b 57 hi)
 
 -- the digits of a number are read on as that number
 reads-on : (n : ℕ) → n < 1000000000 → (rest : List ℕ) → digits_on 0 (decimal n ++ rest) ≡ digits_on n rest
-reads-on n few = decimal_by_steps (λ n ds. n < 1000000000 → (rest : List ℕ) → digits_on 0 (ds ++ rest) ≡ digits_on n rest)
+reads-on n few =
+    decimal_by_steps (λ n ds. n < 1000000000 → (rest : List ℕ) → digits_on 0 (ds ++ rest) ≡ digits_on n rest)
     (λ n small few rest.
     let d : 0 * 10 + (48 + n - 48) ≡ n = omega arith in
     step 0 (48 + n) rest (is-digit (48 + n) (omega arith) (omega arith)) (omega arith) ∙ ap (λ k. digits_on k rest) d)
@@ -40,12 +46,17 @@ digits n fits = decimal_by_steps (λ n ds. list_all is_digit ds ≡ true)
     (λ n small. and_from (is_digit (48 + n)) true (is-digit (48 + n) (omega arith) (omega arith)) refl)
     (λ n ds big front.
     list_all-append is_digit ds ((48 + n % 10) ∷ [])
-    ∙ and_from (list_all is_digit ds) (list_all is_digit ((48 + n % 10) ∷ [])) front (and_from (is_digit (48 + n % 10)) true (is-digit (48 + n % 10) (omega arith) (omega arith)) refl))
+    ∙ and_from (list_all is_digit ds) (list_all is_digit ((48 + n % 10) ∷ [])) front
+    (and_from (is_digit (48 + n % 10)) true (is-digit (48 + n % 10) (omega arith) (omega arith)) refl))
     n fits
 
 -- no sign below the digits stands in it
 pub decimal_lacks : (c n : ℕ) → c < 48 → n < 2 ^ 64 → lacks c (decimal n) ≡ true
-decimal_lacks c n low fits = implied is_digit (λ b. not (eqb b c)) (λ b e. ap not (ne_eqb b c (λ same. let p = and_parts (leb 48 b) (leb b 57) e in absurd (omega (arith, leb-true 48 b p.0))))) (decimal n) (digits n fits)
+decimal_lacks c n low fits =
+    implied is_digit (λ b. not (eqb b c))
+    (λ b e. ap not
+    (ne_eqb b c (λ same. let p = and_parts (leb 48 b) (leb b 57) e in absurd (omega (arith, leb-true 48 b p.0)))))
+    (decimal n) (digits n fits)
 
 pub number_again : (most n : ℕ) → n ≤ most → n < 1000000000 → up_to most (digits_on 0 (decimal n)) ≡ Some n
 number_again most n le few =
@@ -61,7 +72,8 @@ given (Ok m) found n h is = let both : Some m ≡ Some n = sym h ∙ is in cc
 given (Err e) found n h is = let bad : ◌≡◌ {A = Option ℕ} None (Some n) = sym h ∙ is in absurd (cc)
 
 -- a number that was answered is at most this
-pub given_most : (r : Result ℕ Unread) (most : ℕ) (found : Option ℕ) → Gives r (up_to most found) → IfOk r (λ n. n ≤ most)
+pub given_most : (r : Result ℕ Unread) (most : ℕ) (found : Option ℕ) → Gives r (up_to most found)
+    → IfOk r (λ n. n ≤ most)
 given_most (Ok m) most None h = absurd (let bad : ◌≡◌ {A = Option ℕ} None (Some m) = h in cc)
 given_most (Ok m) most (Some n) h = go (leb n most) refl h
   where
@@ -70,8 +82,10 @@ given_most (Ok m) most (Some n) h = go (leb n most) refl h
     go false e i = absurd (let bad : ◌≡◌ {A = Option ℕ} None (Some m) = i in cc)
 given_most (Err e) most found h = tt
 
-pub object_before_again : (n : ℕ) (rest : List ℕ) → n ≤ 8191 → object_before (number_text n ++ 32 ∷ rest) ≡ Some (n, rest)
+pub object_before_again : (n : ℕ) (rest : List ℕ) → n ≤ 8191
+    → object_before (number_text n ++ 32 ∷ rest) ≡ Some (n, rest)
 unfolding object_before
 object_before_again n rest le =
-    ap (λ (o : Option (List ℕ × List ℕ)). o >>= (λ p. object_in p.0 >>= (λ n. Some (n, p.1)))) (cut_again 32 (number_text n) rest (decimal_lacks 32 n (omega arith) (omega arith)))
+    ap (λ (o : Option (List ℕ × List ℕ)). o >>= (λ p. object_in p.0 >>= (λ n. Some (n, p.1))))
+    (cut_again 32 (number_text n) rest (decimal_lacks 32 n (omega arith) (omega arith)))
     ∙ ap (λ (o : Option ℕ). o >>= (λ n. Some (n, rest))) (object_again n le)

@@ -1,7 +1,7 @@
 -- A history that is legal so far, and its next change.
-use Rattle.std.proofs.Common.{◌≡◌, ℕ, suc, ◌+◌, ◌<◌, ◌≤◌, List, [], ◌∷◌, ◌++◌, length, take, drop, Option, Some, None, sym, ◌∙◌, ap, subst, arith, get_or}
-use Rattle.std.proofs.Math.Seq.{drop-cons}
-use Rattle.std.proofs.lemmas.List.{take_more, map-append, length-map, length-take, take-append-drop}
+use Rattle.std.proofs.Common.{◌≡◌, ℕ, ◌+◌, ◌<◌, List, [], ◌∷◌, ◌++◌, length, take, Option, Some, None, refl, sym, ◌∙◌}
+use Rattle.std.proofs.Common.{ap, subst, get_or}
+use Rattle.std.proofs.lemmas.List.{take_more, take-map, map-append}
 use Rattle.std.specs.Prelude.{is_none, if◌then◌else◌}
 use Rattle.mud_world.specs.State.{State}
 use Rattle.mud_world.specs.Opening.{opening_state}
@@ -17,13 +17,26 @@ use Rattle.mud_chron.specs.Entry.{Accepted}
 made : (w : State) (c : Change) → refusal w c ≡ None → stepped w c ≡ after w c
 made w c legal = ap (λ o. if is_none o then after w c else w) legal
 
-legal_from-push : (w : State) (changes : List Change) (e : Change) → AreLegalFrom w changes → refusal (world_from w changes) e ≡ None → AreLegalFrom w (changes ++ e ∷ [])
+legal_from-push : (w : State) (changes : List Change) (e : Change) → AreLegalFrom w changes
+    → refusal (world_from w changes) e ≡ None → AreLegalFrom w (changes ++ e ∷ [])
 legal_from-push w [] e h legal = (legal, tt)
-legal_from-push w (c ∷ changes) e h legal =
-    (h.0, legal_from-push (after w c) changes e h.1 (subst (λ s. refusal (world_from s changes) e ≡ None) (made w c h.0) legal))
+legal_from-push w (c ∷ changes) e h legal = (
+  h.0,
+  legal_from-push (after w c) changes e h.1
+      (subst (λ s. refusal (world_from s changes) e ≡ None) (made w c h.0) legal),
+)
 
-changes-more : (es : List Accepted) (i : ℕ) (d : Accepted) → i < length es → changes_of (take (i + 1) es) ≡ changes_of (take i es) ++ (get_or es i d).change ∷ []
-changes-more es i d h = ap changes_of (take_more es i d h) ∙ map-append (λ (e : Accepted). e.change) (take i es) (get_or es i d ∷ [])
+changes-more : (es : List Accepted) (i : ℕ) (d : Accepted) → i < length es
+    → changes_of (take (i + 1) es) ≡ changes_of (take i es) ++ (get_or es i d).change ∷ []
+changes-more es i d h =
+    ap changes_of (take_more es i d h) ∙ map-append (λ (e : Accepted). e.change) (take i es) (get_or es i d ∷ [])
+
+-- where all are legal, each is
+legal-at : (w : State) (before : List Change) (e : Change) (behind : List Change)
+    → AreLegalFrom w (before ++ e ∷ behind) → refusal (world_from w before) e ≡ None
+legal-at w [] e behind legal = legal.0
+legal-at w (b ∷ before) e behind legal =
+    ap (λ v. refusal (world_from v before) e) (made w b legal.0) ∙ legal-at (after w b) before e behind legal.1
 
 -- what is known of a history that is legal so far
 pub record IsMade (es : List Accepted) (w : State) : Type 0 where
@@ -32,8 +45,13 @@ pub record IsMade (es : List Accepted) (w : State) : Type 0 where
 
 -- the next change is legal
 pub grown : (es : List Accepted) (i : ℕ) (d : Accepted) (w : State) → i < length es
-    → AreLegal (changes_of (take i es)) → w ≡ world_of (changes_of (take i es)) → refusal w (get_or es i d).change ≡ None
-    → record { legal : AreLegal (changes_of (take (i + 1) es)); world : after w (get_or es i d).change ≡ world_of (changes_of (take (i + 1) es)) }
+    → AreLegal (changes_of (take i es)) → w ≡ world_of (changes_of (take i es))
+    → refusal w (get_or es i d).change ≡ None
+    → record {
+      legal : AreLegal (changes_of (take (i + 1) es));
+      world : after w (get_or es i d).change
+          ≡ world_of (changes_of (take (i + 1) es));
+    }
 grown es i d w h legal is next =
     let cs : List Change = changes_of (take i es) in
     let c : Change = (get_or es i d).change in
@@ -44,22 +62,18 @@ grown es i d w h legal is next =
       world = ap (λ v. after v c) is ∙ sym (world_of-legal cs c allowed) ∙ ap world_of (sym one);
     }
 
-length-changes : (es : List Accepted) (i : ℕ) → i ≤ length es → length (changes_of (take i es)) ≡ i
-length-changes es i h = omega (arith, length-map (take i es) (λ (e : Accepted). e.change), length-take i es)
-
 -- the next change is not legal
 pub refused : (es : List Accepted) (i : ℕ) (d : Accepted) (w : State) (f : Refusal) → i < length es
-    → AreLegal (changes_of (take i es)) → w ≡ world_of (changes_of (take i es)) → refusal w (get_or es i d).change ≡ Some f → IsFirstIllegal (changes_of es) (i + 1)
+    → AreLegal (changes_of (take i es)) → w ≡ world_of (changes_of (take i es))
+    → refusal w (get_or es i d).change ≡ Some f → IsFirstIllegal (changes_of es) (i + 1)
 refused es i d w f h legal is next =
+    let cs : List Change = changes_of (take i es) in
     let c : Change = (get_or es i d).change in
-    let cut : es ≡ take i es ++ (get_or es i d ∷ drop (suc i) es) = sym (take-append-drop i es) ∙ ap (λ rest. take i es ++ rest) (drop-cons es i d h) in
-    let not_none : ◌≡◌ {A = Option Refusal} (Some f) None → ⊥ = λ e. absurd (cc) in
-    record {
-      before = changes_of (take i es);
-      change = c;
-      behind = changes_of (drop (suc i) es);
-      parts = ap changes_of cut ∙ map-append (λ (e : Accepted). e.change) (take i es) (get_or es i d ∷ drop (suc i) es);
-      number = ap (λ n. n + 1) (sym (length-changes es i (omega arith)));
-      legal = legal;
-      illegal = λ e. not_none (sym next ∙ ap (λ v. refusal v c) is ∙ e);
-    }
+    let fronts : (n : ℕ) → take n (changes_of es) ≡ changes_of (take n es) = λ n. take-map (λ e. e.change) n es in
+    let not_none : ◌≡◌ {A = Option Refusal} (Some f) None → ⊥ = λ e. absurd (cc) in (
+      i,
+      refl,
+      subst AreLegal (sym (fronts i)) legal,
+      λ all. not_none (sym next ∙ ap (λ v. refusal v c) is
+          ∙ legal-at opening_state cs c [] (subst AreLegal (fronts (i + 1) ∙ changes-more es i d h) all)),
+    )

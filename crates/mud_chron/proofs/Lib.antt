@@ -1,6 +1,7 @@
 mod Grown
 mod Reader
 mod Cutting
+pub mod Lined
 mod Digits
 mod Spelled
 mod Again

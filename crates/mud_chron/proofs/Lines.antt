@@ -19,4 +19,5 @@ ascii (b ∷ text) h zero =
 ascii (b ∷ text) h (suc i) = ascii text (and_parts (plain b) (list_all plain text) h).1 i
 
 pub utf8_line : (version : ℕ) (e : Accepted) → version < 2 ^ 64 → IsEntry e → IsUtf8 (entry_line version e)
-utf8_line version e fits is = IsUtf8-from_ascii (entry_line version e) (λ i. ascii (entry_line version e) (plain_line version e fits is) i)
+utf8_line version e fits is =
+    IsUtf8-from_ascii (entry_line version e) (λ i. ascii (entry_line version e) (plain_line version e fits is) i)

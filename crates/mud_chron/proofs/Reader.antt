@@ -1,5 +1,6 @@
 -- A reader of lines as a function, apart from the code: by it a line is that of one entry alone.
-use Rattle.std.specs.Prelude.{ℕ, nat_eq, nat_le, List, [], ◌∷◌, codes, if◌then◌else◌, Option, None, Some, Result, Ok, Err}
+use Rattle.std.specs.Prelude.{ℕ, nat_eq, nat_le, List, [], ◌∷◌, codes, if◌then◌else◌, Option, None, Some, Result, Ok}
+use Rattle.std.specs.Prelude.{Err}
 use Rattle.std.specs.Option.{option_map, ok_or}
 use Rattle.std.specs.Str.{bytes_eq}
 use Rattle.mud_key.specs.declared.namer.Miss.{Miss}
@@ -14,7 +15,8 @@ use Rattle.mud_world.specs.declared.change.Target.TheVariants.{New, Old}
 use Rattle.mud_world.specs.declared.change.Deed.{Deed}
 use Rattle.mud_world.specs.declared.change.Deed.TheVariants as deed
 use Rattle.mud_chron.specs.declared.verb.Verb.{Verb}
-use Rattle.mud_chron.specs.declared.verb.Verb.TheVariants.{Dig, Make, Lock, Unlock, Move, Walk, Cost, Player, Rename, Recycle, Say, Emote}
+use Rattle.mud_chron.specs.declared.verb.Verb.TheVariants.{Dig, Make, Lock, Unlock, Move, Walk, Cost, Player, Rename}
+use Rattle.mud_chron.specs.declared.verb.Verb.TheVariants.{Recycle, Say, Emote}
 use Rattle.mud_chron.specs.Entry.{Accepted}
 use Rattle.mud_chron.specs.Fields.{digits_on, up_to, object_in}
 

@@ -1,5 +1,6 @@
 -- The text of a history has no CR.
-use Rattle.std.proofs.Common.{◌≡◌, ℕ, ◌+◌, ◌<◌, Bool, true, List, [], ◌∷◌, ◌++◌, length, refl, sym, subst, arith, eqb, ltb}
+use Rattle.std.proofs.Common.{◌≡◌, ℕ, ◌+◌, ◌<◌, Bool, true, List, [], ◌∷◌, ◌++◌, length, refl, sym, subst, arith, eqb}
+use Rattle.std.proofs.Common.{ltb}
 use Rattle.std.specs.Prelude.{not, ◌&&◌, ◌^◌}
 use Rattle.std.specs.List.{AllByRecursion, list_all}
 use Rattle.mud_chron.specs.declared.format.Format.{Format}
@@ -19,13 +20,15 @@ plain_passes b h = go (ltb b 32) (ltb 126 b) (eqb b 13) refl refl refl h
     go : (x y z : Bool) → ltb b 32 ≡ x → ltb 126 b ≡ y → eqb b 13 ≡ z → (not x && not y) ≡ true → not z ≡ true
     go x y z e f g p = grind arith
 
-entries_pass : (format : Format) (version : ℕ) (entries : List Accepted) → version + length entries < 2 ^ 64 → AllByRecursion (IsEntryOf format) entries
+entries_pass : (format : Format) (version : ℕ) (entries : List Accepted) → version + length entries < 2 ^ 64
+    → AllByRecursion (IsEntryOf format) entries
     → list_all (λ b. not (eqb b 13)) (entries_text version entries) ≡ true
 entries_pass format version [] few is = refl
 entries_pass format version (e ∷ es) few is =
     let p : ℕ → Bool = λ b. not (eqb b 13) in
     both p (entry_text version e) (entries_text (version + 1) es)
-    (both p (entry_line version e) line_feed (implied plain p plain_passes (entry_line version e) (plain_line version e (omega (arith, few)) is.0.0)) refl)
+    (both p (entry_line version e) line_feed
+    (implied plain p plain_passes (entry_line version e) (plain_line version e (omega (arith, few)) is.0.0)) refl)
     (entries_pass format (version + 1) es (omega (arith, few)) is.1)
 
 end_passes : (count : ℕ) → count < 2 ^ 64 → list_all (λ b. not (eqb b 13)) (end_line count) ≡ true
@@ -36,15 +39,21 @@ head_passes : (format : Format) → list_all (λ b. not (eqb b 13)) (head_line f
 head_passes One = refl
 head_passes Two = refl
 
-without_return : (text : List ℕ) (entries : List Accepted) → SpellsHistory text entries → list_all (λ b. not (eqb b 13)) text ≡ true
+without_return : (text : List ℕ) (entries : List Accepted) → SpellsHistory text entries
+    → list_all (λ b. not (eqb b 13)) text ≡ true
 without_return text entries (format, are, is) =
     let p : ℕ → Bool = λ b. not (eqb b 13) in
     let P : List ℕ → Type 0 = λ xs. list_all p xs ≡ true in
     let few : length entries < 2 ^ 64 = omega (arith, are.few) in
     let head : P (head_line format ++ line_feed) = both p (head_line format) line_feed (head_passes format) refl in
-    let lines : P (head_line format ++ line_feed ++ entries_text 1 entries) = both p (head_line format ++ line_feed) (entries_text 1 entries) head (entries_pass format 1 entries (omega (arith, are.few)) are.each) in
-    let end : P (end_line (length entries) ++ line_feed) = both p (end_line (length entries)) line_feed (end_passes (length entries) few) refl in
-    subst P (sym is) (both p (head_line format ++ line_feed ++ entries_text 1 entries) (end_line (length entries) ++ line_feed) lines end)
+    let lines : P (head_line format ++ line_feed ++ entries_text 1 entries) =
+    both p (head_line format ++ line_feed) (entries_text 1 entries) head
+    (entries_pass format 1 entries (omega (arith, are.few)) are.each) in
+    let end : P (end_line (length entries) ++ line_feed) =
+    both p (end_line (length entries)) line_feed (end_passes (length entries) few) refl in
+    subst P (sym is)
+    (both p (head_line format ++ line_feed ++ entries_text 1 entries)
+    (end_line (length entries) ++ line_feed) lines end)
 
 -- the text of a history has no CR
 pub has_no_returns : HasNoReturns

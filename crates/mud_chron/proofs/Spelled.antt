@@ -1,5 +1,7 @@
 -- The parts of a line: their bytes, and that each is found again.
-use Rattle.std.proofs.Common.{◌≡◌, ℕ, ◌+◌, ◌<◌, ◌≤◌, Bool, true, List, [], ◌∷◌, ◌++◌, length, Option, Some, None, Result, Ok, Err, refl, sym, ◌∙◌, ap, subst, arith, eqb, leb, ltb, cond, append_assoc, codes}
+use Rattle.std.proofs.Common.{◌≡◌, ℕ, ◌+◌, ◌<◌, ◌≤◌, Bool, true, List, [], ◌∷◌, ◌++◌, length, Option, Some, None}
+use Rattle.std.proofs.Common.{Result, Ok, Err, refl, sym, ◌∙◌, ap, subst, arith, eqb, leb, ltb, cond, append_assoc}
+use Rattle.std.proofs.Common.{codes}
 use Rattle.std.specs.Prelude.{not, ◌&&◌, ◌^◌}
 use Rattle.std.specs.List.{AllByRecursion, list_all, flat_map}
 use Rattle.std.proofs.lemmas.Bool.{and_from, and_parts, ne_eqb, leb-true, le-ltb}
@@ -24,7 +26,8 @@ use Rattle.mud_key.proofs.LeastParentheses.{reads_back}
 use Rattle.mud_world.specs.Speech.{is_printable, is_trimmed, is_speech}
 use Rattle.mud_chron.specs.Text.{listed, quoted}
 use Rattle.mud_chron.specs.Fields.{Lacks, is_digit}
-use Rattle.mud_chron.proofs.Reader.{◌>>=◌, cut, without_miss, number_key_in, speech_in, meaning, names_before, quoted_in, quoted_name_in}
+use Rattle.mud_chron.proofs.Reader.{◌>>=◌, cut, without_miss, number_key_in, speech_in, meaning, names_before}
+use Rattle.mud_chron.proofs.Reader.{quoted_in, quoted_name_in}
 use Rattle.mud_chron.proofs.Cutting.{lacks, lacks_all, cut_again, implied, tested}
 use Rattle.mud_chron.proofs.Digits.{digits, object_again}
 
@@ -41,21 +44,31 @@ pub both : (p : ℕ → Bool) (x y : List ℕ) → list_all p x ≡ true → lis
 both p x y h k = list_all-append p x y ∙ and_from (list_all p x) (list_all p y) h k
 
 pub plain_decimal : (n : ℕ) → n < 2 ^ 64 → list_all plain (decimal n) ≡ true
-plain_decimal n fits = implied is_digit plain (λ b e. let p = and_parts (leb 48 b) (leb b 57) e in plain_from b (omega (arith, leb-true 48 b p.0)) (omega (arith, leb-true b 57 p.1))) (decimal n) (digits n fits)
+plain_decimal n fits =
+    implied is_digit plain
+    (λ b e. let p = and_parts (leb 48 b) (leb b 57) e in
+    plain_from b (omega (arith, leb-true 48 b p.0)) (omega (arith, leb-true b 57 p.1))) (decimal n) (digits n fits)
 
 -- ---- names
 
 -- each name passes the test
-all_names : (p : ℕ → Bool) → ((b : ℕ) → IsNameByte b → p b ≡ true) → (name : List ℕ) → IsName name → list_all p name ≡ true
+all_names : (p : ℕ → Bool) → ((b : ℕ) → IsNameByte b → p b ≡ true) → (name : List ℕ) → IsName name
+    → list_all p name ≡ true
 all_names p f name is = tested IsNameByte p f name (recursion_from_All IsNameByte name is.text.bytes)
 
-others_pass : (p : ℕ → Bool) → ((b : ℕ) → IsNameByte b → p b ≡ true) → p 44 ≡ true → (names : List (List ℕ)) → AllByRecursion IsName names → list_all p (flat_map (λ other. codes "," ++ other) names) ≡ true
+others_pass : (p : ℕ → Bool) → ((b : ℕ) → IsNameByte b → p b ≡ true) → p 44 ≡ true → (names : List (List ℕ))
+    → AllByRecursion IsName names → list_all p (flat_map (λ other. codes "," ++ other) names) ≡ true
 others_pass p f comma [] h = refl
-others_pass p f comma (name ∷ names) h = both p (codes "," ++ name) (flat_map (λ other. codes "," ++ other) names) (and_from (p 44) (list_all p name) comma (all_names p f name h.0)) (others_pass p f comma names h.1)
+others_pass p f comma (name ∷ names) h =
+    both p (codes "," ++ name) (flat_map (λ other. codes "," ++ other) names)
+    (and_from (p 44) (list_all p name) comma (all_names p f name h.0)) (others_pass p f comma names h.1)
 
-pub listed_pass : (p : ℕ → Bool) → ((b : ℕ) → IsNameByte b → p b ≡ true) → p 44 ≡ true → (names : List (List ℕ)) → AllByRecursion IsName names → list_all p (listed names) ≡ true
+pub listed_pass : (p : ℕ → Bool) → ((b : ℕ) → IsNameByte b → p b ≡ true) → p 44 ≡ true → (names : List (List ℕ))
+    → AllByRecursion IsName names → list_all p (listed names) ≡ true
 listed_pass p f comma [] h = refl
-listed_pass p f comma (name ∷ names) h = both p name (flat_map (λ other. codes "," ++ other) names) (all_names p f name h.0) (others_pass p f comma names h.1)
+listed_pass p f comma (name ∷ names) h =
+    both p name (flat_map (λ other. codes "," ++ other) names) (all_names p f name h.0)
+    (others_pass p f comma names h.1)
 
 plain_byte : (b : ℕ) → IsNameByte b → plain b ≡ true
 plain_byte b h = plain_from b h.from h.to
@@ -78,23 +91,31 @@ plain_names names h = plain_quoted names (each_of names h)
 alone : (name : List ℕ) → IsName name → SpellsName name name
 alone name is = record { before = 0; behind = 0; spaces = sym (append-nil name); is_name = is }
 
-spells : (name : List ℕ) (names : List (List ℕ)) → AllByRecursion IsName (name ∷ names) → SpellsNames (listed (name ∷ names)) (name ∷ names)
+spells : (name : List ℕ) (names : List (List ℕ)) → AllByRecursion IsName (name ∷ names)
+    → SpellsNames (listed (name ∷ names)) (name ∷ names)
 spells name [] h = subst (λ x. SpellsNames x (name ∷ [])) (sym (append-nil name)) (one (alone name h.0))
 spells name (next ∷ names) h =
-    let same : name ++ codes "," ++ listed (next ∷ names) ≡ listed (name ∷ next ∷ names) = append_assoc name (codes ",") (listed (next ∷ names)) in
+    let same : name ++ codes "," ++ listed (next ∷ names) ≡ listed (name ∷ next ∷ names) =
+    append_assoc name (codes ",") (listed (next ∷ names)) in
     subst (λ x. SpellsNames x (name ∷ next ∷ names)) same (more (alone name h.0) (spells next names h.1))
 
 pub names_again : (names : List (List ℕ)) → AreNames names → names_in (listed names) ≡ Some names
 names_again [] h = absurd (omega (arith, h.some))
-names_again (name ∷ names) h = (names_law (listed (name ∷ names)) (name ∷ names)).1 (record { spells = spells name names (each_of (name ∷ names) h); few = h.few })
+names_again (name ∷ names) h =
+    (names_law (listed (name ∷ names)) (name ∷ names)).1
+    (record { spells = spells name names (each_of (name ∷ names) h); few = h.few })
 
-pub names_before_again : (names : List (List ℕ)) (rest : List ℕ) → AreNames names → names_before ((listed names ++ codes "\"") ++ rest) ≡ Some (names, rest)
+pub names_before_again : (names : List (List ℕ)) (rest : List ℕ) → AreNames names
+    → names_before ((listed names ++ codes "\"") ++ rest) ≡ Some (names, rest)
 unfolding names_before
 names_before_again names rest h =
-    ap (λ (o : Option (List ℕ × List ℕ)). o >>= (λ p. names_in p.0 >>= (λ names. Some (names, p.1)))) (ap (cut 34) (append_assoc (listed names) (codes "\"") rest) ∙ cut_again 34 (listed names) rest (listed_lacks names (each_of names h)))
+    ap (λ (o : Option (List ℕ × List ℕ)). o >>= (λ p. names_in p.0 >>= (λ names. Some (names, p.1))))
+    (ap (cut 34) (append_assoc (listed names) (codes "\"") rest)
+    ∙ cut_again 34 (listed names) rest (listed_lacks names (each_of names h)))
     ∙ ap (λ (o : Option (List (List ℕ))). o >>= (λ names. Some (names, rest))) (names_again names h)
 
-pub quoted_again : (names : List (List ℕ)) (rest : List ℕ) → AreNames names → quoted_in (quoted names ++ rest) ≡ Some (names, rest)
+pub quoted_again : (names : List (List ℕ)) (rest : List ℕ) → AreNames names
+    → quoted_in (quoted names ++ rest) ≡ Some (names, rest)
 unfolding quoted_in
 quoted_again names rest h = names_before_again names rest h
 
@@ -104,7 +125,8 @@ quoted_end names h = ap quoted_in (sym (append-nil (quoted names))) ∙ quoted_a
 pub name_again : (name : List ℕ) → IsName name → quoted_name_in (quoted (name ∷ [])) ≡ Some name
 unfolding quoted_name_in
 name_again name is =
-    ap (λ (o : Option (List ℕ × List ℕ)). o >>= (λ q. name_in q.0)) (cut_again 34 (listed (name ∷ [])) [] (listed_lacks (name ∷ []) (is, tt)))
+    ap (λ (o : Option (List ℕ × List ℕ)). o >>= (λ q. name_in q.0))
+    (cut_again 34 (listed (name ∷ [])) [] (listed_lacks (name ∷ []) (is, tt)))
     ∙ ap name_in (append-nil name) ∙ (name_law name name).1 (refl, is)
 
 -- no quote stands among names
@@ -120,7 +142,8 @@ plain_sign : (op : Operator) → list_all plain (sign op) ≡ true
 plain_sign And = refl
 plain_sign Or = refl
 
-plain_enclosed : (k : Tree (List ℕ)) (text : List ℕ) → list_all plain text ≡ true → list_all plain (enclosed k text) ≡ true
+plain_enclosed : (k : Tree (List ℕ)) (text : List ℕ) → list_all plain text ≡ true
+    → list_all plain (enclosed k text) ≡ true
 plain_enclosed (Has o) text h = h
 plain_enclosed (Asks o) text h = h
 plain_enclosed (Not k) text h = h
@@ -137,7 +160,9 @@ plain_key (Join op a b) h =
     let left : List ℕ = printed (by_text a) in
     let right : List ℕ = enclosed (by_text b) (printed (by_text b)) in
     both plain (left ++ codes " " ++ sign op ++ codes " ") right
-    (both plain (left ++ codes " " ++ sign op) (codes " ") (both plain (left ++ codes " ") (sign op) (both plain left (codes " ") (plain_key a h.0) refl) (plain_sign op)) refl)
+    (both plain (left ++ codes " " ++ sign op) (codes " ")
+    (both plain (left ++ codes " ") (sign op) (both plain left (codes " ") (plain_key a h.0) refl)
+    (plain_sign op)) refl)
     (plain_enclosed (by_text b) (printed (by_text b)) (plain_key b h.1))
 
 abbrev CountsAs : ℕ → ℕ → Result (Tree ℕ) Miss → Type 0
@@ -156,38 +181,50 @@ not_counts : (o n : ℕ) (r : Result (Tree ℕ) Miss) → CountsAs o n r → Cou
 not_counts o n (Ok k) h = (h.0, omega (arith, h.1))
 not_counts o n (Err e) h = tt
 
-join_counts : (op : Operator) (o n p m : ℕ) (r s : Result (Tree ℕ) Miss) → CountsAs o n r → CountsAs p m s → CountsAs (o + p) (n + m) (joined_result op r s)
+join_counts : (op : Operator) (o n p m : ℕ) (r s : Result (Tree ℕ) Miss) → CountsAs o n r → CountsAs p m s
+    → CountsAs (o + p) (n + m) (joined_result op r s)
 join_counts op o n p m (Ok a) (Ok b) h i = (omega (arith, h.0, i.0), omega (arith, h.1, i.1))
 join_counts op o n p m (Ok a) (Err e) h i = tt
 join_counts op o n p m (Err e) s h i = tt
 
-resolved_counts : (meaning : List ℕ → Result ℕ Miss) (t : Tree (List ℕ)) → CountsAs (objects_of t) (nots_of t) (resolved meaning t)
+resolved_counts : (meaning : List ℕ → Result ℕ Miss) (t : Tree (List ℕ))
+    → CountsAs (objects_of t) (nots_of t) (resolved meaning t)
 resolved_counts meaning (Has o) = has_counts (meaning o)
 resolved_counts meaning (Asks o) = asks_counts (meaning o)
 resolved_counts meaning (Not k) = not_counts (objects_of k) (nots_of k) (resolved meaning k) (resolved_counts meaning k)
-resolved_counts meaning (Join op a b) = join_counts op (objects_of a) (nots_of a) (objects_of b) (nots_of b) (resolved meaning a) (resolved meaning b) (resolved_counts meaning a) (resolved_counts meaning b)
+resolved_counts meaning (Join op a b) =
+    join_counts op (objects_of a) (nots_of a) (objects_of b) (nots_of b) (resolved meaning a) (resolved meaning b)
+    (resolved_counts meaning a) (resolved_counts meaning b)
 
 -- a key counts what its text counts
 counted : (t : Tree (List ℕ)) (k : Tree ℕ) → CountsAs (objects_of t) (nots_of t) (Ok k) → IsKey k → IsWithinLimits t
 counted t k c is = record { objects = omega (arith, c.0, is.limits.objects); nots = omega (arith, c.1, is.limits.nots) }
 
 -- what is read of a key's text is resolved to that key
-pub key_resolved : (key : Tree ℕ) (read : Tree (List ℕ)) → IsKey key → SpellsKey (printed (by_text key)) read → resolved meaning read ≡ Ok key
-key_resolved key read is spells = (reads_back key (printed (by_text key)) is refl).again read spells meaning (λ n le. ap (λ o. ok_or o NoSuch) (object_again n le))
+pub key_resolved : (key : Tree ℕ) (read : Tree (List ℕ)) → IsKey key → SpellsKey (printed (by_text key)) read
+    → resolved meaning read ≡ Ok key
+key_resolved key read is spells =
+    (reads_back key (printed (by_text key)) is refl).again read spells meaning
+    (λ n le. ap (λ o. ok_or o NoSuch) (object_again n le))
 
 -- a key's text is a key text within the limits
 pub key_text : (key : Tree ℕ) → IsKey key → (read : Tree (List ℕ)) × SpellsKey (printed (by_text key)) read
 key_text key is = (reads_back key (printed (by_text key)) is refl).is_key_text
 
-pub key_limits : (key : Tree ℕ) (read : Tree (List ℕ)) → IsKey key → SpellsKey (printed (by_text key)) read → IsWithinLimits read
-key_limits key read is spells = counted read key (subst (λ r. CountsAs (objects_of read) (nots_of read) r) (key_resolved key read is spells) (resolved_counts meaning read)) is
+pub key_limits : (key : Tree ℕ) (read : Tree (List ℕ)) → IsKey key → SpellsKey (printed (by_text key)) read
+    → IsWithinLimits read
+key_limits key read is spells =
+    counted read key
+    (subst (λ r. CountsAs (objects_of read) (nots_of read) r) (key_resolved key read is spells)
+    (resolved_counts meaning read)) is
 
 pub key_again : (key : Tree ℕ) → IsKey key → number_key_in (printed (by_text key)) ≡ Some key
 unfolding number_key_in
 key_again key is =
     let text : List ℕ = printed (by_text key) in
     let read = key_text key is in
-    ap (λ (o : Option (Tree (List ℕ))). o >>= (λ k. without_miss (resolved meaning k))) ((key_law text read.0).1 (read.1, key_limits key read.0 is read.1))
+    ap (λ (o : Option (Tree (List ℕ))). o >>= (λ k. without_miss (resolved meaning k)))
+    ((key_law text read.0).1 (read.1, key_limits key read.0 is read.1))
     ∙ ap without_miss (key_resolved key read.0 is read.1)
 
 -- ---- speech

@@ -1,17 +1,23 @@
 -- Bytes tell one thing: the entries of a text, or one fault.
-use Rattle.std.proofs.Common.{◌≡◌, ◌≢◌, ℕ, ◌+◌, ◌<◌, ◌≤◌, ◌⊎◌, inl, inr, Bool, true, List, [], ◌∷◌, ◌++◌, length, drop, get_or, Option, Some, None, Result, Ok, Err, refl, sym, ◌∙◌, ap, subst, arith, eqb, ltb, append_assoc, codes}
+use Rattle.std.proofs.Common.{◌≡◌, ◌≢◌, ℕ, ◌+◌, ◌<◌, ◌≤◌, ◌⊎◌, inl, inr, Bool, true, List, [], ◌∷◌, ◌++◌, length, drop}
+use Rattle.std.proofs.Common.{get_or, Option, Some, None, Result, Ok, Err, refl, sym, ◌∙◌, ap, subst, arith, eqb, ltb}
+use Rattle.std.proofs.Common.{append_assoc, codes}
 use Rattle.std.specs.Prelude.{not, ◌^◌, ◌&&◌}
 use Rattle.std.specs.List.{AllByRecursion, list_all}
 use Rattle.std.specs.Fmt.{decimal}
 use Rattle.std.proofs.lemmas.Bool.{true≢false}
+use Rattle.std.proofs.lemmas.List.Elements.{recursion_from_All}
 use Rattle.mud_world.specs.declared.change.Deed.{Deed}
-use Rattle.mud_world.specs.declared.change.Deed.TheVariants.{Dig, Make, Lock, Unlock, Move, Walk, Cost, Player, Rename, Recycle, Say, Emote}
+use Rattle.mud_world.specs.declared.change.Deed.TheVariants.{Dig, Make, Lock, Unlock, Move, Walk, Cost, Player, Rename}
+use Rattle.mud_world.specs.declared.change.Deed.TheVariants.{Recycle, Say, Emote}
 use Rattle.mud_chron.specs.declared.fault.ChronFault.{ChronFault}
-use Rattle.mud_chron.specs.declared.fault.ChronFault.TheVariants.{OutOfMemory, NotHistory, BadLine, BadChange, TooLong, NoEnd}
+use Rattle.mud_chron.specs.declared.fault.ChronFault.TheVariants.{OutOfMemory, NotHistory, BadLine, BadChange, TooLong}
+use Rattle.mud_chron.specs.declared.fault.ChronFault.TheVariants.{NoEnd}
 use Rattle.mud_chron.specs.declared.format.Format.{Format}
 use Rattle.mud_chron.specs.declared.format.Format.TheVariants.{One, Two}
 use Rattle.mud_chron.specs.Entry.{Accepted, IsEntry}
-use Rattle.mud_chron.specs.Text.{line_feed, head_line, change_text, entry_line, entry_text, entries_text, end_line, begun_text, history_text}
+use Rattle.mud_chron.specs.Text.{line_feed, head_line, change_text, entry_line, entry_text, entries_text, end_line}
+use Rattle.mud_chron.specs.Text.{begun_text, history_text}
 use Rattle.mud_chron.specs.History.{HasLine, IsEntryOf, AreEntriesOf, SpellsHistory}
 use Rattle.mud_chron.specs.Faults.{IsNoHistory, Begins, IsBad, HasFault}
 use Rattle.mud_chron.specs.Laws.{SpellsOne, HasOneFault, FaultsAreNoTexts, IsWrittenAgain}
@@ -25,7 +31,8 @@ use Rattle.mud_chron.proofs.Again.{entry_again, line_shape, plain_line}
 -- ---- lines
 
 -- what is cut is cut one way
-fronts : (cut_of : Option (List ℕ × List ℕ)) (a b x y : List ℕ) → cut_of ≡ Some (a, x) → cut_of ≡ Some (b, y) → (a ≡ b) × (x ≡ y)
+fronts : (cut_of : Option (List ℕ × List ℕ)) (a b x y : List ℕ) → cut_of ≡ Some (a, x) → cut_of ≡ Some (b, y)
+    → (a ≡ b) × (x ≡ y)
 fronts cut_of a b x y h k =
     let both : ◌≡◌ {A = Option (List ℕ × List ℕ)} (Some (a, x)) (Some (b, y)) = sym h ∙ k in
     let pair : ◌≡◌ {A = List ℕ × List ℕ} (a, x) (b, y) = cc in
@@ -41,7 +48,8 @@ plain_lacks b h = go (ltb b 32) (ltb 126 b) (eqb b 10) refl refl refl h
     go x y z e f g p = grind arith
 
 entry_lacks : (version : ℕ) (e : Accepted) → version < 2 ^ 64 → IsEntry e → lacks 10 (entry_line version e) ≡ true
-entry_lacks version e fits is = implied plain (λ b. not (eqb b 10)) plain_lacks (entry_line version e) (plain_line version e fits is)
+entry_lacks version e fits is =
+    implied plain (λ b. not (eqb b 10)) plain_lacks (entry_line version e) (plain_line version e fits is)
 
 end_lacks : (count : ℕ) → count < 2 ^ 64 → lacks 10 (end_line count) ≡ true
 unfolding end_line
@@ -53,52 +61,75 @@ unfolding end_line
 end_apart count version e fits same =
     let one : cut 32 (end_line count) ≡ Some (codes "end", decimal count) = refl in
     let text : List ℕ = decimal e.desk ++ 32 ∷ change_text e.change in
-    let two : cut 32 (entry_line version e) ≡ Some (decimal version, text) = ap (cut 32) (line_shape version e) ∙ cut_again 32 (decimal version) text (decimal_lacks 32 version (omega arith) fits) in
-    let words : codes "end" ≡ decimal version = (fronts (cut 32 (end_line count)) (codes "end") (decimal version) (decimal count) text one (ap (cut 32) same ∙ two)).0 in
+    let two : cut 32 (entry_line version e) ≡ Some (decimal version, text) =
+    ap (cut 32) (line_shape version e)
+    ∙ cut_again 32 (decimal version) text (decimal_lacks 32 version (omega arith) fits) in
+    let words : codes "end" ≡ decimal version =
+    (fronts (cut 32 (end_line count)) (codes "end") (decimal version) (decimal count) text one
+    (ap (cut 32) same ∙ two)).0 in
     true≢false (sym (digits version fits) ∙ ap (list_all is_digit) (sym words))
 
 -- ---- what stands behind the entries
 
 data View (format : Format) (entries : List Accepted) (rest : List ℕ) : Result (List Accepted) ChronFault → Type 0 where
   unended : cut 10 rest ≡ None → View format entries rest (Err NoEnd)
-  whole : (line : List ℕ) → cut 10 rest ≡ Some (line, []) → line ≡ end_line (length entries) → View format entries rest (Ok entries)
-  more : (line behind : List ℕ) (n : ℕ) → cut 10 rest ≡ Some (line, behind) → line ≡ end_line (length entries) → behind ≢ [] → n ≡ length entries + 3 → View format entries rest (Err (BadLine n))
-  long : (line behind : List ℕ) (e : Accepted) → cut 10 rest ≡ Some (line, behind) → IsEntryOf format e → length entries ≡ 65536 → line ≡ entry_line (length entries + 1) e → View format entries rest (Err TooLong)
-  bad : (line behind : List ℕ) (n : ℕ) → cut 10 rest ≡ Some (line, behind) → IsBad format (length entries) line → n ≡ length entries + 2 → View format entries rest (Err (BadLine n))
+  whole : (line : List ℕ) → cut 10 rest ≡ Some (line, []) → line ≡ end_line (length entries)
+      → View format entries rest (Ok entries)
+  more : (line behind : List ℕ) (n : ℕ) → cut 10 rest ≡ Some (line, behind) → line ≡ end_line (length entries)
+      → behind ≢ [] → n ≡ length entries + 3 → View format entries rest (Err (BadLine n))
+  long : (line behind : List ℕ) (e : Accepted) → cut 10 rest ≡ Some (line, behind) → IsEntryOf format e
+      → length entries ≡ 65536 → line ≡ entry_line (length entries + 1) e → View format entries rest (Err TooLong)
+  bad : (line behind : List ℕ) (n : ℕ) → cut 10 rest ≡ Some (line, behind) → IsBad format (length entries) line
+      → n ≡ length entries + 2 → View format entries rest (Err (BadLine n))
 
 -- the line of one more entry stands behind 65,536 alone
 abbrev Stops : Format → ℕ → List ℕ → Type 0
-Stops format version rest = (e : Accepted) (more : List ℕ) → IsEntryOf format e → rest ≡ entry_line version e ++ line_feed ++ more → version ≡ 65537
+Stops format version rest =
+    (e : Accepted) (more : List ℕ) → IsEntryOf format e → rest ≡ entry_line version e ++ line_feed ++ more
+    → version ≡ 65537
 
 uncut : (cut_of : Option (List ℕ × List ℕ)) (p : List ℕ × List ℕ) → cut_of ≡ None → cut_of ≡ Some p → ⊥
 uncut cut_of p h k = let both : ◌≡◌ {A = Option (List ℕ × List ℕ)} None (Some p) = sym h ∙ k in absurd (cc)
 
-stops : (format : Format) (entries : List Accepted) (rest : List ℕ) (a : Result (List Accepted) ChronFault) → length entries ≤ 65536 → View format entries rest a → Stops format (length entries + 1) rest
+stops : (format : Format) (entries : List Accepted) (rest : List ℕ) (a : Result (List Accepted) ChronFault)
+    → length entries ≤ 65536 → View format entries rest a → Stops format (length entries + 1) rest
 stops format entries rest a few view e behind is same = go view
   where
     there : cut 10 rest ≡ Some (entry_line (length entries + 1) e, behind)
-    there = ap (cut 10) same ∙ line_cut (entry_line (length entries + 1) e) behind (entry_lacks (length entries + 1) e (omega arith) is.0)
+    there = ap (cut 10) same
+        ∙ line_cut (entry_line (length entries + 1) e) behind (entry_lacks (length entries + 1) e (omega arith) is.0)
 
     go : {a : Result (List Accepted) ChronFault} → View format entries rest a → length entries + 1 ≡ 65537
     go (unended h) = absurd (uncut (cut 10 rest) (entry_line (length entries + 1) e, behind) h there)
-    go (whole line h end) = absurd (end_apart (length entries) (length entries + 1) e (omega arith) (sym end ∙ (fronts (cut 10 rest) line (entry_line (length entries + 1) e) [] behind h there).0))
-    go (more line rest' n h end some is') = absurd (end_apart (length entries) (length entries + 1) e (omega arith) (sym end ∙ (fronts (cut 10 rest) line (entry_line (length entries + 1) e) rest' behind h there).0))
+    go (whole line h end) =
+        absurd (end_apart (length entries) (length entries + 1) e (omega arith)
+        (sym end ∙ (fronts (cut 10 rest) line (entry_line (length entries + 1) e) [] behind h there).0))
+    go (more line rest' n h end some is') =
+        absurd (end_apart (length entries) (length entries + 1) e (omega arith)
+        (sym end ∙ (fronts (cut 10 rest) line (entry_line (length entries + 1) e) rest' behind h there).0))
     go (long line rest' f h is' full l) = omega arith
-    go (bad line rest' n h b is') = absurd (b.no_entry e is (fronts (cut 10 rest) line (entry_line (length entries + 1) e) rest' behind h there).0)
+    go (bad line rest' n h b is') =
+        absurd (b.no_entry e is (fronts (cut 10 rest) line (entry_line (length entries + 1) e) rest' behind h there).0)
 
-one_view : (format : Format) (entries : List Accepted) (rest : List ℕ) (a b : Result (List Accepted) ChronFault) → length entries ≤ 65536 → View format entries rest a → View format entries rest b → a ≡ b
+one_view : (format : Format) (entries : List Accepted) (rest : List ℕ) (a b : Result (List Accepted) ChronFault)
+    → length entries ≤ 65536 → View format entries rest a → View format entries rest b → a ≡ b
 one_view format entries rest a b few v w = go v w
   where
-    apart : (l m x y : List ℕ) (e : Accepted) → cut 10 rest ≡ Some (l, x) → cut 10 rest ≡ Some (m, y) → l ≡ end_line (length entries) → m ≡ entry_line (length entries + 1) e → ⊥
-    apart l m x y e h k end is = end_apart (length entries) (length entries + 1) e (omega arith) (sym end ∙ (fronts (cut 10 rest) l m x y h k).0 ∙ is)
+    apart : (l m x y : List ℕ) (e : Accepted) → cut 10 rest ≡ Some (l, x) → cut 10 rest ≡ Some (m, y)
+        → l ≡ end_line (length entries) → m ≡ entry_line (length entries + 1) e → ⊥
+    apart l m x y e h k end is =
+        end_apart (length entries) (length entries + 1) e (omega arith)
+        (sym end ∙ (fronts (cut 10 rest) l m x y h k).0 ∙ is)
 
-    ended : (l m x y : List ℕ) → cut 10 rest ≡ Some (l, x) → cut 10 rest ≡ Some (m, y) → l ≡ end_line (length entries) → IsBad format (length entries) m → ⊥
+    ended : (l m x y : List ℕ) → cut 10 rest ≡ Some (l, x) → cut 10 rest ≡ Some (m, y) → l ≡ end_line (length entries)
+        → IsBad format (length entries) m → ⊥
     ended l m x y h k end b = b.no_end ((fronts (cut 10 rest) m l y x k h).0 ∙ end)
 
     extra : (l m y : List ℕ) → cut 10 rest ≡ Some (l, []) → cut 10 rest ≡ Some (m, y) → y ≢ [] → ⊥
     extra l m y h k some = some ((fronts (cut 10 rest) m l y [] k h).1)
 
-    entered : (l m x y : List ℕ) (e : Accepted) → cut 10 rest ≡ Some (l, x) → cut 10 rest ≡ Some (m, y) → IsEntryOf format e → l ≡ entry_line (length entries + 1) e → IsBad format (length entries) m → ⊥
+    entered : (l m x y : List ℕ) (e : Accepted) → cut 10 rest ≡ Some (l, x) → cut 10 rest ≡ Some (m, y)
+        → IsEntryOf format e → l ≡ entry_line (length entries + 1) e → IsBad format (length entries) m → ⊥
     entered l m x y e h k is same b = b.no_entry e is ((fronts (cut 10 rest) m l y x k h).0 ∙ same)
 
     numbers : (n m : ℕ) → n ≡ m → ◌≡◌ {A = Result (List Accepted) ChronFault} (Err (BadLine n)) (Err (BadLine m))
@@ -134,30 +165,41 @@ one_view format entries rest a b few v w = go v w
 -- ---- the entries in front
 
 -- two lists of entries that begin one text, with nothing more behind them, are one
-same_entries : (format : Format) (version u w : ℕ) (es fs : List Accepted) (r s : List ℕ) → AllByRecursion (IsEntryOf format) es → AllByRecursion (IsEntryOf format) fs
+same_entries : (format : Format) (version u w : ℕ) (es fs : List Accepted) (r s : List ℕ)
+    → AllByRecursion (IsEntryOf format) es → AllByRecursion (IsEntryOf format) fs
     → version + length es ≡ u → version + length fs ≡ w → u ≤ 65537 → w ≤ 65537 → Stops format u r → Stops format w s
     → entries_text version es ++ r ≡ entries_text version fs ++ s → (es ≡ fs) × (r ≡ s)
 same_entries format version u w [] [] r s h k ue we ul wl p q same = (refl, same)
 same_entries format version u w [] (f ∷ fs) r s h k ue we ul wl p q same =
     let now : u ≡ version = omega arith in
-    let there : r ≡ entry_line u f ++ line_feed ++ (entries_text (version + 1) fs ++ s) = same ∙ append_assoc (entry_text version f) (entries_text (version + 1) fs) s ∙ ap (λ v. entry_line v f ++ line_feed ++ (entries_text (version + 1) fs ++ s)) (sym now) in
+    let there : r ≡ entry_line u f ++ line_feed ++ (entries_text (version + 1) fs ++ s) =
+    same ∙ append_assoc (entry_text version f) (entries_text (version + 1) fs) s
+    ∙ ap (λ v. entry_line v f ++ line_feed ++ (entries_text (version + 1) fs ++ s)) (sym now) in
     let full : u ≡ 65537 = p f (entries_text (version + 1) fs ++ s) k.0 there in
     absurd (omega arith)
 same_entries format version u w (e ∷ es) [] r s h k ue we ul wl p q same =
     let now : w ≡ version = omega arith in
-    let there : s ≡ entry_line w e ++ line_feed ++ (entries_text (version + 1) es ++ r) = sym same ∙ append_assoc (entry_text version e) (entries_text (version + 1) es) r ∙ ap (λ v. entry_line v e ++ line_feed ++ (entries_text (version + 1) es ++ r)) (sym now) in
+    let there : s ≡ entry_line w e ++ line_feed ++ (entries_text (version + 1) es ++ r) =
+    sym same ∙ append_assoc (entry_text version e) (entries_text (version + 1) es) r
+    ∙ ap (λ v. entry_line v e ++ line_feed ++ (entries_text (version + 1) es ++ r)) (sym now) in
     let full : w ≡ 65537 = q e (entries_text (version + 1) es ++ r) h.0 there in
     absurd (omega arith)
 same_entries format version u w (e ∷ es) (f ∷ fs) r s h k ue we ul wl p q same =
     let fits : version < 2 ^ 64 = omega arith in
     let x : List ℕ = entries_text (version + 1) es ++ r in
     let y : List ℕ = entries_text (version + 1) fs ++ s in
-    let lines : entry_line version e ++ line_feed ++ x ≡ entry_line version f ++ line_feed ++ y = sym (append_assoc (entry_text version e) (entries_text (version + 1) es) r) ∙ same ∙ append_assoc (entry_text version f) (entries_text (version + 1) fs) s in
-    let parts = fronts (cut 10 (entry_line version e ++ line_feed ++ x)) (entry_line version e) (entry_line version f) x y
-    (line_cut (entry_line version e) x (entry_lacks version e fits h.0.0)) (ap (cut 10) lines ∙ line_cut (entry_line version f) y (entry_lacks version f fits k.0.0)) in
-    let found : ◌≡◌ {A = Option Accepted} (Some e) (Some f) = sym (entry_again version e fits h.0.0) ∙ ap entry_in parts.0 ∙ entry_again version f fits k.0.0 in
+    let lines : entry_line version e ++ line_feed ++ x ≡ entry_line version f ++ line_feed ++ y =
+    sym (append_assoc (entry_text version e) (entries_text (version + 1) es) r) ∙ same
+    ∙ append_assoc (entry_text version f) (entries_text (version + 1) fs) s in
+    let parts =
+    fronts (cut 10 (entry_line version e ++ line_feed ++ x)) (entry_line version e) (entry_line version f) x y
+    (line_cut (entry_line version e) x (entry_lacks version e fits h.0.0))
+    (ap (cut 10) lines ∙ line_cut (entry_line version f) y (entry_lacks version f fits k.0.0)) in
+    let found : ◌≡◌ {A = Option Accepted} (Some e) (Some f) =
+    sym (entry_again version e fits h.0.0) ∙ ap entry_in parts.0 ∙ entry_again version f fits k.0.0 in
     let first : e ≡ f = cc in
-    let others = same_entries format (version + 1) u w es fs r s h.1 k.1 (omega arith) (omega arith) ul wl p q parts.1 in
+    let others =
+    same_entries format (version + 1) u w es fs r s h.1 k.1 (omega arith) (omega arith) ul wl p q parts.1 in
     (ap (λ z. z ∷ es) first ∙ ap (λ zs. f ∷ zs) others.0, others.1)
 
 -- ---- what the bytes tell
@@ -177,7 +219,8 @@ told_text bytes entries (format, are, spelled) =
       entries = entries;
       rest = end_line (length entries) ++ line_feed;
       begins = record { allowed = are; spelled = spelled };
-      view = whole (end_line (length entries)) (cut_again 10 (end_line (length entries)) [] (end_lacks (length entries) (omega arith))) refl;
+      view = whole (end_line (length entries))
+          (cut_again 10 (end_line (length entries)) [] (end_lacks (length entries) (omega arith))) refl;
     }
 
 told_fault : (bytes : List ℕ) (fault : ChronFault) → HasFault bytes fault → IsNoHistory bytes ⊎ Told bytes (Err fault)
@@ -189,7 +232,8 @@ told_fault bytes (BadLine n) (inl h) = inr (record {
   entries = h.entries;
   rest = h.line ++ line_feed ++ h.rest;
   begins = h.begins;
-  view = bad h.line h.rest n (line_cut h.line h.rest (lacks_from 10 h.line h.whole)) h.bad h.number;
+  view = bad h.line h.rest n
+      (line_cut h.line h.rest (lacks_from 10 h.line (recursion_from_All (λ b. b ≢ 10) h.line h.whole))) h.bad h.number;
 })
 told_fault bytes (BadLine n) (inr h) =
     let few : length h.entries ≤ 65536 = h.begins.allowed.few in
@@ -198,7 +242,9 @@ told_fault bytes (BadLine n) (inr h) =
       entries = h.entries;
       rest = end_line (length h.entries) ++ line_feed ++ h.rest;
       begins = h.begins;
-      view = more (end_line (length h.entries)) h.rest n (line_cut (end_line (length h.entries)) h.rest (end_lacks (length h.entries) (omega arith))) refl h.more h.number;
+      view = more (end_line (length h.entries)) h.rest n
+          (line_cut (end_line (length h.entries)) h.rest
+          (end_lacks (length h.entries) (omega arith))) refl h.more h.number;
     })
 told_fault bytes TooLong h =
     let next : 65537 ≡ length h.entries + 1 = omega (arith, h.full) in
@@ -207,53 +253,71 @@ told_fault bytes TooLong h =
       entries = h.entries;
       rest = entry_line 65537 h.next ++ line_feed ++ h.rest;
       begins = h.begins;
-      view = long (entry_line 65537 h.next) h.rest h.next (line_cut (entry_line 65537 h.next) h.rest (entry_lacks 65537 h.next (omega arith) h.has_line.0)) h.has_line h.full (ap (λ v. entry_line v h.next) next);
+      view = long (entry_line 65537 h.next) h.rest h.next
+          (line_cut (entry_line 65537 h.next) h.rest
+          (entry_lacks 65537 h.next (omega arith) h.has_line.0)) h.has_line h.full (ap (λ v. entry_line v h.next) next);
     })
 told_fault bytes NoEnd h = inr (record {
   format = h.format;
   entries = h.entries;
   rest = h.rest;
   begins = h.begins;
-  view = unended (cut_lacks 10 h.rest (lacks_from 10 h.rest h.unended));
+  view = unended (cut_lacks 10 h.rest (lacks_from 10 h.rest (recursion_from_All (λ b. b ≢ 10) h.rest h.unended)));
 })
 
 formats_apart : (es fs : List Accepted) (r s : List ℕ) → begun_text One es r ≡ begun_text Two fs s → ⊥
-formats_apart es fs r s same = let byte : ◌≡◌ {A = ℕ} 49 50 = ap (λ (l : List ℕ). get_or l 12 0) same in absurd (omega (arith, byte))
+formats_apart es fs r s same = let byte : ◌≡◌ {A = ℕ} 49 50 = ap (λ (l : List ℕ). get_or l 12 0) same in
+    absurd (omega (arith, byte))
 
-behind_head : (format : Format) (es fs : List Accepted) (r s : List ℕ) → begun_text format es r ≡ begun_text format fs s → entries_text 1 es ++ r ≡ entries_text 1 fs ++ s
+behind_head : (format : Format) (es fs : List Accepted) (r s : List ℕ) → begun_text format es r ≡ begun_text format fs s
+    → entries_text 1 es ++ r ≡ entries_text 1 fs ++ s
 behind_head One es fs r s same = ap (drop 14) same
 behind_head Two es fs r s same = ap (drop 14) same
 
-one_format : (format : Format) (es fs : List Accepted) (r s : List ℕ) (a b : Result (List Accepted) ChronFault) → AreEntriesOf format es → AreEntriesOf format fs
+one_format : (format : Format) (es fs : List Accepted) (r s : List ℕ) (a b : Result (List Accepted) ChronFault)
+    → AreEntriesOf format es → AreEntriesOf format fs
     → View format es r a → View format fs s b → begun_text format es r ≡ begun_text format fs s → a ≡ b
 one_format format es fs r s a b h k v w same =
     let few : length es ≤ 65536 = h.few in
     let few' : length fs ≤ 65536 = k.few in
-    let one = same_entries format 1 (length es + 1) (length fs + 1) es fs r s h.each k.each (omega arith) (omega arith) (omega arith) (omega arith) (stops format es r a few v) (stops format fs s b few' w) (behind_head format es fs r s same) in
-    let moved : View format es r b = subst (λ z. View format es z b) (sym one.1) (subst (λ zs. View format zs s b) (sym one.0) w) in
+    let one =
+    same_entries format 1 (length es + 1) (length fs + 1) es fs r s h.each k.each (omega arith) (omega arith)
+    (omega arith) (omega arith) (stops format es r a few v) (stops format fs s b few' w)
+    (behind_head format es fs r s same) in
+    let moved : View format es r b =
+    subst (λ z. View format es z b) (sym one.1) (subst (λ zs. View format zs s b) (sym one.0) w) in
     one_view format es r a b few v moved
 
 one_told : (bytes : List ℕ) (a b : Result (List Accepted) ChronFault) → Told bytes a → Told bytes b → a ≡ b
 one_told bytes a b t u = go t.format u.format t.begins u.begins t.view u.view
   where
-    go : (f g : Format) → Begins f t.entries bytes t.rest → Begins g u.entries bytes u.rest → View f t.entries t.rest a → View g u.entries u.rest b → a ≡ b
-    go One One h k v w = one_format One t.entries u.entries t.rest u.rest a b h.allowed k.allowed v w (sym h.spelled ∙ k.spelled)
-    go Two Two h k v w = one_format Two t.entries u.entries t.rest u.rest a b h.allowed k.allowed v w (sym h.spelled ∙ k.spelled)
+    go : (f g : Format) → Begins f t.entries bytes t.rest → Begins g u.entries bytes u.rest → View f t.entries t.rest a
+        → View g u.entries u.rest b → a ≡ b
+    go One One h k v w =
+        one_format One t.entries u.entries t.rest u.rest a b h.allowed k.allowed v w (sym h.spelled ∙ k.spelled)
+    go Two Two h k v w =
+        one_format Two t.entries u.entries t.rest u.rest a b h.allowed k.allowed v w (sym h.spelled ∙ k.spelled)
     go One Two h k v w = absurd (formats_apart t.entries u.entries t.rest u.rest (sym h.spelled ∙ k.spelled))
     go Two One h k v w = absurd (formats_apart u.entries t.entries u.rest t.rest (sym k.spelled ∙ h.spelled))
 
 begun : (bytes : List ℕ) (a : Result (List Accepted) ChronFault) → IsNoHistory bytes → Told bytes a → ⊥
-begun bytes a none t = none t.format (entries_text 1 t.entries ++ t.rest) (t.begins.spelled ∙ append_assoc (head_line t.format ++ line_feed) (entries_text 1 t.entries) t.rest)
+begun bytes a none t =
+    none t.format (entries_text 1 t.entries ++ t.rest)
+    (t.begins.spelled ∙ append_assoc (head_line t.format ++ line_feed) (entries_text 1 t.entries) t.rest)
 
 pub spells_one : SpellsOne
-spells_one bytes entries others h k = let same : ◌≡◌ {A = Result (List Accepted) ChronFault} (Ok entries) (Ok others) = one_told bytes (Ok entries) (Ok others) (told_text bytes entries h) (told_text bytes others k) in cc
+spells_one bytes entries others h k =
+    let same : ◌≡◌ {A = Result (List Accepted) ChronFault} (Ok entries) (Ok others) =
+    one_told bytes (Ok entries) (Ok others) (told_text bytes entries h) (told_text bytes others k) in cc
 
 pub faults_are_no_texts : FaultsAreNoTexts
 faults_are_no_texts bytes fault entries h k = go (told_fault bytes fault h)
   where
     go : IsNoHistory bytes ⊎ Told bytes (Err fault) → ⊥
     go (inl none) = begun bytes (Ok entries) none (told_text bytes entries k)
-    go (inr t) = let same : ◌≡◌ {A = Result (List Accepted) ChronFault} (Err fault) (Ok entries) = one_told bytes (Err fault) (Ok entries) t (told_text bytes entries k) in absurd (cc)
+    go (inr t) =
+        let same : ◌≡◌ {A = Result (List Accepted) ChronFault} (Err fault) (Ok entries) =
+        one_told bytes (Err fault) (Ok entries) t (told_text bytes entries k) in absurd (cc)
 
 -- bytes that begin with no first line have that fault alone
 alone : (bytes : List ℕ) (fault : ChronFault) → IsNoHistory bytes → HasFault bytes fault → fault ≡ NotHistory
@@ -266,11 +330,22 @@ alone bytes (BadLine n) none (inl h) = absurd (go (told_fault bytes (BadLine n) 
     go (inl z) = begun_at h.begins
       where
         begun_at : {f : Format} {es : List Accepted} {r : List ℕ} → Begins f es bytes r → ⊥
-        begun_at {f = f} {es = es} {r = r} b = none f (entries_text 1 es ++ r) (b.spelled ∙ append_assoc (head_line f ++ line_feed) (entries_text 1 es) r)
+        begun_at {f = f} {es = es} {r = r} b =
+            none f (entries_text 1 es ++ r) (b.spelled ∙ append_assoc (head_line f ++ line_feed) (entries_text 1 es) r)
     go (inr t) = begun bytes (Err (BadLine n)) none t
-alone bytes (BadLine n) none (inr h) = absurd (none h.format (entries_text 1 h.entries ++ (end_line (length h.entries) ++ line_feed ++ h.rest)) (h.begins.spelled ∙ append_assoc (head_line h.format ++ line_feed) (entries_text 1 h.entries) (end_line (length h.entries) ++ line_feed ++ h.rest)))
-alone bytes TooLong none h = absurd (none h.format (entries_text 1 h.entries ++ (entry_line 65537 h.next ++ line_feed ++ h.rest)) (h.begins.spelled ∙ append_assoc (head_line h.format ++ line_feed) (entries_text 1 h.entries) (entry_line 65537 h.next ++ line_feed ++ h.rest)))
-alone bytes NoEnd none h = absurd (none h.format (entries_text 1 h.entries ++ h.rest) (h.begins.spelled ∙ append_assoc (head_line h.format ++ line_feed) (entries_text 1 h.entries) h.rest))
+alone bytes (BadLine n) none (inr h) =
+    absurd (none h.format (entries_text 1 h.entries ++ (end_line (length h.entries) ++ line_feed ++ h.rest))
+    (h.begins.spelled
+    ∙ append_assoc (head_line h.format ++ line_feed) (entries_text 1 h.entries)
+    (end_line (length h.entries) ++ line_feed ++ h.rest)))
+alone bytes TooLong none h =
+    absurd (none h.format (entries_text 1 h.entries ++ (entry_line 65537 h.next ++ line_feed ++ h.rest))
+    (h.begins.spelled
+    ∙ append_assoc (head_line h.format ++ line_feed) (entries_text 1 h.entries)
+    (entry_line 65537 h.next ++ line_feed ++ h.rest)))
+alone bytes NoEnd none h =
+    absurd (none h.format (entries_text 1 h.entries ++ h.rest)
+    (h.begins.spelled ∙ append_assoc (head_line h.format ++ line_feed) (entries_text 1 h.entries) h.rest))
 
 pub has_one_fault : HasOneFault
 has_one_fault bytes fault other h k = go (told_fault bytes fault h) (told_fault bytes other k)
@@ -278,7 +353,9 @@ has_one_fault bytes fault other h k = go (told_fault bytes fault h) (told_fault 
     go : IsNoHistory bytes ⊎ Told bytes (Err fault) → IsNoHistory bytes ⊎ Told bytes (Err other) → fault ≡ other
     go (inl none) q = alone bytes fault none h ∙ sym (alone bytes other none k)
     go (inr t) (inl none) = alone bytes fault none h ∙ sym (alone bytes other none k)
-    go (inr t) (inr u) = let same : ◌≡◌ {A = Result (List Accepted) ChronFault} (Err fault) (Err other) = one_told bytes (Err fault) (Err other) t u in cc
+    go (inr t) (inr u) =
+        let same : ◌≡◌ {A = Result (List Accepted) ChronFault} (Err fault) (Err other) =
+        one_told bytes (Err fault) (Err other) t u in cc
 
 in_two : (deed : Deed) → HasLine Two deed
 in_two (Dig target doors) = tt

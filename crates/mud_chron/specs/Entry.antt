@@ -2,10 +2,10 @@
 use Rattle.std.specs.Prelude.{ℕ, ◌≤◌, Some, None}
 pub use Rattle.mud_world.specs.Parts.{AreBackNames, AreDoors, IsTarget, HasParts}
 use Rattle.mud_world.specs.declared.change.Change.{Change}
-use Rattle.mud_world.specs.declared.change.Target.TheVariants.{New, Old}
+use Rattle.mud_world.specs.declared.change.Target.TheVariants.{Old}
 use Rattle.mud_world.specs.declared.change.Deed.{Deed}
-use Rattle.mud_world.specs.declared.change.Deed.TheVariants.{Dig, Make, Lock, Unlock, Move, Walk, Cost, Player, Rename}
-use Rattle.mud_world.specs.declared.change.Deed.TheVariants.{Recycle, Say, Emote}
+use Rattle.mud_world.specs.declared.change.Deed.TheVariants.{Dig, Lock, Unlock, Move, Walk, Cost, Rename}
+use Rattle.mud_world.specs.declared.change.Deed.TheVariants.{Recycle}
 
 -- an accepted change, and the number of the desk that made it
 pub record Accepted : Type 0 where
@@ -18,11 +18,8 @@ IsNumber n = n ≤ 8191
 
 -- the numbers of a deed are in their ranges, and a way to an old room has an exit
 abbrev pub IsInRange : Deed → Type 0
-IsInRange (Dig (New names) doors) = Unit {0}
 IsInRange (Dig (Old room) (Some doors)) = IsNumber room
 IsInRange (Dig (Old room) None) = ⊥
-IsInRange (Make names) = Unit {0}
-IsInRange (Player name) = Unit {0}
 IsInRange (Lock object key) = IsNumber object
 IsInRange (Unlock object) = IsNumber object
 IsInRange (Move thing to) = IsNumber thing × IsNumber to
@@ -30,8 +27,7 @@ IsInRange (Walk exit) = IsNumber exit
 IsInRange (Cost exit cost) = IsNumber exit × (cost ≤ 10000)
 IsInRange (Rename object names) = IsNumber object
 IsInRange (Recycle object) = IsNumber object
-IsInRange (Say text) = Unit {0}
-IsInRange (Emote text) = Unit {0}
+IsInRange other = Unit {0}
 
 -- what a text can spell: the desk is 1 to 64, and all other numbers are in their ranges
 pub record IsSpellable (desk : ℕ) (change : Change) : Type 0 where

@@ -1,9 +1,7 @@
 -- The faults of bytes that are no text of a history.
-use Rattle.std.specs.Prelude.{◌≡◌, ◌≢◌, ◌⊎◌, ℕ, ◌+◌, List, [], ◌++◌, length}
-use Rattle.std.specs.List.{AllByRecursion}
+use Rattle.std.specs.Prelude.{◌≡◌, ◌≢◌, ◌⊎◌, ℕ, ◌+◌, List, [], ◌++◌, length, All}
 use Rattle.mud_chron.specs.declared.fault.ChronFault.{ChronFault}
-use Rattle.mud_chron.specs.declared.fault.ChronFault.TheVariants.{OutOfMemory, NotHistory, BadLine, BadChange, TooLong}
-use Rattle.mud_chron.specs.declared.fault.ChronFault.TheVariants.{NoEnd}
+use Rattle.mud_chron.specs.declared.fault.ChronFault.TheVariants.{NotHistory, BadLine, TooLong, NoEnd}
 use Rattle.mud_chron.specs.declared.format.Format.{Format}
 use Rattle.mud_chron.specs.Entry.{Accepted}
 use Rattle.mud_chron.specs.Text.{line_feed, head_line, entry_line, end_line, begun_text}
@@ -11,7 +9,7 @@ use Rattle.mud_chron.specs.History.{IsEntryOf, AreEntriesOf}
 
 -- bytes without a line feed
 abbrev pub HasNoLineFeed : List ℕ → Type 0
-HasNoLineFeed bytes = AllByRecursion (λ b. b ≢ 10) bytes
+HasNoLineFeed bytes = All (λ b. b ≢ 10) bytes
 
 -- the bytes begin with no first line
 abbrev pub IsNoHistory : List ℕ → Type 0
@@ -67,9 +65,8 @@ pub record HasNoEnd (bytes : List ℕ) : Type 0 where
 
 -- the fault of the bytes; want of memory is none of theirs, and bad changes are found by `replay` alone
 abbrev pub HasFault : List ℕ → ChronFault → Type 0
-HasFault bytes OutOfMemory = ⊥
 HasFault bytes NotHistory = IsNoHistory bytes
 HasFault bytes (BadLine n) = HasBadLine bytes n ⊎ HasMore bytes n
-HasFault bytes (BadChange n) = ⊥
 HasFault bytes TooLong = IsTooLong bytes
 HasFault bytes NoEnd = HasNoEnd bytes
+HasFault bytes other = ⊥

@@ -4,15 +4,14 @@ use Rattle.std.specs.List.{AllByRecursion}
 use Rattle.mud_world.specs.declared.change.Deed.{Deed}
 use Rattle.mud_world.specs.declared.change.Deed.TheVariants.{Cost}
 use Rattle.mud_chron.specs.declared.format.Format.{Format}
-use Rattle.mud_chron.specs.declared.format.Format.TheVariants.{One, Two}
+use Rattle.mud_chron.specs.declared.format.Format.TheVariants.{One}
 use Rattle.mud_chron.specs.Entry.{Accepted, IsEntry}
 use Rattle.mud_chron.specs.Text.{history_text}
 
 -- format 1 has no exit that costs 0; else the formats have the same lines
 abbrev pub HasLine : Format → Deed → Type 0
 HasLine One (Cost exit cost) = 1 ≤ cost
-HasLine One deed = Unit {0}
-HasLine Two deed = Unit {0}
+HasLine format deed = Unit {0}
 
 -- an entry that has a line in this format
 abbrev pub IsEntryOf : Format → Accepted → Type 0

@@ -2,6 +2,7 @@ pub mod Entry
 pub mod Text
 pub mod History
 pub mod Faults
+pub mod Places
 pub mod Replay
 pub mod Laws
 pub mod Fields

@@ -1,18 +1,22 @@
 -- What a replay finds.
-use Rattle.std.specs.Prelude.{◌≡◌, ◌≢◌, ℕ, ◌+◌, List, [], ◌∷◌, ◌++◌, length, map, None}
+use Rattle.std.specs.Prelude.{◌≡◌, ℕ, List, [], ◌∷◌, map, take, None}
 use Rattle.mud_world.specs.State.{State}
 use Rattle.mud_world.specs.Opening.{opening_state}
 use Rattle.mud_world.specs.History.{world_of}
 use Rattle.mud_world.specs.Legal.{refusal, after}
 use Rattle.mud_world.specs.declared.change.Change.{Change}
 use Rattle.mud_chron.specs.declared.fault.ChronFault.{ChronFault}
-use Rattle.mud_chron.specs.declared.fault.ChronFault.TheVariants.{OutOfMemory, NotHistory, BadLine, BadChange, TooLong}
-use Rattle.mud_chron.specs.declared.fault.ChronFault.TheVariants.{NoEnd}
+use Rattle.mud_chron.specs.declared.fault.ChronFault.TheVariants.{OutOfMemory, BadChange}
 use Rattle.mud_chron.specs.Entry.{Accepted}
+use Rattle.mud_chron.specs.Places.{FailsAt}
 
 -- the changes of entries
 abbrev pub changes_of : List Accepted → List Change
 changes_of entries = map (λ e. e.change) entries
+
+-- the world of the first so many entries, where a change that is not legal changes nothing
+abbrev pub world_at : List Accepted → ℕ → State
+world_at entries count = world_of (changes_of (take count entries))
 
 -- from this world on, each change is legal in the world that those before it made
 abbrev pub AreLegalFrom : State → List Change → Type 0
@@ -24,20 +28,11 @@ abbrev pub AreLegal : List Change → Type 0
 AreLegal changes = AreLegalFrom opening_state changes
 
 -- change n, counted from 1, is the first that isn't legal where it stands
-pub record IsFirstIllegal (changes : List Change) (n : ℕ) : Type 0 where
-  pub before : List Change
-  pub change : Change
-  pub behind : List Change
-  pub parts : changes ≡ before ++ change ∷ behind
-  pub number : n ≡ length before + 1
-  pub legal : AreLegal before
-  pub illegal : refusal (world_of before) change ≢ None
+abbrev pub IsFirstIllegal : List Change → ℕ → Type 0
+IsFirstIllegal changes n = FailsAt (λ k. AreLegal (take k changes)) n
 
 -- the fault of entries whose changes aren't all legal, unless memory ran out
 abbrev pub HasIllegal : List Accepted → ChronFault → Type 0
 HasIllegal entries OutOfMemory = Unit {0}
 HasIllegal entries (BadChange n) = IsFirstIllegal (changes_of entries) n
-HasIllegal entries NotHistory = ⊥
-HasIllegal entries (BadLine n) = ⊥
-HasIllegal entries TooLong = ⊥
-HasIllegal entries NoEnd = ⊥
+HasIllegal entries other = ⊥

@@ -9,6 +9,7 @@ use crate::entry::Entry;
 use crate::fault::ChronFault;
 use crate::format::Format;
 use crate::line::{Line, line_of};
+use memchr::memchr;
 use std::alloc::Global;
 
 // The most entries of a history.
@@ -19,12 +20,11 @@ fn cut_line(bytes: &[u8]) -> Option<(&[u8], &[u8])>
     ensures { MatchOption result (HasNoLineFeed bytes.now)
         (λ p. HasNoLineFeed p.0.now × (bytes.now ≡ p.0.now ++ line_feed ++ p.1.now)) }
 {
-    for (i, byte) in bytes.iter().enumerate() {
-        if *byte == b'\n' {
-            return Some((&bytes[..i], &bytes[i + 1..]));
-        }
-    }
-    None
+    let Some(at) = memchr(b'\n', bytes) else {
+        return None;
+    };
+    let (line, ended) = bytes.split_at(at);
+    Some((line, &ended[1..]))
 }
 
 // The format by the first line, and what stands behind it.

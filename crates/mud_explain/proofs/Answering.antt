@@ -7,13 +7,10 @@ use Rattle.mud_explain.specs.Lines.{IsLine, Answers, at_end, last, next, Answers
 abbrev pub GoesOn : (List ℕ → List ℕ → Type 0) → List ℕ → List ℕ → List ℕ → Type 0
 GoesOn Says input rest out = (later : List ℕ) → Answers Says rest later → Answers Says input (out ++ later)
 
--- nothing is answered yet
-pub goes_on-none : (Says : List ℕ → List ℕ → Type 0) (input : List ℕ) → GoesOn Says input input []
-goes_on-none Says input later answers = answers
-
 -- one more line is answered
 pub goes_on-next : (Says : List ℕ → List ℕ → Type 0) (input rest line behind old new : List ℕ)
-    → GoesOn Says input rest old → IsLine line → rest ≡ line ++ 10 ∷ behind → AnswersOne Says line old new → GoesOn Says input behind new
+    → GoesOn Says input rest old → IsLine line → rest ≡ line ++ 10 ∷ behind → AnswersOne Says line old new
+    → GoesOn Says input behind new
 goes_on-next Says input rest line behind old new on whole cut one later answers =
     let P : List ℕ → Type 0 = λ r. Answers Says r (one.answer ++ 10 ∷ later) in
     let here : Answers Says rest (one.answer ++ 10 ∷ later) = subst P (sym cut) (next whole one.says answers) in
@@ -24,7 +21,8 @@ goes_on-next Says input rest line behind old new on whole cut one later answers 
     subst Q shape (on (one.answer ++ 10 ∷ later) here)
 
 -- all lines were ended
-pub goes_on-end : (Says : List ℕ → List ℕ → Type 0) (input rest out : List ℕ) → GoesOn Says input rest out → rest ≡ [] → Answers Says input out
+pub goes_on-end : (Says : List ℕ → List ℕ → Type 0) (input rest out : List ℕ) → GoesOn Says input rest out → rest ≡ []
+    → Answers Says input out
 goes_on-end Says input rest out on empty =
     let P : List ℕ → Type 0 = λ r. Answers Says r [] in
     let Q : List ℕ → Type 0 = λ o. Answers Says input o in

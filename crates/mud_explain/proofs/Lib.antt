@@ -1,4 +1,3 @@
 pub mod Handing
 pub mod Answering
-pub mod Cutting
 pub mod Writing

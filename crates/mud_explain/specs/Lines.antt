@@ -1,10 +1,6 @@
 -- An input that is read line by line.
-use Rattle.std.specs.Prelude.{ℕ, ◌<◌, ◌≢◌, ◌≡◌, List, [], ◌∷◌, ◌++◌, length}
-use Rattle.std.specs.List.{All}
-
--- a line has no LF in it
-abbrev pub IsLine : List ℕ → Type 0
-IsLine line = All (λ b. b ≢ 10) line
+use Rattle.std.specs.Prelude.{ℕ, ◌<◌, ◌≡◌, List, [], ◌∷◌, ◌++◌, length}
+pub use Rattle.mud_chron.specs.Faults.{HasNoLineFeed as IsLine}
 
 -- Each line of the input is answered by one line. A line ends at LF, and a last one without LF counts: so an input
 -- without a byte has no line.

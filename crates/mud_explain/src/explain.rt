@@ -1,15 +1,14 @@
 //! An input, explained.
 
-ghost use Rattle.std.specs.Prelude.{◌≡◌, ◌↔◌, ◌⊎◌, Err, true, IfOk, IfSome, OnOk, string_bytes};
+ghost use Rattle.std.specs.Prelude.{◌≡◌, ◌↔◌, ◌⊎◌, Err, true, false, IfOk, IfSome, OnOk, string_bytes};
 ghost use Rattle.std.specs.Io.KnownBytes.{IsAtEnd, Keeps};
 ghost use Rattle.mud_explain.specs.Explained.{Explains, Writes, WritesFront};
 
 use crate::lines::explained_lines;
-use crate::opened::Unopened;
-use crate::sink::Sink;
-use crate::source::Source;
 use crate::units::explained_units;
 use mud_command::Subject;
+use mud_ends::{Sink, Source};
+use mud_load::Unloaded;
 use std::alloc::{AllocError, Global};
 use std::io::{ErrorKind, Read, Write};
 use thiserror::Error;
@@ -28,7 +27,7 @@ pub enum ExplainFault {
     Write,
     /// There is no hall to play in.
     #[error("cannot load: {0}")]
-    Unopened(Unopened),
+    Unloaded(Unloaded),
 }
 
 // All that the source has left.
@@ -36,8 +35,9 @@ pub(crate) fn input_of<R: Read>(
     alloc: Global,
     source: &mut Source<R>,
 ) -> Result<Vec<u8>, ExplainFault>
-    ensures bytes { IfOk result (λ input. IfSome (R.remaining source.old.inner) (λ bytes. input.items ≡ bytes)) }
-    ensures end { OnOk result (IsAtEnd (R.remaining source.new.inner)) }
+    requires no_end { source.old.at_end ≡ false }
+    ensures bytes { IfOk result (λ input. IfSome source.old.left (λ bytes. input.items ≡ bytes)) }
+    ensures end { OnOk result (IsAtEnd source.new.left) }
     ensures read { result ≡ Err ExplainFault.Read ↔ source.new.has_failed ≡ true }
     ensures not_write { ¬ (result ≡ Err ExplainFault.Write) }
 {
@@ -70,15 +70,15 @@ pub(crate) fn explain<R: Read, W: Write>(
     source: &mut Source<R>,
     sink: &mut Sink<W>,
 ) -> Result<(), ExplainFault>
-    ensures ok { OnOk result
-        (Writes subject (R.remaining source.old.inner) (W.contents sink.old.inner) (W.contents sink.new.inner)) }
-    ensures end { OnOk result (IsAtEnd (R.remaining source.new.inner)) }
+    requires no_end { source.old.at_end ≡ false }
+    ensures ok { OnOk result (Writes subject source.old.left sink.old.holds sink.new.holds) }
+    ensures end { OnOk result (IsAtEnd source.new.left) }
     ensures read { result ≡ Err ExplainFault.Read ↔ source.new.has_failed ≡ true }
     ensures write { result ≡ Err ExplainFault.Write → sink.new.has_failed ≡ true }
     ensures front { result ≡ Err ExplainFault.Write →
-        WritesFront subject (R.remaining source.old.inner) (W.contents sink.old.inner) (W.contents sink.new.inner) }
+        WritesFront subject source.old.left sink.old.holds sink.new.holds }
     ensures nothing { result ≡ Err ExplainFault.Read ⊎ result ≡ Err ExplainFault.OutOfMemory →
-        Keeps (W.contents sink.old.inner) (W.contents sink.new.inner) }
+        Keeps sink.old.holds sink.new.holds }
 {
     let input = input_of(alloc, source)?;
     let out = match explained(alloc, subject, &input) {

@@ -1,16 +1,16 @@
 //! Desks of a hall, played.
 
-ghost use Rattle.std.specs.Prelude.{◌≡◌, ◌⊎◌, ◌≤◌, Err, true, OnOk};
+ghost use Rattle.std.specs.Prelude.{◌≡◌, ◌⊎◌, ◌≤◌, Err, true, false, OnOk};
 ghost use Rattle.std.specs.Io.KnownBytes.{IsAtEnd, Keeps};
 
 use crate::explain::{ExplainFault, input_of};
-use crate::opened::{Unopened, opened};
+use crate::opened::opened;
 use crate::play::Play;
-use crate::sink::Sink;
-use crate::source::Source;
 use memchr::memchr;
 use mud_command::Opening;
+use mud_ends::{Sink, Source};
 use mud_hall::{HallName, NewHall};
+use mud_load::Unloaded;
 use std::alloc::{AllocError, Global};
 use std::io::{Read, Write};
 use std::marker::Brand;
@@ -58,16 +58,17 @@ pub(crate) fn explain_hall<H: Wait + Files + AllocGlobal, R: Read, W: Write>(
 ) -> Result<(), ExplainFault>
     requires from { 1 ≤ opening.capacity }
     requires to { opening.capacity ≤ 65536 }
-    ensures end { OnOk result (IsAtEnd (R.remaining source.new.inner)) }
+    requires no_end { source.old.at_end ≡ false }
+    ensures end { OnOk result (IsAtEnd source.new.left) }
     ensures read { result ≡ Err ExplainFault.Read → source.new.has_failed ≡ true }
     ensures write { result ≡ Err ExplainFault.Write → sink.new.has_failed ≡ true }
     ensures nothing { result ≡ Err ExplainFault.Read ⊎ result ≡ Err ExplainFault.OutOfMemory →
-        Keeps (W.contents sink.old.inner) (W.contents sink.new.inner) }
+        Keeps sink.old.holds sink.new.holds }
 {
     let hall = match opened(rt, opening) {
         Ok(hall) => hall,
-        Err(Unopened::OutOfMemory) => return Err(ExplainFault::OutOfMemory),
-        Err(fault) => return Err(ExplainFault::Unopened(fault)),
+        Err(Unloaded::OutOfMemory) => return Err(ExplainFault::OutOfMemory),
+        Err(fault) => return Err(ExplainFault::Unloaded(fault)),
     };
     let input = input_of(rt.alloc(), source)?;
     let out = match told(rt, rt.alloc(), hall, &input) {

@@ -12,17 +12,14 @@ mod lines;
 mod listed;
 mod opened;
 mod play;
-mod sink;
-mod source;
 mod step;
 mod told;
 mod units;
 
 use crate::explain::{ExplainFault, explain};
 use crate::hall::explain_hall;
-use crate::sink::Sink;
-use crate::source::Source;
 use mud_command::{CommandFault, Task, show, task_of, words_of};
+use mud_ends::{Sink, Source};
 use std::io::{self, Eprint};
 use std::process::ExitCode;
 use std::rt::Runtime;
@@ -66,6 +63,6 @@ fn stopped<R: Eprint>(rt: &R, fault: ExplainFault) -> ExitCode {
     let _ = eprintln!(rt; "mud_explain: {fault}");
     ExitCode::from(match fault {
         ExplainFault::OutOfMemory => 4,
-        ExplainFault::Read | ExplainFault::Write | ExplainFault::Unopened(_) => 3,
+        ExplainFault::Read | ExplainFault::Write | ExplainFault::Unloaded(_) => 3,
     })
 }

@@ -1,17 +1,22 @@
 -- Each line among the units is of printable characters, and not too long.
-use Rattle.std.proofs.Common.{ℕ, ◌≡◌, refl, ◌≤◌, arith, Bool, true, false, Option, Some, None, List, [], ◌∷◌, ◌++◌, length, length-append, length-take, ◌-◌, All, if◌then◌else◌, nat_lt, nat_le, ◌&&◌, ◌||◌, ◌==◌}
+use Rattle.std.proofs.Common.{ℕ, ◌≡◌, refl, ◌≤◌, arith, Bool, true, false, Option, Some, None, List, [], ◌∷◌, ◌++◌}
+use Rattle.std.proofs.Common.{length, length-append, length-take, ◌-◌, All, if◌then◌else◌, nat_lt, nat_le, ◌&&◌, ◌||◌}
+use Rattle.std.proofs.Common.{◌==◌}
 use Rattle.std.proofs.lemmas.List.Elements.{All-nil, All-cons, All-append, All-push, All-take}
 use Rattle.std.proofs.lemmas.Bool.Decides.{nat_tests}
-use Rattle.mud_nvt.specs.declared.codes.TheConstants.{WILL, DO, WONT, DONT, AYT, EC, EL, NUL, BS, HT, LF, CR, DEL, SPACE, TILDE}
+use Rattle.mud_nvt.specs.declared.codes.TheConstants.{WILL, DO, WONT, DONT, AYT, EC, EL, NUL, BS, HT, LF, CR, DEL}
+use Rattle.mud_nvt.specs.declared.codes.TheConstants.{SPACE, TILDE}
 use Rattle.mud_nvt.specs.declared.TheConstants.{MOST}
 use Rattle.mud_nvt.specs.declared.telnet.Piece.{Piece}
 use Rattle.mud_nvt.specs.declared.telnet.Piece.TheVariants.{Data, Command, Request, Subnegotiation}
 use Rattle.mud_nvt.specs.declared.strokes.Stroke.{Stroke}
-use Rattle.mud_nvt.specs.declared.strokes.Stroke.TheVariants.{Character, EraseCharacter, EraseLine, EndLine, AreYouThere, Refuse, Nothing}
+use Rattle.mud_nvt.specs.declared.strokes.Stroke.TheVariants.{Character, EraseCharacter, EraseLine, EndLine}
+use Rattle.mud_nvt.specs.declared.strokes.Stroke.TheVariants.{AreYouThere, Refuse, Nothing}
 use Rattle.mud_nvt.specs.Editing.{stroke, data_stroke}
 use Rattle.mud_nvt.specs.Units.{Given, Text, TooLong, Ayt, units}
 use Rattle.mud_nvt.specs.Lines.{IsPrintable, IsSound, IsPlain}
-use Rattle.mud_nvt.specs.Machine.{Held, start, next, next_text, text_with, stroke_units, finished_piece, after_piece, piece_units, byte_units, run_units}
+use Rattle.mud_nvt.specs.Machine.{Held, start, next, next_text, text_with, stroke_units, finished_piece, after_piece}
+use Rattle.mud_nvt.specs.Machine.{piece_units, byte_units, run_units}
 use Rattle.mud_nvt.proofs.Whole.{units_is}
 
 plain_if : (t : Bool) (r s : Stroke) → IsPlain r → IsPlain s → IsPlain (if t then r else s)
@@ -20,7 +25,8 @@ plain_if false r s p q = q
 
 plain_character : (b : ℕ) → IsPlain (if nat_le SPACE b && nat_le b TILDE then Character b else Nothing)
 plain_character b =
-    elim (nat_le SPACE b && nat_le b TILDE) as (λ v. (nat_le SPACE b && nat_le b TILDE) ≡ v → IsPlain (if v then Character b else Nothing)) [
+    elim (nat_le SPACE b && nat_le b TILDE) as
+    (λ v. (nat_le SPACE b && nat_le b TILDE) ≡ v → IsPlain (if v then Character b else Nothing)) [
       | true ↦ λ e. (grind (arith, nat_tests), grind (arith, nat_tests))
       | false ↦ λ e. tt
     ] refl
@@ -36,8 +42,11 @@ plain_data after_cr b =
 -- each stroke types a printable character, or none
 stroke_plain : (after_cr : Bool) (p : Piece) → IsPlain (stroke after_cr p)
 stroke_plain after_cr (Data b) = plain_data after_cr b
-stroke_plain after_cr (Command b) = plain_if (b == AYT) AreYouThere _ tt (plain_if (b == EC) EraseCharacter _ tt (plain_if (b == EL) EraseLine Nothing tt tt))
-stroke_plain after_cr (Request verb option) = plain_if (verb == DO) (Refuse WONT option) _ tt (plain_if (verb == WILL) (Refuse DONT option) Nothing tt tt)
+stroke_plain after_cr (Command b) =
+    plain_if (b == AYT) AreYouThere _ tt
+    (plain_if (b == EC) EraseCharacter _ tt (plain_if (b == EL) EraseLine Nothing tt tt))
+stroke_plain after_cr (Request verb option) =
+    plain_if (verb == DO) (Refuse WONT option) _ tt (plain_if (verb == WILL) (Refuse DONT option) Nothing tt tt)
 stroke_plain after_cr Subnegotiation = tt
 
 -- the text that is held would be a sound line
@@ -48,19 +57,31 @@ record IsFit (text : List ℕ) : Type 0 where
 no_text_fits : IsFit []
 no_text_fits = record { printable = All-nil IsPrintable; short = omega arith }
 
-text_with_fits : (too_long : Bool) (text : List ℕ) (c : ℕ) → IsPrintable c → IsFit text → IsFit (text_with too_long text c)
+text_with_fits : (too_long : Bool) (text : List ℕ) (c : ℕ) → IsPrintable c → IsFit text
+    → IsFit (text_with too_long text c)
 text_with_fits true text c p k = k
 text_with_fits false text c p k =
-    elim (nat_lt (length text) MOST) as (λ v. nat_lt (length text) MOST ≡ v → IsFit (if v then text ++ c ∷ [] else text)) [
-      | true ↦ λ e. record { printable = All-push IsPrintable text c k.printable p; short = grind (arith, nat_tests, length-append {A = ℕ}) }
+    elim (nat_lt (length text) MOST) as
+    (λ v. nat_lt (length text) MOST ≡ v → IsFit (if v then text ++ c ∷ [] else text)) [
+      | true ↦ λ e.
+          record {
+            printable =
+                All-push IsPrintable text c k.printable p;
+            short = grind (arith, nat_tests, length-append {A = ℕ});
+          }
       | false ↦ λ e. k
     ] refl
 
-next_text_fits : (too_long : Bool) (text : List ℕ) (s : Stroke) → IsPlain s → IsFit text → IsFit (next_text too_long text s)
+next_text_fits : (too_long : Bool) (text : List ℕ) (s : Stroke) → IsPlain s → IsFit text
+    → IsFit (next_text too_long text s)
 next_text_fits too_long text (Character c) p k = text_with_fits too_long text c p k
 next_text_fits too_long text EraseCharacter p k =
     let l : length text ≤ MOST = k.short in
-    record { printable = All-take IsPrintable (length text - 1) text k.printable; short = grind (arith, length-take {A = ℕ}) }
+    record {
+      printable =
+          All-take IsPrintable (length text - 1) text k.printable;
+      short = grind (arith, length-take {A = ℕ});
+    }
 next_text_fits too_long text EraseLine p k = no_text_fits
 next_text_fits too_long text EndLine p k = no_text_fits
 next_text_fits too_long text AreYouThere p k = k
@@ -70,7 +91,8 @@ next_text_fits too_long text Nothing p k = k
 one_sound : (u : Given) → IsSound u → All IsSound (u ∷ [])
 one_sound u s = All-cons IsSound u [] s (All-nil IsSound)
 
-stroke_units_sound : (too_long : Bool) (text : List ℕ) (s : Stroke) → IsFit text → All IsSound (stroke_units too_long text s)
+stroke_units_sound : (too_long : Bool) (text : List ℕ) (s : Stroke) → IsFit text
+    → All IsSound (stroke_units too_long text s)
 stroke_units_sound too_long text (Character c) k = All-nil IsSound
 stroke_units_sound too_long text EraseCharacter k = All-nil IsSound
 stroke_units_sound too_long text EraseLine k = All-nil IsSound

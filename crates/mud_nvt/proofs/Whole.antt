@@ -1,31 +1,39 @@
 -- What comes a byte at a time is the units of all bytes.
-use Rattle.std.proofs.Common.{ℕ, ◌≡◌, refl, ap, sym, ◌∙◌, false, List, [], ◌∷◌, ◌++◌, Option, Some, None, append_assoc, append-nil, take, length, get_or, ◌<◌, ◌+◌}
+use Rattle.std.proofs.Common.{ℕ, ◌≡◌, refl, ap, sym, ◌∙◌, false, List, [], ◌∷◌, ◌++◌, Option, Some, None, append_assoc}
+use Rattle.std.proofs.Common.{append-nil, take, length, get_or, ◌<◌, ◌+◌}
 use Rattle.std.proofs.lemmas.List.{take_more}
 use Rattle.mud_nvt.specs.declared.telnet.Piece.{Piece}
 use Rattle.mud_nvt.specs.declared.telnet.Place.TheVariants.{Between}
 use Rattle.mud_nvt.specs.Units.{Given, units}
 use Rattle.mud_nvt.specs.History.{TakesIn}
-use Rattle.mud_nvt.specs.Machine.{Held, start, next, next_place, finished_piece, after_piece, piece_units, byte_units, run, run_units}
+use Rattle.mud_nvt.specs.Machine.{Held, start, next, next_place, finished_piece, after_piece, piece_units, byte_units}
+use Rattle.mud_nvt.specs.Machine.{run, run_units}
 use Rattle.mud_nvt.proofs.Cutting.{put, scan, pieces_is}
 use Rattle.mud_nvt.proofs.Typing.{walk, walk_is}
 
-one_piece : (h : Held) (o : Option Piece) (ps : List Piece) → piece_units h o ++ walk (after_piece h o).after_cr (after_piece h o).too_long (after_piece h o).text ps ≡ walk h.after_cr h.too_long h.text (put o ps)
+one_piece : (h : Held) (o : Option Piece) (ps : List Piece)
+    → piece_units h o ++ walk (after_piece h o).after_cr (after_piece h o).too_long (after_piece h o).text ps
+    ≡ walk h.after_cr h.too_long h.text (put o ps)
 one_piece h None ps = refl
 one_piece h (Some p) ps = refl
 
 run_units_is : (bytes : List ℕ) (h : Held) → run_units h bytes ≡ walk h.after_cr h.too_long h.text (scan h.place bytes)
 run_units_is [] h = refl
-run_units_is (b ∷ bytes) h = rw (run_units_is bytes (next h b)) (one_piece h (finished_piece h.place b) (scan (next_place h.place b) bytes))
+run_units_is (b ∷ bytes) h =
+    rw (run_units_is bytes (next h b)) (one_piece h (finished_piece h.place b) (scan (next_place h.place b) bytes))
 
 pub units_is : (bytes : List ℕ) → units bytes ≡ run_units start bytes
 units_is bytes =
-    rw pieces_is (walk_is (scan Between bytes) [] false false [] (record { long_is = refl; text_is = λ _. refl }) ∙ sym (run_units_is bytes start))
+    rw pieces_is
+    (walk_is (scan Between bytes) [] false false [] (record { long_is = refl; text_is = λ _. refl })
+    ∙ sym (run_units_is bytes start))
 
 pub run-append : (bytes more : List ℕ) (h : Held) → run h (bytes ++ more) ≡ run (run h bytes) more
 run-append [] more h = refl
 run-append (b ∷ bytes) more h = run-append bytes more (next h b)
 
-pub run_units-append : (bytes more : List ℕ) (h : Held) → run_units h (bytes ++ more) ≡ run_units h bytes ++ run_units (run h bytes) more
+pub run_units-append : (bytes more : List ℕ) (h : Held)
+    → run_units h (bytes ++ more) ≡ run_units h bytes ++ run_units (run h bytes) more
 run_units-append [] more h = refl
 run_units-append (b ∷ bytes) more h = rw (run_units-append bytes more (next h b), append_assoc) refl
 
@@ -33,17 +41,38 @@ run_units-append (b ∷ bytes) more h = rw (run_units-append bytes more (next h 
 pub units-append : (bytes more : List ℕ) → units (bytes ++ more) ≡ units bytes ++ run_units (run start bytes) more
 units-append bytes more = rw (units_is (bytes ++ more), units_is bytes) (run_units-append bytes more start)
 
-pub takes_in : (old new : Held) (before after : List Given) (bytes : List ℕ) → new ≡ run old bytes → after ≡ before ++ run_units old bytes → TakesIn old new before after bytes
+pub takes_in : (old new : Held) (before after : List Given) (bytes : List ℕ) → new ≡ run old bytes
+    → after ≡ before ++ run_units old bytes → TakesIn old new before after bytes
 takes_in old new before after bytes n a = record {
   stands = λ earlier s. record { is = n ∙ (ap (λ h. run h bytes) s.is ∙ sym (run-append earlier bytes start)) };
-  grows = λ earlier s. record { fresh = run_units old bytes; here = a; there = units-append earlier bytes ∙ ap (λ h. units earlier ++ run_units h bytes) (sym s.is) };
+  grows = λ earlier s.
+      record {
+        fresh =
+            run_units old bytes;
+        here =
+            a;
+        there = units-append earlier bytes ∙ ap (λ h. units earlier ++ run_units h bytes) (sym s.is);
+      };
 }
 
 -- after one byte more
-pub one_more_state : (h g n : Held) (bytes : List ℕ) (i : ℕ) → i < length bytes → g ≡ run h (take i bytes) → n ≡ next g (get_or bytes i 0) → n ≡ run h (take (i + 1) bytes)
+pub one_more_state : (h g n : Held) (bytes : List ℕ) (i : ℕ) → i < length bytes → g ≡ run h (take i bytes)
+    → n ≡ next g (get_or bytes i 0) → n ≡ run h (take (i + 1) bytes)
 one_more_state h g n bytes i l e f =
-    rw (take_more bytes i 0 l) (f ∙ (ap (λ s. next s (get_or bytes i 0)) e ∙ sym (run-append (take i bytes) (get_or bytes i 0 ∷ []) h)))
+    rw (take_more bytes i 0 l)
+    (f ∙ (ap (λ s. next s (get_or bytes i 0)) e ∙ sym (run-append (take i bytes) (get_or bytes i 0 ∷ []) h)))
 
-pub one_more_given : (h g : Held) (old mid new : List Given) (bytes : List ℕ) (i : ℕ) → i < length bytes → g ≡ run h (take i bytes) → mid ≡ old ++ run_units h (take i bytes) → new ≡ mid ++ byte_units g (get_or bytes i 0) → new ≡ old ++ run_units h (take (i + 1) bytes)
+pub one_more_given : (h g : Held) (old mid new : List Given) (bytes : List ℕ) (i : ℕ) → i < length bytes
+    → g ≡ run h (take i bytes) → mid ≡ old ++ run_units h (take i bytes) → new ≡ mid ++ byte_units g (get_or bytes i 0)
+    → new ≡ old ++ run_units h (take (i + 1) bytes)
 one_more_given h g old mid new bytes i l e m n =
-    rw (take_more bytes i 0 l, run_units-append (take i bytes) (get_or bytes i 0 ∷ []) h, append-nil, ← e, n, m, append_assoc) refl
+    rw (
+      take_more bytes i 0 l,
+      run_units-append (take i bytes)
+          (get_or bytes i 0 ∷ []) h,
+      append-nil,
+      ← e,
+      n,
+      m,
+      append_assoc,
+    ) refl

@@ -3,9 +3,8 @@ use Rattle.std.specs.Prelude.{ℕ, length, ◌≤◌, All}
 use Rattle.mud_nvt.specs.declared.TheConstants.{MOST}
 use Rattle.mud_nvt.specs.declared.codes.TheConstants.{SPACE, TILDE}
 use Rattle.mud_nvt.specs.declared.strokes.Stroke.{Stroke}
-use Rattle.mud_nvt.specs.declared.strokes.Stroke.TheVariants.{Character, EraseCharacter, EraseLine, EndLine}
-use Rattle.mud_nvt.specs.declared.strokes.Stroke.TheVariants.{AreYouThere, Refuse, Nothing}
-use Rattle.mud_nvt.specs.Units.{Given, Text, TooLong, Ayt, Answer}
+use Rattle.mud_nvt.specs.declared.strokes.Stroke.TheVariants.{Character}
+use Rattle.mud_nvt.specs.Units.{Given, Text}
 
 -- a character from the space to the tilde
 abbrev pub IsPrintable : ℕ → Type 0

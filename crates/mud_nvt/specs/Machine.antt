@@ -10,7 +10,7 @@ use Rattle.mud_nvt.specs.declared.telnet.Place.{Place}
 use Rattle.mud_nvt.specs.declared.telnet.Place.TheVariants.{Between, BehindIac, BehindVerb, Inside, InsideBehindIac}
 use Rattle.mud_nvt.specs.declared.strokes.Stroke.{Stroke}
 use Rattle.mud_nvt.specs.declared.strokes.Stroke.TheVariants.{Character, EraseCharacter, EraseLine, EndLine}
-use Rattle.mud_nvt.specs.declared.strokes.Stroke.TheVariants.{AreYouThere, Refuse, Nothing}
+use Rattle.mud_nvt.specs.declared.strokes.Stroke.TheVariants.{AreYouThere, Refuse}
 use Rattle.mud_nvt.specs.Telnet.{is_verb}
 use Rattle.mud_nvt.specs.Editing.{stroke, is_cr, without_last}
 use Rattle.mud_nvt.specs.Units.{Given, Text, TooLong, Ayt, Answer}

@@ -2,8 +2,8 @@
 use Rattle.std.specs.Prelude.{ℕ, List, [], ◌∷◌, ◌++◌, ◌≡◌, Bool, true, false, IsTrue}
 use Rattle.std.specs.List.{list_any}
 use Rattle.mud_nvt.specs.declared.strokes.Stroke.{Stroke}
-use Rattle.mud_nvt.specs.declared.strokes.Stroke.TheVariants.{Character, EraseCharacter, EraseLine, EndLine}
-use Rattle.mud_nvt.specs.declared.strokes.Stroke.TheVariants.{AreYouThere, Refuse, Nothing}
+use Rattle.mud_nvt.specs.declared.strokes.Stroke.TheVariants.{EraseCharacter, EraseLine}
+use Rattle.mud_nvt.specs.declared.strokes.Stroke.TheVariants.{Nothing}
 use Rattle.mud_nvt.specs.Telnet.{pieces}
 use Rattle.mud_nvt.specs.Editing.{strokes}
 use Rattle.mud_nvt.specs.Machine.{Held}

@@ -2,8 +2,8 @@
 use Rattle.std.specs.Prelude.{ℕ, List, [], ◌∷◌, ◌++◌, if◌then◌else◌}
 use Rattle.mud_nvt.specs.declared.codes.TheConstants.{IAC}
 use Rattle.mud_nvt.specs.declared.strokes.Stroke.{Stroke}
-use Rattle.mud_nvt.specs.declared.strokes.Stroke.TheVariants.{Character, EraseCharacter, EraseLine, EndLine}
-use Rattle.mud_nvt.specs.declared.strokes.Stroke.TheVariants.{AreYouThere, Refuse, Nothing}
+use Rattle.mud_nvt.specs.declared.strokes.Stroke.TheVariants.{EndLine}
+use Rattle.mud_nvt.specs.declared.strokes.Stroke.TheVariants.{AreYouThere, Refuse}
 use Rattle.mud_nvt.specs.Telnet.{pieces}
 use Rattle.mud_nvt.specs.Editing.{strokes, line, is_too_long}
 

@@ -2,12 +2,11 @@
 
 ghost use Rattle.std.specs.Prelude.{◌≡◌, ℕ, [], ◌++◌, IfOk, OnOk, slice_index_or, false};
 ghost use Rattle.mud_roads.specs.Open.{passable, open_step, roads_of};
-ghost use Rattle.mud_world.specs.State.{IsHolding};
 ghost use Rattle.mud_roads.specs.Tables.{Knows};
 
 use crate::Step;
 use crate::table::Table;
-use mud_world::{Holding, World};
+use mud_world::World;
 use std::alloc::{AllocError, Global};
 
 // A player, and whether each object is unlocked for him, by number.
@@ -22,19 +21,7 @@ fn unlocked_for(alloc: Global, world: &World, player: u32) -> Result<Vec<bool>, 
     ensures { IfOk result (λ opened. Knows world.now player opened.items) }
 {
     let holding = world.carried(player)?;
-    unlocked_with(alloc, world, &holding)
-}
-
-// Whether each object is unlocked for the one who holds these, by number.
-fn unlocked_with(alloc: Global, world: &World, holding: &Holding) -> Result<Vec<bool>, AllocError>
-    ensures { IfOk result (λ opened. (p : ℕ) → IsHolding world.now p holding.now → Knows world.now p opened.items) }
-{
-    let count = world.next_number();
-    let mut opened = Vec::with_capacity(alloc, count as usize)?;
-    for number in 0..count {
-        opened.push(world.unlocked(holding, number))?;
-    }
-    Ok(opened)
+    world.judge(alloc, &holding)
 }
 
 impl Access {

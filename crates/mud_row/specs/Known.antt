@@ -1,10 +1,7 @@
 -- What is known of a row of cells, each of which takes one entry and keeps it.
 use Rattle.std.specs.Prelude.{◌≡◌, ◌≤◌, length, ℕ, zero, suc, List, [], ◌∷◌, Option, Some, None, slice_get, take, ◌++◌}
 use Rattle.once_cell.specs.declared.race.note.Note.{Note}
-use Rattle.mud_world.specs.State.{State}
-use Rattle.mud_world.specs.History.{world_of}
 use Rattle.mud_chron.specs.Entry.{Accepted}
-use Rattle.mud_chron.specs.Replay.{changes_of}
 
 -- a pass: the names of the cells of its row, in order, and the entries of the first cells, which it knows
 pub record Known : Type 0 where
@@ -16,10 +13,6 @@ pub record Standing : Type 0 where
   pub row : List ℕ
   pub list : List Accepted
   pub at : ℕ
-
--- the world of the first so many entries, where a change that is not legal changes nothing
-abbrev pub world_at : List Accepted → ℕ → State
-world_at entries at = world_of (changes_of (take at entries))
 
 -- the names of the cells that these notes are of
 abbrev pub names_of : List (Note Accepted) → List ℕ

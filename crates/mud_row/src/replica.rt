@@ -5,7 +5,8 @@ ghost use Rattle.std.specs.Prelude.{IfOk, IfErr, OnErr, OnOk, IsErrAnd, MatchBoo
 ghost use Rattle.std.specs.Option.{option_copied};
 ghost use mathlib.Core.List.{IsPrefix};
 ghost use Rattle.mud_world.specs.History.{stepped};
-ghost use Rattle.mud_row.specs.Known.{world_at, entry_at};
+ghost use Rattle.mud_chron.specs.Replay.{world_at};
+ghost use Rattle.mud_row.specs.Known.{entry_at};
 
 use crate::fault::RowFault;
 use crate::pass::Pass;
@@ -27,7 +28,8 @@ pub struct Replica {
 
 impl Model for Replica {
     ghost use Rattle.std.specs.Prelude.{◌≡◌, ◌≤◌, length};
-    ghost use Rattle.mud_row.specs.Known.{Standing, world_at};
+    ghost use Rattle.mud_chron.specs.Replay.{world_at};
+    ghost use Rattle.mud_row.specs.Known.{Standing};
 
     ghost Value = { Standing };
 

@@ -1,6 +1,6 @@
 -- Going downwards through contents gives what an object carries.
-use Rattle.std.proofs.Common.{◌≡◌, ℕ, zero, suc, ◌+◌, ◌<◌, ◌≤◌, Bool, true, false, cond, ◌||◌, List, [], ◌∷◌, ◌++◌, length, Option, Some, None, refl, sym, ◌∙◌, ap, subst, arith, ⊎_elim}
-use Rattle.std.specs.Prelude.{IsTrue, ◌↔◌, nat_eq, is_some, slice_get}
+use Rattle.std.proofs.Common.{◌≡◌, ℕ, zero, suc, ◌+◌, ◌<◌, ◌≤◌, Bool, true, false, cond, ◌||◌, List, [], ◌∷◌, ◌++◌, length, get_or, Option, Some, None, refl, sym, ◌∙◌, ap, subst, arith, ⊎_elim}
+use Rattle.std.specs.Prelude.{Result, Ok, Err, IfOk, IsTrue, ◌↔◌, nat_eq, is_some, slice_get}
 use Rattle.std.specs.Option.{option_map_or, option_and_then}
 use Rattle.std.specs.List.{list_any, IsDistinct}
 use Rattle.std.specs.Map.{lookup}
@@ -11,7 +11,8 @@ use Rattle.mud_world.specs.declared.record.Record.{Record}
 use Rattle.mud_world.specs.declared.record.Kind.{Kind}
 use Rattle.mud_world.specs.declared.record.Kind.TheVariants.{Room, Exit, Thing, Player}
 use Rattle.mud_world.specs.Kinds.{kind_place, is_room_kind}
-use Rattle.mud_world.specs.State.{State, record_at, exists, place_of, is_number, contents_of, follow, within, Within, IsHolding}
+use Rattle.mud_world.specs.State.{State, has, opens, record_at, exists, place_of, is_number, contents_of, follow, within, Within, IsHolding}
+use Rattle.mud_world.specs.Truth.{key_true}
 use Rattle.mud_world.specs.Sound.{IsSound, IsRising, IsPlacedWell}
 use Rattle.mud_world.proofs.Records.{record_cases, bool_cases, in_bounds}
 use Rattle.mud_world.proofs.Places.{option_cases, follow_by}
@@ -246,3 +247,27 @@ pub get-some : (ks : List ℕ) (i x : ℕ) → slice_get ks i ≡ Some x → i <
 get-some [] i x got = absurd (let bad : None ≡ Some x = got in cc)
 get-some (y ∷ ks) zero x got = omega arith
 get-some (y ∷ ks) (suc i) x got = let rest = get-some ks i x got in omega (arith, rest)
+
+-- no object has a number that was not given yet
+pub missing-above : (w : State) → IsSound w → (o : ℕ) → w.next ≤ o → record_at w o ≡ None
+missing-above w sound o le =
+    record_cases (record_at w o)
+    (λ e. e)
+    (λ r e. let below = (in_bounds 0 w.next o r w.objects sound.rising e).1 in absurd (omega (arith, below)))
+
+pub has-above : (w : State) → IsSound w → (o : ℕ) → w.next ≤ o → (test : Record → Bool) → has w o test ≡ false
+has-above w sound o le test = ap (λ v. option_map_or test v false) (missing-above w sound o le)
+
+pub get_or-past : (xs : List Bool) (i : ℕ) → length xs ≤ i → get_or xs i false ≡ false
+get_or-past [] i le = refl
+get_or-past (x ∷ xs) zero le = absurd (omega arith)
+get_or-past (x ∷ xs) (suc i) le = get_or-past xs i (omega arith)
+
+-- the answers of a level less give those of the next
+pub next-level : (w : State) (held : ℕ → Bool) (before : List Bool) (n : ℕ) → ((o : ℕ) → get_or before o false ≡ opens w n held o) → (o : ℕ)
+    → has w o (λ r. option_map_or (key_true held (λ a. get_or before a false)) r.key true) ≡ opens w (suc n) held o
+next-level w held before n is o = λ i. has w o (λ r. option_map_or (key_true held (λ a. is a i)) r.key true)
+
+pub if_ok-weaker : {T E : Type 0} (r : Result T E) (P Q : T → Type 0) → ((x : T) → P x → Q x) → IfOk r P → IfOk r Q
+if_ok-weaker (Ok x) P Q f p = f x p
+if_ok-weaker (Err e) P Q f p = p

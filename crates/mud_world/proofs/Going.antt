@@ -1,6 +1,6 @@
 -- What a legal walk or move needs, and what it leaves of the fields.
 use Rattle.std.proofs.Common.{◌≡◌, ◌≢◌, ℕ, zero, suc, ◌<◌, ◌≤◌, Bool, true, false, cond, List, [], ◌∷◌, Some, None, refl, sym, ◌∙◌, ap, subst, ⊎_elim}
-use Rattle.std.specs.Prelude.{nat_eq, is_some, map, find, Result, Ok, Err, OnOk, OnErr}
+use Rattle.std.specs.Prelude.{nat_eq, is_some, find, Result, Ok, Err, OnOk, OnErr}
 use Rattle.std.specs.Option.{option_map, option_map_or, option_and_then}
 use Rattle.std.specs.List.{AllByRecursion}
 use Rattle.std.proofs.lemmas.Bool.{or_parts, and_from, eq-eqb, true≢false, cases_lt, not-false}
@@ -8,22 +8,17 @@ use Rattle.std.proofs.lemmas.Map.Steps.{set_value_same}
 use Rattle.mud_world.specs.declared.record.Record.{Record}
 use Rattle.mud_world.specs.declared.record.Kind.{Kind}
 use Rattle.mud_world.specs.declared.record.Kind.TheVariants.{Room, Exit, Thing, Player}
-use Rattle.mud_world.specs.declared.slots.Slot.{Slot}
-use Rattle.mud_world.specs.declared.world.World.TheInside.{Inside}
 use Rattle.mud_world.specs.declared.change.Change.{Change}
 use Rattle.mud_world.specs.declared.change.Deed.TheVariants.{Move, Walk}
 use Rattle.mud_world.specs.Kinds.{kind_place, kind_passage, kind_at, is_player_kind, is_room_kind}
 use Rattle.mud_world.specs.State.{State, record_at, exists, is_room, is_exit, is_thing_kind, is_number, place_of, destination_of, follow, comes_to, within}
 use Rattle.mud_world.specs.Sound.{IsSound, IsPlacedWell}
 use Rattle.mud_world.specs.Legal.{with_record, moved, refusals, refusal, fails}
-use Rattle.mud_world.specs.Slots.{shape_of, shapes_of, entries_of, at_number, with_content, without_content, placed_at}
-use Rattle.mud_world.specs.Inside.{state_of, IsKept, IsListed}
 use Rattle.mud_world.specs.Going.{CanGo}
 use Rattle.mud_world.proofs.Records.{record_cases, bool_cases, in_bounds}
 use Rattle.mud_world.proofs.Containing.{follow-past}
 use Rattle.mud_world.proofs.Places.{follow_by, comes_to-false, ends_by-bound}
-use Rattle.mud_world.proofs.Moving.{sound-moved, place-below}
-use Rattle.mud_world.proofs.Relocating.{canon, canon_from_listed, entries_from_canon, listed_from_canon, relocated}
+use Rattle.mud_world.proofs.Moving.{place-below}
 
 pub find_none : {X : Type 0} (p : X → Bool) (xs : List X) → find p xs ≡ None → AllByRecursion (λ x. p x ≡ false) xs
 find_none p [] none = tt
@@ -107,67 +102,7 @@ module _ (w : State) (sound : IsSound w) (a x : ℕ) (legal : refusal w (record 
       off_at zero e = let same : d ≡ a = cc in let bad : None ≡ Some q = sym (room_place d (leads_to_room d at)) ∙ ap (place_of w) same ∙ from in cc
       off_at (suc k) e = let bad : None ≡ Some a = sym (follow_by w k d None (room_place d (leads_to_room d at))) ∙ e in cc
 
--- ---- what the fields say afterwards
-module _ (a a' : Inside) (kept : IsKept a) where
-  entries_of-shapes : (slots slots' : List Slot) → shapes_of slots' ≡ shapes_of slots → entries_of slots' ≡ entries_of slots
-  entries_of-shapes [] [] e = refl
-  entries_of-shapes [] (s ∷ ss) e = cc
-  entries_of-shapes (s ∷ ss) [] e = cc
-  entries_of-shapes (s ∷ ss) (s' ∷ ss') e =
-      let head : shape_of s' ≡ shape_of s = cc in
-      let rest : shapes_of ss' ≡ shapes_of ss = cc in
-      ap (λ v. (v.number, v.object) ∷ entries_of ss') head ∙ ap (λ v. (s.number, s.object) ∷ v) (entries_of-shapes ss ss' rest)
-
-  pub state-same : a'.next ≡ a.next → shapes_of a'.slots.items ≡ shapes_of a.slots.items → state_of a' ≡ state_of a
-  state-same next same = λ i. record { objects = (entries_of-shapes a.slots.items a'.slots.items same) i; next = next i }
-
-  pub kept-same : a'.next ≡ a.next → shapes_of a'.slots.items ≡ shapes_of a.slots.items → IsKept a'
-  kept-same next same = record {
-    sound = subst IsSound (sym (state-same next same)) kept.sound;
-    listed = subst (λ (w : State). AllByRecursion (IsListed w) a'.slots.items) (sym (state-same next same))
-        (listed_from_canon (state_of a) a'.slots.items (entries_of a.slots.items) (same ∙ canon_from_listed (state_of a) a.slots.items kept.listed));
-  }
-
-  module _ (t q y : ℕ) (can : CanGo (state_of a) t q y) (next : a'.next ≡ a.next)
-      (shapes : shapes_of a'.slots.items ≡ at_number t (placed_at y) (at_number q (without_content t) (at_number y (with_content t) (shapes_of a.slots.items)))) where
-    abbrev w : State
-    w = state_of a
-
-    with_its_record : {P : Type 0} → ((r : Record) → record_at w t ≡ Some r → kind_place r.kind ≡ Some q → P) → P
-    with_its_record f =
-        record_cases (record_at w t)
-        (λ e. let bad : None ≡ Some q = sym (ap (option_and_then (λ r. kind_place r.kind)) e) ∙ can.from in absurd (cc))
-        (λ r e. f r e (sym (ap (option_and_then (λ r. kind_place r.kind)) e) ∙ can.from))
-
-    new_shapes : (r : Record) → record_at w t ≡ Some r → kind_place r.kind ≡ Some q → shapes_of a'.slots.items ≡ map (canon (moved w t y)) (moved w t y).objects
-    new_shapes r at from =
-        shapes
-        ∙ ap (λ v. at_number t (placed_at y) (at_number q (without_content t) (at_number y (with_content t) v))) (canon_from_listed w a.slots.items kept.listed)
-        ∙ relocated w t q y r kept.sound.rising at from can.apart
-        ∙ sym (ap (λ v. map (canon v) v.objects) (moved_by w t y r at))
-
-    next_same : (r : Record) → record_at w t ≡ Some r → (moved w t y).next ≡ a.next
-    next_same r at = ap (λ v. v.next) (moved_by w t y r at)
-
-    pub state-moved : state_of a' ≡ moved w t y
-    state-moved =
-        with_its_record (λ r at from.
-        let es = entries_from_canon (moved w t y) a'.slots.items (moved w t y).objects (new_shapes r at from) in
-        let ns : a'.next ≡ (moved w t y).next = next ∙ sym (next_same r at) in
-        λ i. record { objects = es i; next = ns i })
-
-    pub kept-moved : IsKept a'
-    kept-moved =
-        with_its_record (λ r at from. record {
-          sound = subst IsSound (sym (state-moved ∙ moved_by w t y r at)) (sound-moved w kept.sound t y r at q from (can.fit r at) can.off);
-          listed = subst (λ (v : State). AllByRecursion (IsListed v) a'.slots.items) (sym state-moved)
-              (listed_from_canon (moved w t y) a'.slots.items (moved w t y).objects (new_shapes r at from));
-        })
-
 -- a fact that holds whichever way a call went
-pub result_either : {T E P Q X : Type 0} (r : Result T E) → OnOk r P → OnErr r Q → (P → X) → (Q → X) → X
-result_either (Ok x) p q f g = f p
-result_either (Err e) p q f g = g q
 
 -- ---- a legal move
 module _ (w : State) (sound : IsSound w) (a t y : ℕ) (legal : refusal w (record { actor = a; deed = Move t y }) ≡ None) where
@@ -234,3 +169,12 @@ module _ (w : State) (sound : IsSound w) (a t y : ℕ) (legal : refusal w (recor
       placed (Exit p) e f = true≢false (sym e)
       placed (Thing p) e f = let bad : Some p ≡ None = f in cc
       placed (Player p) e f = true≢false (sym e)
+
+-- what follows from two facts of either way
+pub either_way : {T E P P' Q Q' X : Type 0} (r : Result T E) → OnOk r P → OnOk r P' → OnErr r Q → OnErr r Q' → (P → P' → X) → (Q → Q' → X) → X
+either_way (Ok x) p p' q q' f g = f p p'
+either_way (Err e) p p' q q' f g = g q q'
+
+pub on_err : {T E Q : Type 0} (r : Result T E) → Q → OnErr r Q
+on_err (Ok x) q = tt
+on_err (Err e) q = q

@@ -53,7 +53,7 @@ stable w held (suc n) k nest =
     (each-from (λ o. option_map_or (nests w n) (key_of w o) true) (λ o. opens w (suc n) held o ≡ opens w (suc (suc n)) held o)
     (λ o is. asked w held n (λ k nest. stable w held n k nest) o is) (asks_of k) nest)
 
-list_all-found : (p : Record → Bool) (n : ℕ) (r : Record) (es : List (ℕ × Record)) → lookup (nat_eq n) es ≡ Some r → list_all (λ e. p e.1) es ≡ true → p r ≡ true
+pub list_all-found : (p : Record → Bool) (n : ℕ) (r : Record) (es : List (ℕ × Record)) → lookup (nat_eq n) es ≡ Some r → list_all (λ e. p e.1) es ≡ true → p r ≡ true
 list_all-found p n r [] at all = cc
 list_all-found p n r (e ∷ es) at all =
     let parts = and_parts (p e.1) (list_all (λ e. p e.1) es) all in

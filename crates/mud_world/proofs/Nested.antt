@@ -38,7 +38,7 @@ same_key : (w : State) (a : ℕ) (k l : Tree ℕ) → key_of w a ≡ Some k → 
 same_key w a k l at is = let same : Some l ≡ Some k = sym is ∙ at in cc
 
 -- so many questions at most
-questions-few : (w : State) (n a : ℕ) (k : Tree ℕ) → key_of w a ≡ Some k → nests w n k ≡ true → (m b : ℕ) → Questions w m a b → m ≤ n
+pub questions-few : (w : State) (n a : ℕ) (k : Tree ℕ) → key_of w a ≡ Some k → nests w n k ≡ true → (m b : ℕ) → Questions w m a b → m ≤ n
 questions-few w n a k at nest zero b way = omega arith
 questions-few w zero a k at nest (suc m) b way =
     let asks = subst (λ (k : Tree ℕ). list_any (nat_eq way.0) (asks_of k) ≡ true) (same_key w a k way.1.key at way.1.is) way.1.asks in
@@ -52,7 +52,7 @@ questions-few w (suc n) a k at nest (suc (suc m)) b way =
     omega (arith, rest)
 
 -- one question too many
-questions-more : (w : State) (n a : ℕ) (k : Tree ℕ) → key_of w a ≡ Some k → nests w n k ≡ false → (b : ℕ) × Questions w (suc n) a b
+pub questions-more : (w : State) (n a : ℕ) (k : Tree ℕ) → key_of w a ≡ Some k → nests w n k ≡ false → (b : ℕ) × Questions w (suc n) a b
 questions-more w zero a k at nest =
     let o = some-fails (λ o. false) (asks_of k) nest in
     (o.0, (o.0, record { key = k; is = at; asks = o.1 }, refl))
@@ -77,7 +77,7 @@ nesting_law = λ w a k at n. (
 )
 
 -- one way after the other
-questions-join : (w : State) (n l a b c : ℕ) → Questions w n a b → Questions w l b c → (t : ℕ) × (t ≡ n + l) × Questions w t a c
+pub questions-join : (w : State) (n l a b c : ℕ) → Questions w n a b → Questions w l b c → (t : ℕ) × (t ≡ n + l) × Questions w t a c
 questions-join w zero l a b c first second = (l, omega arith, subst (λ (v : ℕ). Questions w l v c) (sym first) second)
 questions-join w (suc n) l a b c first second =
     let rest = questions-join w n l first.0 b c first.2 second in

@@ -111,13 +111,14 @@ new_players_are_players w name sound =
 -- ---- who is found by a name
 
 -- the record of a player that was found
-record IsFound (n : ℕ) (es : List (ℕ × Record)) : Type 0 where
-  r : Record
-  at : lookup (nat_eq n) es ≡ Some r
-  player : is_player_kind r.kind ≡ true
+pub record IsFound (n : ℕ) (name : List ℕ) (es : List (ℕ × Record)) : Type 0 where
+  pub r : Record
+  pub at : lookup (nat_eq n) es ≡ Some r
+  pub player : is_player_kind r.kind ≡ true
+  pub named : list_any (str_eq_ignore_ascii_case name) r.names ≡ true
 
-found-in : (name : List ℕ) (n low high : ℕ) (es : List (ℕ × Record)) → IsRising low es high
-    → option_map (λ (e : ℕ × Record). e.0) (find (λ e. is_player_kind e.1.kind && list_any (str_eq_ignore_ascii_case name) e.1.names) es) ≡ Some n → IsFound n es
+pub found-in : (name : List ℕ) (n low high : ℕ) (es : List (ℕ × Record)) → IsRising low es high
+    → option_map (λ (e : ℕ × Record). e.0) (find (λ e. is_player_kind e.1.kind && list_any (str_eq_ignore_ascii_case name) e.1.names) es) ≡ Some n → IsFound n name es
 found-in name n low high [] rising is = absurd (let bad : None ≡ Some n = is in cc)
 found-in name n low high (e ∷ es) rising is =
     bool_cases test
@@ -128,6 +129,7 @@ found-in name n low high (e ∷ es) rising is =
       r = e.1;
       at = ap (λ (b : Bool). cond b (Some e.1) (lookup (nat_eq n) es)) (eq-eqb n e.0 (sym here));
       player = (and_parts (is_player_kind e.1.kind) (list_any (str_eq_ignore_ascii_case name) e.1.names) yes).0;
+      named = (and_parts (is_player_kind e.1.kind) (list_any (str_eq_ignore_ascii_case name) e.1.names) yes).1;
     })
     (λ past.
     let more = found-in name n (e.0 + 1) high es rising.1 (sym (ap (λ (b : Bool). option_map (λ (x : ℕ × Record). x.0) (cond b (Some e) rest)) past) ∙ is) in
@@ -137,6 +139,7 @@ found-in name n low high (e ∷ es) rising is =
       r = more.r;
       at = ap (λ (b : Bool). cond b (Some e.1) (lookup (nat_eq n) es)) (ne_eqb n e.0 apart) ∙ more.at;
       player = more.player;
+      named = more.named;
     })
   where
     test : Bool

@@ -3,8 +3,8 @@ use Rattle.std.proofs.Common.{◌≡◌, ◌≢◌, ℕ, zero, suc, ◌+◌, ◌
 use Rattle.std.specs.Prelude.{nat_eq}
 use Rattle.std.specs.Option.{option_map_or}
 use Rattle.std.specs.List.{list_all}
-use Rattle.std.specs.Map.{lookup, set_value}
-use Rattle.std.proofs.lemmas.Bool.{eqb-true, ne_eqb}
+use Rattle.std.specs.Map.{lookup, set_value, remove_entry}
+use Rattle.std.proofs.lemmas.Bool.{eqb-true, eq-eqb, ne_eqb}
 use Rattle.mud_key.specs.Tree.{Tree, asks_of}
 use Rattle.mud_world.specs.declared.record.Record.{Record}
 use Rattle.mud_world.specs.State.{State, key_of, nests}
@@ -113,3 +113,25 @@ list_all-set_value p n r old (e ∷ es) at same =
     (λ past.
     ap (λ b. list_all (λ e. p e.1) (cond b ((e.0, r) ∷ es) (e ∷ set_value (nat_eq n) es r))) past
     ∙ ap (λ b. p e.1 && b) (list_all-set_value p n r old es (sym (ap (λ b. cond b (Some e.1) (lookup (nat_eq n) es)) past) ∙ at) same))
+
+-- ---- a record that stands behind others that rise
+behind-low : (low high k : ℕ) (v : Record) (es fs : List (ℕ × Record)) → IsRising low (es ++ (k, v) ∷ fs) high → low ≤ k
+behind-low low high k v [] fs rises = rises.0
+behind-low low high k v (e ∷ es) fs rises = let rest = behind-low (e.0 + 1) high k v es fs rises.1 in omega (arith, rest, rises.0)
+
+pub behind-missing : (low high k : ℕ) (v : Record) (es fs : List (ℕ × Record)) → IsRising low (es ++ (k, v) ∷ fs) high → lookup (nat_eq k) es ≡ None
+behind-missing low high k v [] fs rises = refl
+behind-missing low high k v (e ∷ es) fs rises =
+    let above = behind-low (e.0 + 1) high k v es fs rises.1 in
+    ap (λ b. cond b (Some e.1) (lookup (nat_eq k) es)) (ne_eqb k e.0 (λ same. omega (arith, above, same)))
+    ∙ behind-missing (e.0 + 1) high k v es fs rises.1
+
+-- what was put behind the others goes again
+pub remove-last : (n : ℕ) (r : Record) (es : List (ℕ × Record)) → lookup (nat_eq n) es ≡ None → remove_entry (nat_eq n) (es ++ (n, r) ∷ []) ≡ es
+remove-last n r [] gone = ap (λ b. cond b [] ((n, r) ∷ [])) (eq-eqb n n refl)
+remove-last n r (e ∷ es) gone =
+    bool_cases (nat_eq n e.0)
+    (λ here. let bad : Some e.1 ≡ None = sym (ap (λ b. cond b (Some e.1) (lookup (nat_eq n) es)) here) ∙ gone in cc)
+    (λ past.
+    ap (λ b. cond b (es ++ (n, r) ∷ []) (e ∷ remove_entry (nat_eq n) (es ++ (n, r) ∷ []))) past
+    ∙ ap (λ v. e ∷ v) (remove-last n r es (sym (ap (λ b. cond b (Some e.1) (lookup (nat_eq n) es)) past) ∙ gone)))

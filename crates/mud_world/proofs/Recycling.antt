@@ -48,6 +48,7 @@ CanRemove-recycle w a n legal =
     let none_holds = nothing_fails w (record { actor = a; deed = Recycle n }) legal in
     record {
       there = not-false _ (or_parts _ _ none_holds.0).1;
+      no_player = (or_parts _ _ none_holds.1.0).1;
       other = λ e. true≢false (sym (eq-eqb n 0 e) ∙ (or_parts _ _ none_holds.1.1.1.1.1.1.1.1.1.1.1.1.1.0).0);
       unused = λ m r at. off n r.kind (none-needs (λ r. kind_needs n r.kind) w.objects (or_parts _ _ none_holds.1.1.1.1.1.1.1.1.1.1.1.1.1.0).1 m r at);
     }
@@ -57,10 +58,10 @@ abbrev pub with_this_cost : ℕ → Record → Record
 with_this_cost cost r = record r { kind = kind_costing cost r.kind }
 
 pub links-cost : (cost : ℕ) (k : Kind) → SameLinks (kind_costing cost k) k
-links-cost cost Room = record { place = refl; source = refl }
-links-cost cost (Exit p) = record { place = refl; source = refl }
-links-cost cost (Thing p) = record { place = refl; source = refl }
-links-cost cost (Player p) = record { place = refl; source = refl }
+links-cost cost Room = record { place = refl; source = refl; destination = refl }
+links-cost cost (Exit p) = record { place = refl; source = refl; destination = refl }
+links-cost cost (Thing p) = record { place = refl; source = refl; destination = refl }
+links-cost cost (Player p) = record { place = refl; source = refl; destination = refl }
 
 same-room : (cost : ℕ) (k : Kind) → is_room_kind (kind_costing cost k) ≡ is_room_kind k
 same-room cost Room = refl
@@ -80,7 +81,7 @@ same-player cost (Exit p) place e = absurd (let bad : false ≡ true = ap is_pla
 same-player cost (Thing p) place e = absurd (let bad : Thing p ≡ Player place = e in cc)
 same-player cost (Player p) place e = e
 
-kind-player : (cost : ℕ) (k : Kind) → is_player_kind (kind_costing cost k) ≡ is_player_kind k
+pub kind-player : (cost : ℕ) (k : Kind) → is_player_kind (kind_costing cost k) ≡ is_player_kind k
 kind-player cost Room = refl
 kind-player cost (Exit p) = refl
 kind-player cost (Thing p) = refl

@@ -53,15 +53,17 @@ IsOff n (Exit p) = (p.source ≢ n) × (p.destination ≢ n)
 IsOff n (Thing place) = place ≢ n
 IsOff n (Player place) = place ≢ n
 
--- object n exists, is not the hall, and nothing lies in it or has an end at it
+-- object n exists, is neither a player nor the hall, and nothing lies in it or has an end at it
 pub record CanRemove (w : State) (n : ℕ) : Type 0 where
   pub there : IsTrue (exists w n)
+  pub no_player : is_player w n ≡ false
   pub other : n ≢ 0
   pub unused : (m : ℕ) (r : Record) → record_at w m ≡ Some r → IsOff n r.kind
 
--- the world is a sound one to which an object was added
+-- the world is a sound one to which an object was added that is no player
 pub record IsGrown (w : State) : Type 0 where
   pub before : State
   pub object : Record
   pub sound : IsSound before
+  pub no_player : is_player_kind object.kind ≡ false
   pub is : w ≡ with_new before (object ∷ [])

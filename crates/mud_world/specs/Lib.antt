@@ -11,8 +11,10 @@ pub mod Refusals
 pub mod Speech
 pub mod Going
 pub mod Numbers
-pub mod Slots
+pub mod Edits
+pub mod Bearing
 pub mod Nesting
+pub mod Climbing
 pub mod Laws
 pub mod Inside
 pub mod History

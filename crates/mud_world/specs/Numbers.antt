@@ -1,14 +1,6 @@
 -- Rising lists of numbers, and what keeps them rising.
-use Rattle.std.specs.Prelude.{ℕ, ◌+◌, ◌≤◌, not, nat_eq, nat_lt, List, [], ◌∷◌, filter, if◌then◌else◌}
-
--- with n before the first that is above it
-abbrev pub inserted : ℕ → List ℕ → List ℕ
-inserted n [] = n ∷ []
-inserted n (x ∷ xs) = if nat_lt n x then n ∷ x ∷ xs else x ∷ inserted n xs
-
--- without n
-abbrev pub without : ℕ → List ℕ → List ℕ
-without n xs = filter (λ x. not (nat_eq x n)) xs
+use Rattle.std.specs.Prelude.{ℕ, ◌+◌, ◌≤◌, List, [], ◌∷◌}
+pub use Rattle.mud_lists.specs.Rising.{inserted, without}
 
 -- the numbers rise, from low on
 abbrev pub IsRisingFrom : ℕ → List ℕ → Type 0

@@ -5,7 +5,7 @@ ghost use Rattle.mud_world.specs.Sound.{IsSound};
 ghost use Rattle.mud_world.specs.Legal.{refusal, moved, after, keyed, renamed};
 ghost use Rattle.mud_world.specs.Going.{CanGo, CanKey, CanName};
 
-use crate::slots::{Slot, add_slot, forget, relocate_in, set_cost, set_key, set_names};
+use crate::maps::{forget, rekey, relocate_in, rename_in, set_cost, unkey};
 use crate::world::World;
 use crate::{Change, Deed, Doors, Kind, Passage, Record, Target};
 use mud_key::{Key, Name, Names};
@@ -18,7 +18,13 @@ impl World {
         ensures ok { OnOk result (self.new ≡ moved self.old object to) }
         ensures err { OnErr result (self.new ≡ self.old) }
     {
-        relocate_in(&mut self.slots, object, from, to)
+        relocate_in(
+            &mut self.records,
+            &mut self.links.contents,
+            object,
+            from,
+            to,
+        )
     }
 
     // The actor goes to where the exit leads.
@@ -70,11 +76,20 @@ impl World {
     }
 
     // Gives an object another key, or none.
-    fn set_key(&mut self, object: u32, key: Option<Key>)
+    fn set_key(&mut self, object: u32, key: Option<Key>) -> Result<(), AllocError>
         requires { CanKey self.old object key }
-        ensures { self.new ≡ keyed self.old object key }
+        ensures ok { OnOk result (self.new ≡ keyed self.old object key) }
+        ensures err { OnErr result (self.new ≡ self.old) }
     {
-        set_key(&mut self.slots, object, key);
+        rekey(&mut self.records, &mut self.askers, object, key)
+    }
+
+    // Takes the key of an object away.
+    fn drop_key(&mut self, object: u32)
+        requires { CanKey self.old object None }
+        ensures { self.new ≡ keyed self.old object None }
+    {
+        unkey(&mut self.records, &mut self.askers, object);
     }
 
     // The object gets a copy of the key.
@@ -86,8 +101,7 @@ impl World {
         ensures err { OnErr result (self.new ≡ self.old) }
     {
         let key = key.copy(self.alloc)?;
-        self.set_key(object, Some(key));
-        Ok(())
+        self.set_key(object, Some(key))
     }
 
     // The object has no key from then on.
@@ -96,7 +110,7 @@ impl World {
         ensures { self.new ≡ after self.old (record { actor = actor; deed = Deed.Unlock object }) }
     {
         self.is_sound();
-        self.set_key(object, None);
+        self.drop_key(object);
     }
 
     // The exit costs so much.
@@ -104,7 +118,7 @@ impl World {
         requires { refusal self.old (record { actor = actor; deed = Deed.Cost exit cost }) ≡ None }
         ensures { self.new ≡ after self.old (record { actor = actor; deed = Deed.Cost exit cost }) }
     {
-        set_cost(&mut self.slots, exit, cost);
+        set_cost(&mut self.records, exit, cost);
     }
 
     // A player in the hall, who owns himself.
@@ -125,11 +139,12 @@ impl World {
     }
 
     // Gives an object other names.
-    fn set_names(&mut self, object: u32, names: Names)
+    fn set_names(&mut self, object: u32, names: Names) -> Result<(), AllocError>
         requires { CanName self.old object names }
-        ensures { self.new ≡ renamed self.old object names }
+        ensures ok { OnOk result (self.new ≡ renamed self.old object names) }
+        ensures err { OnErr result (self.new ≡ self.old) }
     {
-        set_names(&mut self.slots, object, names);
+        rename_in(&mut self.records, &mut self.owners, object, names)
     }
 
     // The object gets a copy of the names.
@@ -141,8 +156,7 @@ impl World {
         ensures err { OnErr result (self.new ≡ self.old) }
     {
         let names = names.copy(self.alloc)?;
-        self.set_names(object, names);
-        Ok(())
+        self.set_names(object, names)
     }
 
     // The object is gone.
@@ -150,7 +164,7 @@ impl World {
         requires { refusal self.old (record { actor = actor; deed = Deed.Recycle object }) ≡ None }
         ensures { self.new ≡ after self.old (record { actor = actor; deed = Deed.Recycle object }) }
     {
-        forget(&mut self.slots, object);
+        forget(&mut self.records, &mut self.links, &mut self.askers, object);
     }
 
     /// Makes the world after a legal change (`after`). The only error is want of memory, and then

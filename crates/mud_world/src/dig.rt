@@ -5,7 +5,7 @@ ghost use Rattle.mud_world.specs.State.{State};
 ghost use Rattle.mud_world.specs.Legal.{refusal, after, with_new, new_record, new_exit, new_exits};
 ghost use Rattle.mud_world.specs.Going.{CanAdd, CanJoin, IsGrown};
 
-use crate::slots::{Slot, add_slot, forget};
+use crate::maps::{forget, grow};
 use crate::world::World;
 use crate::{Deed, Doors, Kind, Passage, Record, Target};
 use mud_key::Names;
@@ -18,13 +18,13 @@ impl World {
         ensures ok { OnOk result (self.new ≡ with_new self.old (object ∷ [])) }
         ensures err { OnErr result (self.new ≡ self.old) }
     {
-        let slot = Slot {
-            number: self.next,
+        grow(
+            &mut self.records,
+            &mut self.links,
+            &mut self.owners,
+            self.next,
             object,
-            contents: Vec::new(self.alloc),
-            leaving: Vec::new(self.alloc),
-        };
-        add_slot(&mut self.slots, slot)?;
+        )?;
         self.next += 1;
         Ok(())
     }
@@ -76,7 +76,7 @@ impl World {
         ensures { (w : State) (r : Record) → self.old ≡ with_new w (r ∷ []) → self.new ≡ w }
     {
         let last = self.next - 1;
-        forget(&mut self.slots, last);
+        forget(&mut self.records, &mut self.links, &mut self.askers, last);
         self.next = last;
     }
 

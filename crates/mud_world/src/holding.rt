@@ -1,14 +1,13 @@
 //! What an object carries, as a set of numbers, and what is unlocked for it.
 
 ghost use Rattle.std.specs.Prelude.{◌≡◌, ℕ, List, IfOk, OnOk, IsTrue, ◌↔◌, nat_eq};
-ghost use Rattle.mud_world.specs.State.{IsHolding, unlocked, Within, opens, holds_for};
-ghost use Rattle.mud_key.specs.Node.{key_of as tree_of};
+ghost use Rattle.mud_world.specs.State.{IsHolding, unlocked, Within};
 ghost use Rattle.std.specs.List.{list_any};
 ghost use Rattle.indexmap.specs.IndexSet.{insert_key, insert_all};
 
+use crate::locks::Bearer;
 use crate::world::World;
 use indexmap::IndexSet;
-use mud_key::{Node, Operator};
 use std::alloc::AllocError;
 use std::marker::Model;
 
@@ -84,38 +83,6 @@ impl World {
         Ok(Holding { members })
     }
 
-    // Whether the object exists, and has no key or one that is true with a level less.
-    #[cycle(carried_locks)]
-    fn opens_for(&self, holding: &Holding, object: u32, levels: u32) -> bool
-        ensures { result ≡ opens self.now levels (λ a. list_any (nat_eq a) holding.now) object }
-    {
-        match self.get(object) {
-            None => false,
-            Some(record) => match &record.key {
-                None => true,
-                Some(key) => levels > 0 && self.is_true_for(holding, key.node(), levels - 1),
-            },
-        }
-    }
-
-    // Whether the key is true for the one whose holding it is.
-    #[cycle(carried_locks)]
-    fn is_true_for(&self, holding: &Holding, node: &Node<u32>, levels: u32) -> bool
-        ensures { result ≡ holds_for self.now (λ a. list_any (nat_eq a) holding.now) (tree_of node.now) levels }
-    {
-        match node {
-            Node::Has(object) => holding.has(*object),
-            Node::Asks(object) => self.opens_for(holding, *object, levels),
-            Node::Not(key) => !self.is_true_for(holding, key, levels),
-            Node::Join(Operator::And, left, right) => {
-                self.is_true_for(holding, left, levels) && self.is_true_for(holding, right, levels)
-            }
-            Node::Join(Operator::Or, left, right) => {
-                self.is_true_for(holding, left, levels) || self.is_true_for(holding, right, levels)
-            }
-        }
-    }
-
     /// Whether an object is unlocked for the one whose holding it is: it exists and has no key, or
     /// its key is true. In a key an object is true where the holding has it, and `?x` where x is
     /// unlocked in turn; a recycled object is false in both forms, and nobody passes by rank (this
@@ -123,6 +90,6 @@ impl World {
     pub fn unlocked(&self, holding: &Holding, object: u32) -> bool
         ensures { (c : ℕ) → IsHolding self.now c holding.now → result ≡ unlocked self.now c object }
     {
-        self.opens_for(holding, object, 4)
+        self.opens(Bearer::Holder(holding), object, 4)
     }
 }

@@ -1,13 +1,14 @@
 //! What refuses a change.
 
-ghost use Rattle.std.specs.Prelude.{MatchResult, not, ◌≡◌, ℕ, ◌≤◌, [], ◌∷◌, Some, None, length};
+ghost use Rattle.std.specs.Prelude.{MatchResult, not, ◌||◌, ◌≡◌, ℕ, ◌≤◌, [], ◌∷◌, Some, None, length};
 ghost use Rattle.mud_world.specs.State.{is_taken, State, exists};
 ghost use Rattle.mud_key.specs.Node.{key_of as tree_of};
 ghost use Rattle.mud_world.specs.Legal.{in_use, is_full, is_bad_key, dug, actor_fails, deed_fails, refusal, fails};
 ghost use Rattle.mud_key.specs.Tree.{atoms_of};
 ghost use Rattle.std.specs.List.{list_any};
+ghost use Rattle.mud_world.specs.Kinds.{kind_needs};
+ghost use Rattle.mud_world.specs.Inside.{leaves, arrives, arriving_of};
 
-use crate::slots::{is_name_taken, is_needed, is_taken};
 use crate::speech::is_speech;
 use crate::world::World;
 use crate::{Change, Deed, Doors, Refusal, Target};
@@ -156,25 +157,55 @@ impl World {
         }
     }
 
+    // The exits that lead to it, by rising number.
+    fn arriving(&self, number: u32) -> &[u32]
+        ensures { result.now ≡ arriving_of self.now number }
+    {
+        self.links.arriving.get(number)
+    }
+
+    // Whether an exit leaves it or leads to it.
+    fn has_ends(&self, number: u32) -> bool
+        ensures { result ≡ (list_any (λ e. leaves number e.1) self.now.objects
+            || list_any (λ e. arrives number e.1) self.now.objects) }
+    {
+        !self.leaving(number).is_empty() || !self.arriving(number).is_empty()
+    }
+
+    // Whether something lies in it, or has an end at it.
+    fn is_needed(&self, number: u32) -> bool
+        ensures { result ≡ list_any (λ e. kind_needs number e.1.kind) self.now.objects }
+    {
+        !self.contents(number).is_empty() || self.has_ends(number)
+    }
+
     // Whether it is the hall, or something lies in it or has an end at it.
     fn in_use(&self, object: u32) -> bool
         ensures { result ≡ in_use self.now object }
     {
-        object == 0 || is_needed(&self.slots, object)
+        object == 0 || self.is_needed(object)
+    }
+
+    // Whether a player other than this one has the name.
+    fn is_held(&self, number: u32, name: &str) -> bool
+        ensures { result ≡ is_taken self.now number (name.now ∷ []) }
+    {
+        match self.owners.get(name) {
+            Some(owner) => owner != number,
+            None => false,
+        }
     }
 
     // Whether another player has one of the names.
     fn is_taken(&self, number: u32, names: &Names) -> bool
         ensures { result ≡ is_taken self.now number names.now }
     {
-        is_taken(&self.slots, number, names)
-    }
-
-    // Whether another player has the name.
-    fn is_name_taken(&self, number: u32, name: &Name) -> bool
-        ensures { result ≡ is_taken self.now number (name.now ∷ []) }
-    {
-        is_name_taken(&self.slots, number, name)
+        for name in names.list() {
+            if self.is_held(number, name.as_str()) {
+                return true;
+            }
+        }
+        false
     }
 
     // Whether this refuses a new player.
@@ -183,7 +214,7 @@ impl World {
     {
         match fault {
             Refusal::NoSuch => actor != self.next,
-            Refusal::NameTaken => self.is_name_taken(actor, name),
+            Refusal::NameTaken => self.is_held(actor, name.as_str()),
             Refusal::WorldFull => self.is_full(1),
             _ => false,
         }

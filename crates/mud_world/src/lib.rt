@@ -11,6 +11,7 @@
 //! | `contents`, `leaving`, `player_named` | the objects in it, the exits that leave it, a player |
 //! | `holds`, `carried`, `in_reach` | what lies within what, and what an actor reaches |
 //! | `unlocked` | whether an object is unlocked for one whose holding is given |
+//! | `judge` | for all objects at once whether they are unlocked for him |
 //! | `legal` | the refusal of least number whose condition holds, or none |
 //! | `apply` | the world after a legal change |
 //! | `copy` | an equal world |
@@ -29,19 +30,21 @@
 #![tactic(auto)]
 
 mod apply;
+mod askers;
 mod change;
 mod dig;
 mod holding;
+mod judged;
 pub mod laws;
 mod legal;
+mod links;
 mod locks;
+mod maps;
 mod nesting;
-mod numbers;
 mod questions;
 mod reach;
 mod record;
 mod refusal;
-mod slots;
 mod speech;
 mod world;
 

@@ -1,49 +1,111 @@
-//! Whether an object is unlocked for a candidate, without a set of what he carries.
+//! Whether a key is true for the one who meets it, and whether an object opens for him.
 
-ghost use Rattle.std.specs.Prelude.{◌≡◌};
-ghost use Rattle.mud_world.specs.State.{unlocked, within, opens, holds_for};
+ghost use Rattle.std.specs.Prelude.{◌≡◌, true, false, is_none, slice_index_or};
+ghost use Rattle.std.specs.Option.{option_map_or};
 ghost use Rattle.mud_key.specs.Node.{key_of as tree_of};
+ghost use Rattle.mud_world.specs.Truth.{key_true};
+ghost use Rattle.mud_world.specs.State.{has, opens, unlocked};
+ghost use Rattle.mud_world.specs.Bearing.{has_for, asked_for};
 
+use crate::holding::Holding;
 use crate::world::World;
 use mud_key::{Node, Operator};
 
+// Who meets a key.
+#[derive(Clone, Copy)]
+pub(crate) enum Bearer<'a> {
+    // The object of this number.
+    Number(u32),
+    // The one whose holding this is.
+    Holder(&'a Holding),
+}
+
+// What answers the questions of a key.
+#[derive(Clone, Copy)]
+pub(crate) enum Asked<'a> {
+    // The keys of what is asked, with so many levels left.
+    Levels(u32),
+    // For each number whether its object opens.
+    Answers(&'a [bool]),
+}
+
+// The answer of a number; no past the last.
+fn answer(answers: &[bool], number: u32) -> bool
+    ensures { result ≡ slice_index_or answers.now number false }
+{
+    matches!(answers.get(number as usize), Some(true))
+}
+
 impl World {
-    // Whether the object exists, and has no key or one that is true with a level less.
+    // Whether the object is the bearer, or lies within him.
+    fn has(&self, bearer: Bearer<'_>, object: u32) -> bool
+        ensures { result ≡ has_for self.now bearer.entry object }
+    {
+        match bearer {
+            Bearer::Number(number) => self.holds(number, object),
+            Bearer::Holder(holding) => holding.has(object),
+        }
+    }
+
+    // Whether the key is true for the bearer.
     #[cycle(locks)]
-    fn opens(&self, candidate: u32, object: u32, levels: u32) -> bool
-        ensures { result ≡ opens self.now levels (λ a. within self.now a candidate) object }
+    fn is_true(&self, bearer: Bearer<'_>, asked: Asked<'_>, node: &Node<u32>) -> bool
+        ensures { result ≡ key_true (has_for self.now bearer.entry)
+            (asked_for self.now (has_for self.now bearer.entry) asked.entry) (tree_of node.now) }
+    {
+        match node {
+            Node::Has(object) => self.has(bearer, *object),
+            Node::Asks(object) => match asked {
+                Asked::Levels(levels) => self.opens(bearer, *object, levels),
+                Asked::Answers(answers) => answer(answers, *object),
+            },
+            Node::Not(key) => !self.is_true(bearer, asked, key),
+            Node::Join(Operator::And, left, right) => {
+                self.is_true(bearer, asked, left) && self.is_true(bearer, asked, right)
+            }
+            Node::Join(Operator::Or, left, right) => {
+                self.is_true(bearer, asked, left) || self.is_true(bearer, asked, right)
+            }
+        }
+    }
+
+    // Whether the object exists and has no key.
+    pub(crate) fn is_keyless(&self, object: u32) -> bool
+        ensures { result ≡ has self.now object (λ r. is_none r.key) }
+    {
+        matches!(self.get(object), Some(record) if record.key.is_none())
+    }
+
+    // Whether the object exists, and has no key or one that is true for the bearer.
+    #[cycle(locks)]
+    pub(crate) fn lets_in(&self, bearer: Bearer<'_>, asked: Asked<'_>, object: u32) -> bool
+        ensures { result ≡ has self.now object (λ r. option_map_or (key_true (has_for self.now bearer.entry)
+            (asked_for self.now (has_for self.now bearer.entry) asked.entry)) r.key true) }
     {
         match self.get(object) {
             None => false,
             Some(record) => match &record.key {
                 None => true,
-                Some(key) => levels > 0 && self.is_true(candidate, key.node(), levels - 1),
+                Some(key) => self.is_true(bearer, asked, key.node()),
             },
         }
     }
 
-    // Whether the key is true for the candidate.
+    // Whether the object opens for the bearer, with so many levels of questions.
     #[cycle(locks)]
-    fn is_true(&self, candidate: u32, node: &Node<u32>, levels: u32) -> bool
-        ensures { result ≡ holds_for self.now (λ a. within self.now a candidate) (tree_of node.now) levels }
+    pub(crate) fn opens(&self, bearer: Bearer<'_>, object: u32, levels: u32) -> bool
+        ensures { result ≡ opens self.now levels (has_for self.now bearer.entry) object }
     {
-        match node {
-            Node::Has(object) => self.holds(candidate, *object),
-            Node::Asks(object) => self.opens(candidate, *object, levels),
-            Node::Not(key) => !self.is_true(candidate, key, levels),
-            Node::Join(Operator::And, left, right) => {
-                self.is_true(candidate, left, levels) && self.is_true(candidate, right, levels)
-            }
-            Node::Join(Operator::Or, left, right) => {
-                self.is_true(candidate, left, levels) || self.is_true(candidate, right, levels)
-            }
+        if levels == 0 {
+            return self.is_keyless(object);
         }
+        self.lets_in(bearer, Asked::Levels(levels - 1), object)
     }
 
     // Whether the object is unlocked for the candidate.
     pub(crate) fn is_open(&self, candidate: u32, object: u32) -> bool
         ensures { result ≡ unlocked self.now candidate object }
     {
-        self.opens(candidate, object, 4)
+        self.opens(Bearer::Number(candidate), object, 4)
     }
 }

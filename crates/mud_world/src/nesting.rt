@@ -4,29 +4,59 @@ ghost use Rattle.std.specs.Prelude.{true, ◌≡◌};
 ghost use Rattle.mud_world.specs.State.{nests, all_nest, key_of};
 ghost use Rattle.mud_key.specs.Node.{key_of as tree_of};
 ghost use Rattle.mud_world.specs.Legal.{locked};
+ghost use Rattle.mud_world.specs.Climbing.{askers_of, climbs};
 ghost use Rattle.std.specs.Option.{option_map_or};
 
 use crate::world::World;
 use mud_key::{Key, Node};
 
 impl World {
-    // Whether each key nests at most 3, where this is the key of the object.
+    // Whether so many questions, one after the other, lead to the object.
+    fn climbs(&self, object: u32, count: u32) -> bool
+        ensures { result ≡ climbs self.now count object }
+    {
+        if count == 0 {
+            return true;
+        }
+        for asker in self.askers_of(object) {
+            if self.climbs(*asker, count - 1) {
+                return true;
+            }
+        }
+        false
+    }
+
+    // The objects whose keys ask the object, by rising number.
+    fn askers_of(&self, object: u32) -> &[u32]
+        ensures { result.now ≡ askers_of self.now object }
+    {
+        self.askers.get(object)
+    }
+
+    // Whether each key nests at most 3, where this is the key of the object. Only the key itself is
+    // followed downwards, and from the object the questions that lead to it upwards; the other keys
+    // of the world are as they were.
     pub(crate) fn all_nest_with(&self, object: u32, key: &Key) -> bool
         ensures { result ≡ all_nest (locked self.now object key.now) }
     {
-        for slot in &self.slots {
-            let own = if slot.number == object {
-                Some(key)
-            } else {
-                slot.object.key.as_ref()
-            };
-            if let Some(own) = own {
-                if !self.nests_with(object, key, own.node(), 3) {
-                    return false;
-                }
-            }
+        self.is_sound();
+        let node = key.node();
+        if !self.exists(object) {
+            return true;
         }
-        true
+        if self.nests_with(object, key, node, 0) {
+            return true;
+        }
+        if self.nests_with(object, key, node, 1) {
+            return !self.climbs(object, 3);
+        }
+        if self.nests_with(object, key, node, 2) {
+            return !self.climbs(object, 2);
+        }
+        if self.nests_with(object, key, node, 3) {
+            return !self.climbs(object, 1);
+        }
+        false
     }
 
     // Whether a key nests at most so much, where `key` is the key of the object.

@@ -4,9 +4,12 @@ ghost use Rattle.std.specs.Prelude.{codes, ◌≡◌, [], ◌∷◌, IfOk, IfSom
 ghost use Rattle.mud_world.specs.State.{named_player, is_player, State, record_at, contents_of, leaving_of};
 ghost use Rattle.mud_world.specs.Sound.{IsSound};
 
-use crate::slots::{Slot, copy_slots, find_slot, named_player};
-use crate::{Kind, Passage, Record};
+use crate::links::Links;
+use crate::maps::{copy_records, grow};
+use crate::{Kind, Record};
+use indexmap::IndexMap;
 use mud_key::{Names, NamesFault};
+use mud_lists::{Lists, Owners};
 use std::alloc::{AllocError, Global};
 use std::marker::Model;
 
@@ -38,11 +41,31 @@ fn wizard_names(alloc: Global) -> Result<Names, AllocError>
 /// start, places and the ends of exits are of the kinds that they must be, costs are at most
 /// 10,000, no two players share a name, players have no key, and each key is within the limits of
 /// keys and nests at most 3.
-#[derive(Drop)]
 pub struct World {
     pub(crate) alloc: Global,
-    pub(crate) slots: Vec<Slot>,
+    pub(crate) records: IndexMap<u32, Record>,
+    pub(crate) links: Links,
+    pub(crate) askers: Lists,
+    pub(crate) owners: Owners,
     pub(crate) next: u32,
+}
+
+// Written out: where a world goes, a proof then has one step, and not one for each map.
+impl Drop for World {
+    fn drop(self) {
+        let World {
+            alloc: _,
+            records,
+            links,
+            askers,
+            owners,
+            next: _,
+        } = self;
+        drop(records);
+        drop(links);
+        drop(askers);
+        drop(owners);
+    }
 }
 
 impl Model for World {
@@ -83,24 +106,17 @@ impl World {
             kind: Kind::Player { place: 0 },
             key: None,
         };
-        let mut contents = Vec::with_capacity(alloc, 1)?;
-        contents.push(1)?;
-        let mut slots = Vec::with_capacity(alloc, 2)?;
-        slots.push(Slot {
-            number: 0,
-            object: hall,
-            contents,
-            leaving: Vec::new(alloc),
-        })?;
-        slots.push(Slot {
-            number: 1,
-            object: wizard,
-            contents: Vec::new(alloc),
-            leaving: Vec::new(alloc),
-        })?;
+        let mut records = IndexMap::new(alloc);
+        let mut links = Links::new(alloc);
+        let mut owners = Owners::new(alloc);
+        grow(&mut records, &mut links, &mut owners, 0, hall)?;
+        grow(&mut records, &mut links, &mut owners, 1, wizard)?;
         Ok(World {
             alloc,
-            slots,
+            records,
+            links,
+            askers: Lists::new(alloc),
+            owners,
             next: 2,
         })
     }
@@ -111,8 +127,11 @@ impl World {
     pub fn get(&self, number: u32) -> Option<&Record>
         ensures { option_copied result ≡ record_at self.now number }
     {
-        let at = find_slot(&self.slots, number)?;
-        Some(&self.slots[at].object)
+        // as long as nothing was recycled, a record stands at its number
+        match self.records.get_index(number as usize) {
+            Some((at, record)) if *at == number => Some(record),
+            _ => self.records.get(&number),
+        }
     }
 
     /// The number that the next new object gets, 2 to 8,192; at 8,192 the world is full.
@@ -127,7 +146,7 @@ impl World {
     pub(crate) fn is_sound(&self)
         ensures { IsSound self.now }
     {
-        let _ = &self.slots;
+        let _ = &self.records;
     }
 
     /// The objects whose place it is, by rising number (LambdaMOO Programmer's Manual, "Fundamental
@@ -135,20 +154,14 @@ impl World {
     pub fn contents(&self, number: u32) -> &[u32]
         ensures { result.now ≡ contents_of self.now number }
     {
-        match find_slot(&self.slots, number) {
-            Some(at) => self.slots[at].contents.as_slice(),
-            None => &[],
-        }
+        self.links.contents.get(number)
     }
 
     /// The exits whose source it is, by rising number (this project's profile).
     pub fn leaving(&self, number: u32) -> &[u32]
         ensures { result.now ≡ leaving_of self.now number }
     {
-        match find_slot(&self.slots, number) {
-            Some(at) => self.slots[at].leaving.as_slice(),
-            None => &[],
-        }
+        self.links.leaving.get(number)
     }
 
     /// The player who has this name, ASCII case ignored. There is at most one (this project's
@@ -164,17 +177,23 @@ impl World {
     fn find_player(&self, name: &str) -> Option<u32>
         ensures { result ≡ named_player self.now name.now }
     {
-        named_player(&self.slots, name)
+        self.owners.get(name)
     }
 
     /// An equal world, that changes by itself from then on. Only want of memory is an error.
     pub fn copy(&self) -> Result<World, AllocError>
         ensures { IfOk result (λ w. w ≡ self.now) }
     {
-        let slots = copy_slots(&self.slots, self.alloc)?;
+        let records = copy_records(&self.records, self.alloc)?;
+        let links = self.links.copy()?;
+        let askers = self.askers.copy()?;
+        let owners = self.owners.copy()?;
         Ok(World {
             alloc: self.alloc,
-            slots,
+            records,
+            links,
+            askers,
+            owners,
             next: self.next,
         })
     }

@@ -2,4 +2,6 @@ use Rattle.mud_check.proofs.Trials.{no-fault}
 use Rattle.mud_check.proofs.finding.world_at.Goals as goal
 
 pub unreachable-requires : goal.unreachable-requires
-unreachable-requires c = no-fault c.args.entries.now c.args.version c.in-Err.fault c.requires.legal c.in-Err.ensures.err c.in_default.not-OutOfMemory
+unreachable-requires c =
+    no-fault c.args.entries.now c.args.version c.in-Err.fault c.requires.legal c.in-Err.ensures.err
+    c.in_default.not-OutOfMemory

@@ -5,7 +5,8 @@ use Rattle.mud_chron.proofs.fields.names.Goals as goal
 
 pub returns-in-Ok : goal.returns-in-Ok
 returns-in-Ok c = λ names h is.
-    let both : ◌≡◌ {A = Option (List (List ℕ))} (Some c.in-Ok.names) (Some names) = sym c.in-Ok.ensures.finds ∙ ap names_in is ∙ names_again names h in
+    let both : ◌≡◌ {A = Option (List (List ℕ))} (Some c.in-Ok.names) (Some names) =
+    sym c.in-Ok.ensures.finds ∙ ap names_in is ∙ names_again names h in
     cc
 
 pub returns-in-Err-BadName : goal.returns-in-Err-BadName

@@ -12,7 +12,9 @@ returns-in_err-front-clause-found c = λ n rest le is.
 pub returns-in_err-object-clause-found : goal.returns-in_err-object-clause-found
 returns-in_err-object-clause-found c = λ n rest le is.
     let p = err_from_is_err_and c.from_residual-in_err-object.result c.from_residual-in_err-object.ensures.1 in
-    rw p.1 (p.2 ∙ c.in_err-object.ensures.found n le (c.in_ok-front.ensures (number_text n) rest (number_lacks n le) (is ∙ spaced (number_text n) rest)).0)
+    rw p.1 (p.2
+    ∙ c.in_err-object.ensures.found n le
+    (c.in_ok-front.ensures (number_text n) rest (number_lacks n le) (is ∙ spaced (number_text n) rest)).0)
 
 pub returns-clause-found : goal.returns-clause-found
 returns-clause-found c = λ n rest le is.

@@ -9,13 +9,16 @@ use Rattle.mud_chron.proofs.guess.guess.Goals as goal
 pub returns-in_err-rest : goal.returns-in_err-rest
 returns-in_err-rest c = λ version e fits h is.
     let p = err_from_is_err_and c.from_residual.result c.from_residual.ensures.1 in
-    rw p.1 (p.2 ∙ c.in_err-rest.ensures (decimal version) (decimal e.desk ++ 32 ∷ change_text e.change) (decimal_spaceless version (omega arith)) (is ∙ line_shape version e))
+    rw p.1 (p.2
+    ∙ c.in_err-rest.ensures (decimal version) (decimal e.desk ++ 32 ∷ change_text e.change)
+    (decimal_spaceless version (omega arith)) (is ∙ line_shape version e))
 
 pub returns-in_err-desk : goal.returns-in_err-desk
 returns-in_err-desk c = λ version e fits h is.
     let p = err_from_is_err_and c.from_residual-in_err-desk.result c.from_residual-in_err-desk.ensures.1 in
     let s = h.spellable in
-    let a = c.in_ok-rest.ensures (decimal version) (decimal e.desk ++ 32 ∷ change_text e.change) (decimal_spaceless version (omega arith)) (is ∙ line_shape version e) in
+    let a = c.in_ok-rest.ensures (decimal version) (decimal e.desk ++ 32 ∷ change_text e.change)
+    (decimal_spaceless version (omega arith)) (is ∙ line_shape version e) in
     let high = s.desk_to in
     let lacks = decimal_spaceless e.desk (omega (arith, high)) in
     rw p.1 (p.2 ∙ c.in_err-desk.ensures (decimal e.desk) (change_text e.change) lacks a.1)
@@ -24,7 +27,8 @@ pub returns-in_err-desk-2 : goal.returns-in_err-desk-2
 returns-in_err-desk-2 c = λ version e fits h is.
     let p = err_from_is_err_and c.from_residual-in_err-desk-2.result c.from_residual-in_err-desk-2.ensures.1 in
     let s = h.spellable in
-    let a = c.in_ok-rest.ensures (decimal version) (decimal e.desk ++ 32 ∷ change_text e.change) (decimal_spaceless version (omega arith)) (is ∙ line_shape version e) in
+    let a = c.in_ok-rest.ensures (decimal version) (decimal e.desk ++ 32 ∷ change_text e.change)
+    (decimal_spaceless version (omega arith)) (is ∙ line_shape version e) in
     let high = s.desk_to in
     let lacks = decimal_spaceless e.desk (omega (arith, high)) in
     let b = c.in_ok-desk.ensures (decimal e.desk) (change_text e.change) lacks a.1 in
@@ -34,7 +38,8 @@ pub returns-in_err-change : goal.returns-in_err-change
 returns-in_err-change c = λ version e fits h is.
     let p = err_from_is_err_and c.from_residual-in_err-change.result c.from_residual-in_err-change.ensures.1 in
     let s = h.spellable in
-    let a = c.in_ok-rest.ensures (decimal version) (decimal e.desk ++ 32 ∷ change_text e.change) (decimal_spaceless version (omega arith)) (is ∙ line_shape version e) in
+    let a = c.in_ok-rest.ensures (decimal version) (decimal e.desk ++ 32 ∷ change_text e.change)
+    (decimal_spaceless version (omega arith)) (is ∙ line_shape version e) in
     let high = s.desk_to in
     let lacks = decimal_spaceless e.desk (omega (arith, high)) in
     let b = c.in_ok-desk.ensures (decimal e.desk) (change_text e.change) lacks a.1 in
@@ -43,7 +48,8 @@ returns-in_err-change c = λ version e fits h is.
 pub returns : goal.returns
 returns c = λ version e fits h is.
     let s = h.spellable in
-    let a = c.in_ok-rest.ensures (decimal version) (decimal e.desk ++ 32 ∷ change_text e.change) (decimal_spaceless version (omega arith)) (is ∙ line_shape version e) in
+    let a = c.in_ok-rest.ensures (decimal version) (decimal e.desk ++ 32 ∷ change_text e.change)
+    (decimal_spaceless version (omega arith)) (is ∙ line_shape version e) in
     let high = s.desk_to in
     let lacks = decimal_spaceless e.desk (omega (arith, high)) in
     let b = c.in_ok-desk.ensures (decimal e.desk) (change_text e.change) lacks a.1 in

@@ -11,4 +11,5 @@ returns-in_err-names-clause-found c = λ names h is.
     rw p.1 (p.2 ∙ c.in_err-names.ensures [] names [] tt h (is ∙ sym (append-nil (quoted names))))
 
 pub returns-clause-found : goal.returns-clause-found
-returns-clause-found c = λ names h is. ap (λ n. Make n) (c.in_ok-names.ensures [] names [] tt h (is ∙ sym (append-nil (quoted names)))).0
+returns-clause-found c =
+    λ names h is. ap (λ n. Make n) (c.in_ok-names.ensures [] names [] tt h (is ∙ sym (append-nil (quoted names)))).0

@@ -4,4 +4,6 @@ use Rattle.mud_chron.proofs.Lines.{utf8_line}
 use Rattle.mud_chron.proofs.line.candidate.Goals as goal
 
 pub returns-in-Err : goal.returns-in-Err
-returns-in-Err c = λ version e fits is same. absurd (c.in-Err.ensures.cases.0 (subst IsUtf8 (sym same) (utf8_line version e (omega arith) is)))
+returns-in-Err c =
+    λ version e fits is same.
+    absurd (c.in-Err.ensures.cases.0 (subst IsUtf8 (sym same) (utf8_line version e (omega arith) is)))

@@ -5,11 +5,17 @@ use Rattle.mud_chron.proofs.replaying.replay.Goals as goal
 
 pub returns-in-Err-clause-err : goal.returns-in-Err-clause-err
 returns-in-Err-clause-err c =
-    let is : c.change-change.result.now ≡ (get_or c.args.entries.now c.loop-i.i c.index-entries-i.result).change = c.change-change.ensures.change ∙ ap (λ e. e.change) c.index-entries-i.is in
-    refused c.args.entries.now c.loop-i.i c.index-entries-i.result c.loop-i.world c.in-Err.field-0 (omega arith) c.loop-i.invariant.legal c.loop-i.invariant.world (ap (refusal c.loop-i.world) (sym is) ∙ c.in-Err.ensures)
+    let is : c.change-change.result.now ≡ (get_or c.args.entries.now c.loop-i.i c.index-entries-i.result).change =
+    c.change-change.ensures.change ∙ ap (λ e. e.change) c.index-entries-i.is in
+    refused c.args.entries.now c.loop-i.i c.index-entries-i.result c.loop-i.world c.in-Err.field-0
+    (omega arith) c.loop-i.invariant.legal c.loop-i.invariant.world
+    (ap (refusal c.loop-i.world) (sym is) ∙ c.in-Err.ensures)
 
 pub loop-i-preserved : goal.loop-i-preserved
 loop-i-preserved c =
-    let is : c.change-change.result.now ≡ (get_or c.args.entries.now c.loop-i.i c.index-entries-i.result).change = c.change-change.ensures.change ∙ ap (λ e. e.change) c.index-entries-i.is in
-    let g = grown c.args.entries.now c.loop-i.i c.index-entries-i.result c.loop-i.world (omega arith) c.loop-i.invariant.legal c.loop-i.invariant.world (ap (refusal c.loop-i.world) (sym is) ∙ c.in-Ok.ensures) in
+    let is : c.change-change.result.now ≡ (get_or c.args.entries.now c.loop-i.i c.index-entries-i.result).change =
+    c.change-change.ensures.change ∙ ap (λ e. e.change) c.index-entries-i.is in
+    let g = grown c.args.entries.now c.loop-i.i c.index-entries-i.result c.loop-i.world
+    (omega arith) c.loop-i.invariant.legal c.loop-i.invariant.world
+    (ap (refusal c.loop-i.world) (sym is) ∙ c.in-Ok.ensures) in
     record { legal = g.legal; world = c.in_ok-apply.ensures.ok ∙ ap (after c.loop-i.world) is ∙ g.world }

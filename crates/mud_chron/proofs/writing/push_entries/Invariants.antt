@@ -7,5 +7,6 @@ use Rattle.mud_chron.proofs.writing.push_entries.Given as goal
 abbrev pub invariant-loop-entry : goal.invariant-loop-entry
 invariant-loop-entry l = record {
   counted : l.version ≡ l.entry-index;
-  text : string_bytes l.out ++ entries_text (l.version + 1) (drop l.entry-index l.entries) ≡ string_bytes l.fn.out ++ entries_text 1 l.entries;
+  text : string_bytes l.out ++ entries_text (l.version + 1) (drop l.entry-index l.entries) ≡ string_bytes l.fn.out
+      ++ entries_text 1 l.entries;
 }

@@ -5,4 +5,6 @@ use Rattle.mud_chron.proofs.writing.push_others.Given as goal
 
 -- the names so far are there
 abbrev pub invariant-loop-name : goal.invariant-loop-name
-invariant-loop-name l = string_bytes l.out ≡ string_bytes l.fn.out ++ flat_map (λ name. codes "," ++ name) (map string_bytes (take l.name-index l.names))
+invariant-loop-name l =
+    string_bytes l.out ≡ string_bytes l.fn.out
+    ++ flat_map (λ name. codes "," ++ name) (map string_bytes (take l.name-index l.names))

@@ -12,5 +12,8 @@ returns-clause-ok c =
     c.in_ok-push_str-2.ensures.bytes
     ∙ ap (λ (x : List ℕ). old ++ x) (c.as_str.ensures.value
     ∙ c.in_ok-push_str.ensures.bytes
-    ∙ ap (λ (x : List ℕ). x ++ line_feed) (c.in_ok-push_end.ensures ∙ ap (λ (x : List ℕ). x ++ end) (c.in_ok-push_entries.ensures ∙ ap (λ (x : List ℕ). x ++ text) c.in_ok-text.ensures.ok))
+    ∙ ap (λ (x : List ℕ). x ++ line_feed)
+    (c.in_ok-push_end.ensures
+    ∙ ap (λ (x : List ℕ). x ++ end)
+    (c.in_ok-push_entries.ensures ∙ ap (λ (x : List ℕ). x ++ text) c.in_ok-text.ensures.ok))
     ∙ append_assoc (head ++ text) end line_feed)

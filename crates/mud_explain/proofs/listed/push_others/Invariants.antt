@@ -5,4 +5,5 @@ use Rattle.mud_explain.proofs.listed.push_others.Given as goal
 
 abbrev pub invariant-loop-text : goal.invariant-loop-text
 invariant-loop-text l =
-    string_bytes l.out ≡ string_bytes l.fn.out ++ flat_map (λ t. codes " " ++ bracketed t) (map string_bytes (take l.text-index l.texts))
+    string_bytes l.out ≡ string_bytes l.fn.out
+    ++ flat_map (λ t. codes " " ++ bracketed t) (map string_bytes (take l.text-index l.texts))

@@ -7,16 +7,42 @@ use Rattle.mud_row.proofs.Notes.{front_bound, name_beside, known_at, stands_at, 
 use Rattle.mud_row.proofs.pass.compare.Goals as goal
 
 pub index_mut-requires : goal.index_mut-requires
-index_mut-requires c = omega (arith, ap length c.loop-i.invariant.1, front_bound c.args.theirs_known c.args.theirs.now.items, c.requires.theirs_all, c.requires.within.1)
+index_mut-requires c =
+    omega (
+      arith,
+      ap length c.loop-i.invariant.1,
+      front_bound c.args.theirs_known
+          c.args.theirs.now.items,
+      c.requires.theirs_all,
+      c.requires.within.1,
+    )
 
 pub index_mut-requires-in-loop-i : goal.index_mut-requires-in-loop-i
-index_mut-requires-in-loop-i c = omega (arith, ap length c.loop-i.invariant.0, front_bound c.args.mine_known c.args.mine.now.items, c.requires.mine_all, c.requires.within.0)
+index_mut-requires-in-loop-i c =
+    omega (
+      arith,
+      ap length c.loop-i.invariant.0,
+      front_bound c.args.mine_known
+          c.args.mine.now.items,
+      c.requires.mine_all,
+      c.requires.within.0,
+    )
 
 pub compare-requires : goal.compare-requires
 compare-requires c =
-    let same : names_of c.loop-i.mine.items ≡ names_of c.loop-i.theirs.items = ap names_of c.loop-i.invariant.0 ∙ (c.requires.row ∙ sym (ap names_of c.loop-i.invariant.1)) in
-    ap (λ n. n.cell) c.again-copy.ensures.1 ∙ name_beside c.loop-i.mine.items c.loop-i.theirs.items c.loop-i.i c.index_mut-in-loop-i.result.now c.index_mut.result.now same
-    (omega (arith, ap length c.loop-i.invariant.0, front_bound c.args.mine_known c.args.mine.now.items, c.requires.mine_all, c.requires.within.0))
+    let same : names_of c.loop-i.mine.items ≡ names_of c.loop-i.theirs.items =
+    ap names_of c.loop-i.invariant.0 ∙ (c.requires.row ∙ sym (ap names_of c.loop-i.invariant.1)) in
+    ap (λ n. n.cell) c.again-copy.ensures.1
+    ∙ name_beside c.loop-i.mine.items c.loop-i.theirs.items c.loop-i.i c.index_mut-in-loop-i.result.now
+    c.index_mut.result.now same
+    (omega (
+      arith,
+      ap length c.loop-i.invariant.0,
+      front_bound c.args.mine_known
+          c.args.mine.now.items,
+      c.requires.mine_all,
+      c.requires.within.0,
+    ))
     c.index_mut-in-loop-i.ensures.value c.index_mut.ensures.value
 
 pub loop-i-preserved : goal.loop-i-preserved
@@ -26,14 +52,25 @@ loop-i-preserved c =
     let i = c.loop-i.i in
     let x = c.index_mut-in-loop-i.result.now in
     let y = c.index_mut.result.now in
-    let x_at : slice_get mine i ≡ x.known = known_at c.args.mine_known c.args.mine.now.items i x c.requires.mine_all (omega (arith, c.requires.within.0)) (c.index_mut-in-loop-i.ensures.value ∙ ap (λ xs. get_or xs i x) c.loop-i.invariant.0) in
-    let y_at : slice_get theirs i ≡ y.known = known_at c.args.theirs_known c.args.theirs.now.items i y c.requires.theirs_all (omega (arith, c.requires.within.1)) (c.index_mut.ensures.value ∙ ap (λ xs. get_or xs i y) c.loop-i.invariant.1) in
+    let x_at : slice_get mine i ≡ x.known =
+    known_at c.args.mine_known c.args.mine.now.items i x c.requires.mine_all (omega (arith, c.requires.within.0))
+    (c.index_mut-in-loop-i.ensures.value ∙ ap (λ xs. get_or xs i x) c.loop-i.invariant.0) in
+    let y_at : slice_get theirs i ≡ y.known =
+    known_at c.args.theirs_known c.args.theirs.now.items i y c.requires.theirs_all
+    (omega (arith, c.requires.within.1))
+    (c.index_mut.ensures.value ∙ ap (λ xs. get_or xs i y) c.loop-i.invariant.1) in
     let mine_has = stands_at mine i (omega (arith, c.requires.within.0, c.requires.mine_all)) in
     let theirs_has = stands_at theirs i (omega (arith, c.requires.within.1, c.requires.theirs_all)) in
     let P : Option Accepted → Type 0 = λ o. IfSome o (Agrees x.known) in
-    let agreed : IfSome y.known (Agrees x.known) = subst P (ap (λ n. n.known) c.again-copy.ensures.1) c.compare.ensures.1 in
-    let one : x.known ≡ y.known = notes_agree x.known y.known mine_has.0 theirs_has.0 (sym x_at ∙ mine_has.1) (sym y_at ∙ theirs_has.1) agreed in (
-      set_same c.loop-i.mine.items i x c.compare.new.self c.index_mut-in-loop-i.ensures.value c.compare.ensures.0 ∙ c.loop-i.invariant.0,
-      set_same c.loop-i.theirs.items i y c.again-copy.new.self c.index_mut.ensures.value c.again-copy.ensures.0 ∙ c.loop-i.invariant.1,
-      rw add-one (take_agree mine theirs i c.loop-i.invariant.2 (x_at ∙ (one ∙ sym y_at)) (omega (arith, c.requires.within.0, c.requires.mine_all))),
+    let agreed : IfSome y.known (Agrees x.known) =
+    subst P (ap (λ n. n.known) c.again-copy.ensures.1) c.compare.ensures.1 in
+    let one : x.known ≡ y.known =
+    notes_agree x.known y.known mine_has.0 theirs_has.0 (sym x_at ∙ mine_has.1) (sym y_at ∙ theirs_has.1) agreed in (
+      set_same c.loop-i.mine.items i x c.compare.new.self c.index_mut-in-loop-i.ensures.value c.compare.ensures.0
+          ∙ c.loop-i.invariant.0,
+      set_same c.loop-i.theirs.items i y c.again-copy.new.self c.index_mut.ensures.value c.again-copy.ensures.0
+          ∙ c.loop-i.invariant.1,
+      rw add-one
+          (take_agree mine theirs i c.loop-i.invariant.2 (x_at ∙ (one ∙ sym y_at))
+          (omega (arith, c.requires.within.0, c.requires.mine_all))),
     )

@@ -1,42 +1,65 @@
-use Rattle.std.proofs.Common.{◌≡◌, true, Some, ap, sym, ◌∙◌}
-use Rattle.std.proofs.lemmas.List.{take_all}
-use Rattle.std.proofs.lemmas.List.Folds.{list_all_at}
-use Rattle.std.specs.Option.{option_map_or, option_copied}
-use Rattle.std.specs.List.{list_all}
+use Rattle.std.proofs.Common.{◌∙◌, arith, ap, sym, refl, is_some, not}
 use Rattle.mud_world.specs.State.{nests}
 use Rattle.mud_world.specs.Legal.{locked}
-use Rattle.mud_world.proofs.Locking.{slot_key, slot_key-here, slot_key-past, all_nest-by_slots}
+use Rattle.mud_world.proofs.Records.{record_cases}
+use Rattle.std.proofs.lemmas.Bool.{true≢false}
+use Rattle.mud_world.specs.State.{record_at}
+use Rattle.mud_world.proofs.Keying.{found}
+use Rattle.mud_world.proofs.Climbing.{nest-plain, nest-exactly, nest-without, nest-missing}
 use Rattle.mud_world.proofs.world.World.all_nest_with.Goals as goal
-use Rattle.mud_world.proofs.world.World.all_nest_with.Goals.{then-slot-object, else-slot-object}
+
+pub returns-then-not-exists : goal.returns-then-not-exists
+returns-then-not-exists c =
+    let w = c.args.self.now in
+    record_cases (record_at w c.args.object)
+    (λ e. sym (nest-missing w c.is_sound.ensures c.args.object c.args.key.now e))
+    (λ r e. absurd (true≢false (sym (ap is_some e) ∙ sym c.exists.ensures ∙ c.if-not-exists.true)))
+
+pub returns-then-nests_with : goal.returns-then-nests_with
+returns-then-nests_with c =
+    let w = c.args.self.now in
+    let n = c.args.object in
+    let key = c.args.key.now in
+    let it = found w n (sym c.exists.ensures ∙ c.if-not-exists.false) in
+    sym (nest-plain w c.is_sound.ensures n it.0 it.1 key (ap (nests (locked w n key) 0) (sym c.node-node.ensures.node) ∙ sym c.nests_with.ensures ∙ c.if-nests_with.true))
+
+pub returns-then-nests_with-2 : goal.returns-then-nests_with-2
+returns-then-nests_with-2 c =
+    let w = c.args.self.now in
+    let n = c.args.object in
+    let key = c.args.key.now in
+    let it = found w n (sym c.exists.ensures ∙ c.if-not-exists.false) in
+    ap not c.climbs.ensures
+    ∙ sym (nest-exactly w c.is_sound.ensures n it.0 it.1 key 0 3 (omega arith) refl
+    (ap (nests (locked w n key) 1) (sym c.node-node.ensures.node) ∙ sym c.nests_with-2.ensures ∙ c.if-nests_with-2.true)
+    (ap (nests (locked w n key) 0) (sym c.node-node.ensures.node) ∙ sym c.nests_with.ensures ∙ c.if-nests_with.false))
+
+pub returns-then-nests_with-3 : goal.returns-then-nests_with-3
+returns-then-nests_with-3 c =
+    let w = c.args.self.now in
+    let n = c.args.object in
+    let key = c.args.key.now in
+    let it = found w n (sym c.exists.ensures ∙ c.if-not-exists.false) in
+    ap not c.climbs-then-nests_with-3.ensures
+    ∙ sym (nest-exactly w c.is_sound.ensures n it.0 it.1 key 1 2 (omega arith) refl
+    (ap (nests (locked w n key) 2) (sym c.node-node.ensures.node) ∙ sym c.nests_with-3.ensures ∙ c.if-nests_with-3.true)
+    (ap (nests (locked w n key) 1) (sym c.node-node.ensures.node) ∙ sym c.nests_with-2.ensures ∙ c.if-nests_with-2.false))
+
+pub returns-then-nests_with-4 : goal.returns-then-nests_with-4
+returns-then-nests_with-4 c =
+    let w = c.args.self.now in
+    let n = c.args.object in
+    let key = c.args.key.now in
+    let it = found w n (sym c.exists.ensures ∙ c.if-not-exists.false) in
+    ap not c.climbs-then-nests_with-4.ensures
+    ∙ sym (nest-exactly w c.is_sound.ensures n it.0 it.1 key 2 1 (omega arith) refl
+    (ap (nests (locked w n key) 3) (sym c.node-node.ensures.node) ∙ sym c.nests_with-4.ensures ∙ c.if-nests_with-4.true)
+    (ap (nests (locked w n key) 2) (sym c.node-node.ensures.node) ∙ sym c.nests_with-3.ensures ∙ c.if-nests_with-3.false))
 
 pub returns : goal.returns
 returns c =
-    let now = c.args.self.now in
+    let w = c.args.self.now in
     let n = c.args.object in
     let key = c.args.key.now in
-    let slots = c.self.inside.slots.items in
-    sym
-    (all_nest-by_slots now c.self.inside.next n key slots c.self.invariant.sound.rising c.self.view_is
-    ∙ ap (list_all (λ s. option_map_or (nests (locked now n key) 3) (slot_key n key s) true)) (sym c.deref-slot-items.ensures.value ∙ sym (take_all _ _ c.loop-slot-test.false))
-    ∙ c.loop-slot.invariant)
-
-pub returns-then-not-nests_with : goal.returns-then-not-nests_with
-returns-then-not-nests_with c =
-    let now = c.args.self.now in
-    let n = c.args.object in
-    let key = c.args.key.now in
-    let slots = c.self.inside.slots.items in
-    let item = c.slot-item.result in
-    let own : slot_key n key item ≡ Some c.in-Some.own.now =
-    elim c.if-slot-object.branch [
-      | then-slot-object w ↦ slot_key-here n key item w.if-slot-object.true ∙ ap option_copied (sym w.own-is ∙ c.in-Some.is)
-      | else-slot-object w ↦ slot_key-past n key item w.if-slot-object.false ∙ sym w.as_ref-own.ensures.value ∙ ap option_copied (sym w.own-is ∙ c.in-Some.is)
-    ] in
-    sym
-    (all_nest-by_slots now c.self.inside.next n key slots c.self.invariant.sound.rising c.self.view_is
-    ∙ ap (list_all (λ s. option_map_or (nests (locked now n key) 3) (slot_key n key s) true)) (sym c.deref-slot-items.ensures.value)
-    ∙ list_all_at (λ s. option_map_or (nests (locked now n key) 3) (slot_key n key s) true) c.deref-slot-items.result.now c.loop-slot.slot-index item c.loop-slot-test.true
-    (ap (λ s. option_map_or (nests (locked now n key) 3) (slot_key n key s) true) (sym c.slot-item.is)
-    ∙ ap (λ v. option_map_or (nests (locked now n key) 3) v true) own
-    ∙ ap (nests (locked now n key) 3) (sym c.node.ensures.node)
-    ∙ sym c.nests_with.ensures ∙ c.if-not-nests_with.true))
+    let it = found w n (sym c.exists.ensures ∙ c.if-not-exists.false) in
+    sym (nest-without w c.is_sound.ensures n it.0 it.1 key 3 (omega arith) (ap (nests (locked w n key) 3) (sym c.node-node.ensures.node) ∙ sym c.nests_with-4.ensures ∙ c.if-nests_with-4.false) refl)

@@ -1,0 +1,8 @@
+use Rattle.std.proofs.Common.{◌≡◌, ℕ, ◌<◌, false, length, get_or}
+use Rattle.std.specs.Prelude.{is_none}
+use Rattle.mud_world.specs.State.{has}
+use Rattle.mud_world.proofs.world.World.judge_plain.Given as goal
+
+-- those passed have their answers
+abbrev pub invariant-loop-object : goal.invariant-loop-object
+invariant-loop-object l = (length l.answers.items ≡ l.object) × ((k : ℕ) → k < l.object → get_or l.answers.items k false ≡ has l.self k (λ r. is_none r.key))

@@ -6,5 +6,7 @@ mod Entries
 mod Shown
 mod Party
 mod Replies
+mod Parts
 mod Rising
 pub mod Single
+pub mod Walked

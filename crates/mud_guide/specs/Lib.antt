@@ -7,3 +7,4 @@ pub mod Laws
 pub mod Arrivals
 pub mod Listings
 pub mod Gatherings
+pub mod Parts

@@ -1,21 +1,17 @@
 -- What the guide says; a line ends at the byte 10.
-use Rattle.std.specs.Prelude.{ℕ, List, [], ◌∷◌, ◌++◌, Option, None, Some, codes, decimal}
+use Rattle.std.specs.Prelude.{ℕ, List, ◌∷◌, ◌++◌, Option, None, Some, codes, decimal}
 use Rattle.std.specs.List.{flat_map}
 pub use Rattle.mud_key.specs.Printed.{number_text as object}
 use Rattle.mud_roads.specs.declared.label.Step.{Step}
 use Rattle.mud_cert.specs.declared.cert.Meeting.{Meeting}
 use Rattle.mud_guide.specs.Journeys.{Journey}
-use Rattle.mud_guide.specs.Ways.{cost_of}
-
--- a walk by its exits: `by #3 #5`, or `by nothing`
-abbrev pub walk_text : List Step → List ℕ
-walk_text [] = codes "by nothing"
-walk_text (s ∷ ss) = codes "by" ++ flat_map (λ x. codes " " ++ object x.exit) (s ∷ ss)
+use Rattle.mud_cert.specs.Text.{exits_text}
+use Rattle.mud_guide.specs.Ways.{exits_of, cost_of}
 
 -- ` cost 7 by #5 #6`, or ` no way`
 abbrev pub way_text : Option (List Step) → List ℕ
 way_text None = codes " no way"
-way_text (Some steps) = codes " cost " ++ (decimal (cost_of steps) ++ (codes " " ++ walk_text steps))
+way_text (Some steps) = codes " cost " ++ (decimal (cost_of steps) ++ (codes " by" ++ exits_text (exits_of steps)))
 
 -- `route #0 to #2 cost 7 by #5 #6`, or `route #0 to #2 no way`
 abbrev pub route_text : ℕ → Journey → List ℕ

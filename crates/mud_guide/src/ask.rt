@@ -13,7 +13,8 @@ ghost use Rattle.mud_guide.specs.Answers.{IsRouteAnswer, IsMeetAnswer};
 
 use crate::accounts::accounts_of;
 use crate::answer::Answer;
-use crate::journey::{Journey, journey_to, journeys_to};
+use crate::journey::{Journey, journey_to};
+use crate::lister::{Alone, Lister};
 use crate::meeting::meeting_place;
 use crate::texts::{meet_text, route_text};
 use crate::way::Way;
@@ -44,8 +45,8 @@ pub fn route_alone(
     route_by(alloc, world, version, &traveller, &labels, room)
 }
 
-// The same, from the least labels.
-fn route_by(
+// The route of a traveller, from his least labels.
+pub(crate) fn route_by(
     alloc: Global,
     world: &World,
     version: u32,
@@ -101,11 +102,22 @@ pub fn meet_alone(
 {
     let travellers = travellers_of(alloc, world, party)?;
     let labels = labels_alone(alloc, world, travellers.as_slice())?;
-    meet_by(alloc, world, version, travellers.as_slice(), &labels)
+    meet_by(
+        &Alone,
+        alloc,
+        world,
+        version,
+        travellers.as_slice(),
+        &labels,
+    )
 }
 
 // The travellers who are these players.
-fn travellers_of(alloc: Global, world: &World, party: &[u32]) -> Result<Vec<Traveller>, AllocError>
+pub(crate) fn travellers_of(
+    alloc: Global,
+    world: &World,
+    party: &[u32],
+) -> Result<Vec<Traveller>, AllocError>
     requires { All (λ p. IsTrue (is_player world.now p)) party.now }
     ensures travellers { IfOk result (λ ts. All (IsTraveller world.now) ts.items) }
     ensures players { IfOk result (λ ts. map (λ t. t.player) ts.items ≡ party.now) }
@@ -118,13 +130,15 @@ fn travellers_of(alloc: Global, world: &World, party: &[u32]) -> Result<Vec<Trav
 }
 
 // Where travellers meet, from their least labels.
-fn meet_by(
+pub(crate) fn meet_by<L: Lister>(
+    lister: &L,
     alloc: Global,
     world: &World,
     version: u32,
     party: &[Traveller],
     labels: &Labels,
 ) -> Result<Answer, AllocError>
+    requires ready { L.ready lister.now }
     requires travellers { All (IsTraveller world.now) party.now }
     requires distinct { AllPairs (λ s t. s.player ≢ t.player) party.now }
     requires two { 2 ≤ length party.now }
@@ -136,7 +150,7 @@ fn meet_by(
 {
     let next = world.next_number();
     let place = meeting_place(world, party, labels);
-    let journeys = journeys_to(alloc, world, party, labels, room_of(place))?;
+    let journeys = lister.journeys(alloc, world, party, labels, room_of(place))?;
     let text = meet_text(alloc, place, journeys.as_slice())?;
     let conclusion = Conclusion::Meet(place);
     let cert = certify(

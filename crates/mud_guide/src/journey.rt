@@ -1,15 +1,16 @@
 //! Who goes which way.
 
-ghost use Rattle.std.specs.Prelude.{All, IfOk, IsTrue};
+ghost use Rattle.std.specs.Prelude.{IfOk, IsTrue};
 ghost use Rattle.std.specs.Option.{ForSome};
 ghost use Rattle.std.specs.List.{AllZip};
 ghost use Rattle.mud_world.specs.State.{is_room};
 ghost use Rattle.mud_roads.specs.Open.{IsTraveller, roads_of};
-ghost use Rattle.mud_search.specs.Least.{label_in, AreLeast};
+ghost use Rattle.mud_search.specs.Least.{label_in};
 ghost use Rattle.mud_guide.specs.Arrivals.{Labelled};
 ghost use Rattle.mud_guide.specs.Journeys.{IsJourney};
+ghost use Rattle.mud_guide.specs.Parts.{AreMembers};
 
-use crate::route::way_to;
+use crate::routing::way_to;
 use crate::way::Way;
 use mud_roads::Traveller;
 use mud_search::Labels;
@@ -59,22 +60,24 @@ pub(crate) fn journey_to(
     })
 }
 
-/// The journeys of all members to a room, if there is one to go to.
+/// The journeys of all members to a room, if there is one to go to. The members are those from a
+/// number on.
 pub(crate) fn journeys_to(
     alloc: Global,
     world: &World,
     travellers: &[Traveller],
     labels: &Labels,
+    first: usize,
     to: Option<u32>,
 ) -> Result<Vec<Journey>, AllocError>
-    requires travellers { All (IsTraveller world.now) travellers.now }
+    requires members { AreMembers world.now (label_in labels.now) first travellers.now }
     requires room { ForSome to (λ room. IsTrue (is_room world.now room)) }
-    requires least { AreLeast world.now travellers.now (label_in labels.now) }
     ensures { IfOk result (λ js. AllZip (λ t j. IsJourney world.now to t.player j) travellers.now js.items) }
 {
     let mut journeys = Vec::with_capacity(alloc, travellers.len())?;
     for member in 0..travellers.len() {
-        journeys.push(journey_to(alloc, world, &travellers[member], labels, member, to)?)?;
+        let traveller = &travellers[member];
+        journeys.push(journey_to(alloc, world, traveller, labels, first + member, to)?)?;
     }
     Ok(journeys)
 }

@@ -5,6 +5,7 @@
 //! |---|---|
 //! | [`route_alone`] | the canonical route of a player to a room, or that no walk leads there |
 //! | [`meet_alone`] | the room where a party meets and each member's route there, or that there is none |
+//! | [`route`], [`meet`] | the same, by several workers |
 //!
 //! An [`Answer`] has the text of the reply and a certificate, which a checker can read without
 //! trust in this crate: it lists for each member the least label of every room that he reaches.
@@ -28,10 +29,13 @@ mod arrivals;
 mod ask;
 mod journey;
 pub mod laws;
+mod lister;
 mod meeting;
-mod route;
+mod routing;
 mod texts;
 mod way;
+mod workers;
 
 pub use answer::Answer;
 pub use ask::{meet_alone, route_alone};
+pub use workers::{meet, route};

@@ -1,8 +1,10 @@
 //! What the guide says.
 
-ghost use Rattle.std.specs.Prelude.{◌≡◌, ◌++◌, OnOk, IfOk, Some, string_bytes, codes};
+ghost use Rattle.std.specs.Prelude.{◌≡◌, ◌++◌, OnOk, IfOk, Some, string_bytes, codes, decimal};
 ghost use Rattle.std.specs.List.{flat_map};
-ghost use Rattle.mud_guide.specs.Texts.{object, walk_text, way_text, member_text, place_text, route_text};
+ghost use Rattle.mud_cert.specs.Text.{exits_text};
+ghost use Rattle.mud_guide.specs.Ways.{exits_of};
+ghost use Rattle.mud_guide.specs.Texts.{object, way_text, member_text, place_text, route_text};
 ghost use Rattle.mud_guide.specs.Texts.{meet_text};
 
 use crate::journey::Journey;
@@ -28,7 +30,7 @@ fn push_object(
 // Writes the exits of a walk.
 fn push_exits(alloc: Global, text: &mut String, steps: &[Step]) -> Result<(), AllocError>
     ensures { OnOk result (string_bytes text.new ≡ string_bytes text.old
-        ++ flat_map (λ x. codes " " ++ object x.exit) steps.now) }
+        ++ flat_map (λ exit. codes " #" ++ decimal exit) (exits_of steps.now)) }
 {
     for step in steps {
         push_object(alloc, text, " ", step.exit)?;
@@ -37,8 +39,10 @@ fn push_exits(alloc: Global, text: &mut String, steps: &[Step]) -> Result<(), Al
 }
 
 // Writes a walk by its exits.
+#[tactic(auto, using(crate::proofs::Walked::exits_none, crate::proofs::Walked::exits_some))]
 fn push_walk(alloc: Global, text: &mut String, steps: &[Step]) -> Result<(), AllocError>
-    ensures { OnOk result (string_bytes text.new ≡ string_bytes text.old ++ walk_text steps.now) }
+    ensures { OnOk result (string_bytes text.new
+        ≡ string_bytes text.old ++ (codes "by" ++ exits_text (exits_of steps.now))) }
 {
     if steps.is_empty() {
         text.push_str("by nothing")

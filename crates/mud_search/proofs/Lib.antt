@@ -5,5 +5,6 @@ pub mod Inside
 pub mod Orders
 pub mod Heaps
 pub mod Mending
+pub mod Parts
 pub mod Potential
 pub mod Trails

@@ -1,6 +1,7 @@
 pub mod Boards
 pub mod Facts
 pub mod Least
+pub mod Parts
 pub mod Queues
 pub mod Rooms
 pub mod Slots

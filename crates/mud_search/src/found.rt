@@ -1,13 +1,13 @@
 //! The labels that were found.
 
-ghost use Rattle.std.specs.Prelude.{◌≡◌};
-ghost use Rattle.std.specs.Prelude.{map};
+ghost use Rattle.std.specs.Prelude.{◌≡◌, ◌++◌, map, OnOk, OnErr};
 ghost use Rattle.mud_search.specs.Slots.{label_of};
-ghost use Rattle.mud_search.specs.Tables.{table};
+ghost use Rattle.mud_search.specs.Tables.{table, lists_in};
 ghost use Rattle.mud_search.specs.Least.{label_in};
 
 use crate::board::Board;
 use mud_roads::Label;
+use std::alloc::AllocError;
 use std::marker::Model;
 
 /// The labels of each member of a party at each room. A contract sees a label, or none, for each
@@ -38,6 +38,16 @@ impl Labels {
         ensures { result ≡ table (map (map label_of) boards.items) }
     {
         Labels { boards }
+    }
+
+    // Puts the labels of further members behind these, which stay as they are where memory is
+    // wanting.
+    pub(crate) fn append(&mut self, other: Labels) -> Result<(), AllocError>
+        ensures ok { OnOk result (lists_in self.new ≡ lists_in self.old ++ lists_in other) }
+        ensures err { OnErr result (self.new ≡ self.old) }
+    {
+        let Labels { mut boards } = other;
+        self.boards.append(&mut boards)
     }
 
     /// The label of a member at a room: the cost and the number of exits of a walk there. None

@@ -13,7 +13,9 @@ ghost use Rattle.mud_search.specs.Boards.{IsLeft, potential, lesser};
 
 use crate::board::Board;
 use crate::found::Labels;
+use crate::gate::{Gate, OpenGate};
 use crate::job::Job;
+use crate::part::Part;
 use crate::slot::Slot;
 use crate::task::{Put, Rest, Task};
 use mud_roads::{Label, Step, Traveller};
@@ -203,7 +205,17 @@ impl<J: Job> Frontier<J> {
         requires these { All (IsTraveller J.world) J.travellers }
         ensures { AreLeast J.world J.travellers (labels_in self.new) }
     {
+        self.finish_by(travellers, Part::whole(0), &OpenGate);
+    }
+
+    // The same as the first worker of a part, who passes the gate with each room.
+    pub(crate) fn finish_by<G: Gate>(&mut self, travellers: &[Traveller], part: Part, gate: &G)
+        requires travellers { travellers.now ≡ J.travellers }
+        requires these { All (IsTraveller J.world) J.travellers }
+        ensures { AreLeast J.world J.travellers (labels_in self.new) }
+    {
         while let Some(task) = self.left() {
+            part.pass(gate, 0, &task);
             let steps = travellers[task.member].steps_from(task.room);
             let _ = self.settle(&task, steps);
         }
@@ -213,6 +225,15 @@ impl<J: Job> Frontier<J> {
     pub fn into_labels(self) -> Labels
         ensures labels { (m room : ℕ) → label_in result m room ≡ labels_in self m room }
         ensures members { (m room : ℕ) → length J.travellers ≤ m → label_in result m room ≡ None }
+        ensures bounded { AreBounded (label_in result) }
+    {
+        self.found()
+    }
+
+    // The same; there is a list for each member.
+    pub(crate) fn found(self) -> Labels
+        ensures labels { (m room : ℕ) → label_in result m room ≡ labels_in self m room }
+        ensures count { length (lists_in result) ≡ length J.travellers }
         ensures bounded { AreBounded (label_in result) }
     {
         let Frontier { boards, of: _ } = self;

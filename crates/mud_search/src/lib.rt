@@ -4,6 +4,7 @@
 //! | Call | Answer |
 //! |---|---|
 //! | [`labels_alone`] | the least labels of up to eight travellers, by the caller's thread |
+//! | [`labels`] | the same, by several workers, who pass a [`Gate`] with each room |
 //! | [`Labels::get`] | the least label of a member at a room |
 //! | [`Frontier`] | the rooms of all members while a search goes on: what is open, held, finished |
 //!
@@ -30,14 +31,21 @@ mod alone;
 mod board;
 mod found;
 mod frontier;
+mod gate;
 mod job;
+mod part;
+mod pool;
 mod queue;
+mod shared;
 mod slot;
 mod task;
+mod workers;
 
 pub use alone::labels_alone;
 pub use found::Labels;
 pub use frontier::Frontier;
+pub use gate::{Gate, OpenGate};
 pub use job::Job;
+pub use shared::labels;
 pub use slot::Slot;
 pub use task::{Put, Rest, Task};

@@ -1,7 +1,8 @@
-use Rattle.std.proofs.Common.{◌≡◌, ℕ, List, Option, length, refl, sym, ◌∙◌, ap, subst, arith}
+use Rattle.std.proofs.Common.{◌≡◌, ℕ, ◌+◌, List, Option, length, refl, sym, ◌∙◌, ap, subst, arith}
 use Rattle.std.specs.Prelude.{All}
 use Rattle.std.specs.List.{AllZip}
-use Rattle.mud_roads.specs.Open.{Knowledge}
+use Rattle.mud_roads.specs.Open.{Knowledge, roads_of}
+use Rattle.mud_roads.specs.Walks.{Least}
 use Rattle.mud_guide.specs.Journeys.{Journey, IsJourney}
 use Rattle.mud_guide.specs.Listings.{IsInside, AreListed}
 use Rattle.mud_guide.specs.Texts.{meet_text}
@@ -11,7 +12,7 @@ use Rattle.mud_guide.proofs.Replies.{meeting-limits, meet-answer}
 use Rattle.mud_guide.proofs.ask.meet_by.Goals as goal
 
 pub certify-requires-clause-inside : goal.certify-requires-clause-inside
-certify-requires-clause-inside c =
+certify-requires-clause-inside g c =
     let w = c.args.world.now in
     let sound = c.next_number-next.ensures.sound in
     let N : ℕ → Type 0 = λ n. All (IsInside n) c.as_slice-2.result.now in
@@ -22,7 +23,7 @@ certify-requires-clause-inside c =
     c.requires.travellers c.in_ok-journeys.ensures))
 
 pub certify-requires-clause-conclusion : goal.certify-requires-clause-conclusion
-certify-requires-clause-conclusion c =
+certify-requires-clause-conclusion g c =
     let w = c.args.world.now in
     let R : Knowledge → Journey → Type 0 = λ t j. IsJourney w c.room_of.result t.player j in
     let long : length c.as_slice-2.result.now ≡ length c.args.party.now =
@@ -37,7 +38,7 @@ certify-requires-clause-conclusion c =
     )
 
 pub returns : goal.returns
-returns c =
+returns g c =
     let w = c.args.world.now in
     let sound = c.next_number-next.ensures.sound in
     let js = c.in_ok-journeys.journeys.items in
@@ -61,3 +62,14 @@ returns c =
       limits = made.limits;
     })
     refl (c.in_ok-text.ensures ∙ ap (meet_text c.meeting_place-place.result) c.as_slice.ensures.value) refl
+
+pub journeys-requires-clause-members : goal.journeys-requires-clause-members
+journeys-requires-clause-members g c = record {
+  travellers = c.requires.travellers;
+  least = λ m room t is.
+      let P : ℕ → Type 0 = λ k.
+      Least 1 (roads_of c.args.world.now t.player) t.place room (label_in c.args.labels.now k room) in
+      let same : m ≡ 0 + m = omega arith in
+      subst P same (c.requires.least m room t is);
+  few = omega (arith, c.requires.few);
+}

@@ -2,7 +2,7 @@ use Rattle.std.proofs.Common.{sym, ◌∙◌}
 use Rattle.mud_roads.specs.Open.{roads_of}
 use Rattle.mud_search.specs.Least.{label_in}
 use Rattle.mud_guide.proofs.Totals.{way-cost}
-use Rattle.mud_guide.proofs.route.way_to.Goals as goal
+use Rattle.mud_guide.proofs.routing.way_to.Goals as goal
 
 pub new-requires : goal.new-requires
 new-requires c =

@@ -7,7 +7,7 @@ use Rattle.mud_roads.specs.Open.{roads_of}
 use Rattle.mud_roads.proofs.Roads.{no-roads-past, room-below}
 use Rattle.mud_search.specs.Least.{label_in}
 use Rattle.mud_guide.proofs.Backs.{back-step, back-none, back-less, read-at, reached-at}
-use Rattle.mud_guide.proofs.route.walk_to.Goals as goal
+use Rattle.mud_guide.proofs.routing.walk_to.Goals as goal
 
 pub loop-arrival-smaller : goal.loop-arrival-smaller
 loop-arrival-smaller c =

@@ -5,7 +5,7 @@ use Rattle.mud_roads.specs.Walks.{RouteBack}
 use Rattle.mud_roads.specs.Open.{roads_of}
 use Rattle.mud_search.specs.Least.{label_in}
 use Rattle.mud_guide.proofs.Backs.{exits_at}
-use Rattle.mud_guide.proofs.route.walk_to.Given as goal
+use Rattle.mud_guide.proofs.routing.walk_to.Given as goal
 
 abbrev pub invariant-loop-arrival : goal.invariant-loop-arrival
 invariant-loop-arrival l = record {

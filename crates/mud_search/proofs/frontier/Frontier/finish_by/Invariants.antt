@@ -1,6 +1,6 @@
 use Rattle.mud_search.specs.Boards.{potential}
 use Rattle.mud_search.specs.Tables.{lists_in}
-use Rattle.mud_search.proofs.frontier.Frontier.finish.Given as goal
+use Rattle.mud_search.proofs.frontier.Frontier.finish_by.Given as goal
 
 abbrev pub decreases-loop-task : goal.decreases-loop-task
 decreases-loop-task g l = potential (lists_in l.self)

@@ -1,0 +1,32 @@
+#!/usr/bin/env python3
+"""Writes the input of a script in which builders lock exits with keys that are as dear as keys can be.
+
+keys.py EXITS ROUTES
+
+Three sets of 16 things: the key of each in the first asks all of the second, and the key of each in the
+second asks all of the third. Then EXITS exits, each to a room of its own and each locked with a key that
+asks all of the first set, so that a key read anew leads to 4,096 others. At last ROUTES routes through
+such an exit, and as many walks through one and back. The last line is `quit`.
+"""
+
+import sys
+
+exits, routes = int(sys.argv[1]), int(sys.argv[2])
+lines = ["@create thing"] * 48
+sets = [range(first, first + 16) for first in (2, 18, 34)]
+
+
+def asking(things):
+    """A key that asks all of these."""
+    return " && ".join(f"?#{thing}" for thing in things)
+
+
+lines += [f"@lock #{thing} with #1 || !#1" for thing in sets[2]]
+lines += [f"@lock #{thing} with {asking(sets[2])}" for thing in sets[1]]
+lines += [f"@lock #{thing} with {asking(sets[1])}" for thing in sets[0]]
+first = 50
+lines += [f'@dig x to "R{k}"' for k in range(exits)]
+lines += [f"@lock #{first + 2 * k + 1} with {asking(sets[0])}" for k in range(exits)]
+lines += [f"route to #{first + 2 * (k * 977 % exits)}" for k in range(routes)]
+lines.append("quit")
+sys.stdout.write("\n".join(lines) + "\n")

@@ -1,0 +1,51 @@
+//! A part of a search.
+
+use crate::gate::Gate;
+use crate::task::Task;
+
+/// Which workers search for which members: so many workers, from one number on, and members from
+/// one number on. Within the part both are counted from 0.
+#[derive(Clone, Copy, Debug, Drop)]
+pub(crate) struct Part {
+    pub(crate) workers: usize,
+    first_worker: usize,
+    first_member: usize,
+}
+
+impl Part {
+    /// All members, and so many workers.
+    pub(crate) fn whole(workers: usize) -> Part {
+        Part {
+            workers,
+            first_worker: 0,
+            first_member: 0,
+        }
+    }
+
+    /// The first members, and half of the workers.
+    pub(crate) fn front(self) -> Part {
+        Part {
+            workers: self.workers / 2,
+            ..self
+        }
+    }
+
+    /// The members behind so many, and the other half of the workers.
+    pub(crate) fn back(self, members: usize) -> Part {
+        let before = self.workers / 2;
+        Part {
+            workers: self.workers - before,
+            first_worker: self.first_worker.saturating_add(before),
+            first_member: self.first_member.saturating_add(members),
+        }
+    }
+
+    /// Lets a worker pass the gate with a room. Where there are no workers nobody passes.
+    pub(crate) fn pass<G: Gate>(self, gate: &G, worker: usize, task: &Task) {
+        if self.workers > 0 {
+            let worker = self.first_worker.saturating_add(worker);
+            let member = self.first_member.saturating_add(task.member);
+            gate.between(worker, member, task.room);
+        }
+    }
+}

@@ -1,0 +1,116 @@
+//! The least labels, by several workers.
+
+ghost use Rattle.std.specs.Prelude.{◌≡◌, ◌≤◌, ℕ, All, None, IfOk, length};
+ghost use Rattle.std.specs.Thread.{IsSync};
+ghost use Rattle.mud_roads.specs.Open.{IsTraveller};
+ghost use Rattle.mud_search.specs.Least.{label_in, AreLeast, AreBounded};
+ghost use Rattle.mud_search.specs.Parts.{AreFound};
+
+use crate::found::Labels;
+use crate::frontier::Frontier;
+use crate::gate::Gate;
+use crate::job::Job;
+use crate::part::Part;
+use crate::workers::worked;
+use mud_roads::Traveller;
+use mud_world::World;
+use std::alloc::{AllocError, Global};
+use std::marker::Brand;
+use std::sync::Wait;
+use std::thread::{Threads, join};
+
+/// The least labels of up to eight travellers of this world, by so many workers; with none it does
+/// what [`labels_alone`](crate::labels_alone) does. The caller's thread is the first worker, and the
+/// others are threads of their own; it is no fault where they can't be started. Members are searched
+/// for apart as far as there are workers for them, and several workers for one member share his
+/// rooms. The labels are the same for every number of workers and every gate. It may wait, and ends
+/// if the gate lets all workers pass. Only want of memory is an error.
+pub fn labels<R: Threads + Wait + Sync, G: Gate + Sync>(
+    rt: &R,
+    alloc: Global,
+    world: &World,
+    travellers: &[Traveller],
+    workers: usize,
+    gate: &G,
+) -> Result<Labels, AllocError>
+    requires travellers { All (IsTraveller world.now) travellers.now }
+    requires few { length travellers.now ≤ 8 }
+    ensures least { IfOk result (λ labels. AreLeast world.now travellers.now (label_in labels)) }
+    ensures members { IfOk result (λ labels. (m room : ℕ) → length travellers.now ≤ m → label_in labels m room ≡ None) }
+    ensures bounded { IfOk result (λ labels. AreBounded (label_in labels)) }
+{
+    labels_apart(rt, alloc, world, travellers, Part::whole(workers), gate)
+}
+
+// The labels of a part: of its halves apart, if it has two members and two workers.
+fn labels_apart<R: Threads + Wait + Sync, G: Gate + Sync>(
+    rt: &R,
+    alloc: Global,
+    world: &World,
+    travellers: &[Traveller],
+    part: Part,
+    gate: &G,
+) -> Result<Labels, AllocError>
+    requires travellers { All (IsTraveller world.now) travellers.now }
+    requires few { length travellers.now ≤ 8 }
+    ensures { IfOk result (AreFound world.now travellers.now) }
+{
+    let members = travellers.len();
+    if members < 2 || part.workers < 2 {
+        return labels_together(rt, alloc, world, travellers, part, gate);
+    }
+    let (front, back) = travellers.split_at(members / 2);
+    let (first, second) = join(
+        rt,
+        || -> Result<Labels, AllocError>
+            requires { IsSync R.row × IsSync G.row × All (IsTraveller world.now) front.now × (length front.now ≤ 8) }
+            ensures { IfOk result (AreFound world.entry.now front.entry.now) }
+        { labels_apart(rt, alloc, world, front, part.front(), gate) },
+        || -> Result<Labels, AllocError>
+            requires { IsSync R.row × IsSync G.row × All (IsTraveller world.now) back.now × (length back.now ≤ 8) }
+            ensures { IfOk result (AreFound world.entry.now back.entry.now) }
+        { labels_apart(rt, alloc, world, back, part.back(members / 2), gate) },
+    );
+    let mut labels = first?;
+    labels.append(second?)?;
+    Ok(labels)
+}
+
+// The labels of a part from one frontier.
+fn labels_together<R: Threads + Wait + Sync, G: Gate + Sync>(
+    rt: &R,
+    alloc: Global,
+    world: &World,
+    travellers: &[Traveller],
+    part: Part,
+    gate: &G,
+) -> Result<Labels, AllocError>
+    requires travellers { All (IsTraveller world.now) travellers.now }
+    requires few { length travellers.now ≤ 8 }
+    ensures { IfOk result (AreFound world.now travellers.now) }
+{
+    together_for::<Brand, R, G>(rt, alloc, world, travellers, part, gate)
+}
+
+// The labels of the travellers of a job.
+fn together_for<J: Job + Send + Sync, R: Threads + Wait + Sync, G: Gate + Sync>(
+    rt: &R,
+    alloc: Global,
+    world: &World,
+    travellers: &[Traveller],
+    part: Part,
+    gate: &G,
+) -> Result<Labels, AllocError>
+    requires world { world.now ≡ J.world }
+    requires travellers { travellers.now ≡ J.travellers }
+    requires these { All (IsTraveller J.world) J.travellers }
+    requires few { length J.travellers ≤ 8 }
+    ensures { IfOk result (AreFound J.world J.travellers) }
+{
+    let mut frontier = Frontier::<J>::new(alloc, world, travellers)?;
+    if part.workers > 1 {
+        frontier = worked(rt, travellers, frontier, part, gate);
+    }
+    frontier.finish_by(travellers, part, gate);
+    Ok(frontier.found())
+}

@@ -1,5 +1,5 @@
 -- The checker accepts the certificate of an answer.
-use Rattle.std.proofs.Common.{◌≡◌, ◌≢◌, ℕ, ◌≤◌, List, ◌++◌, length, take}
+use Rattle.std.proofs.Common.{◌≡◌, ◌≢◌, ℕ, ◌≤◌, List, length, take}
 use Rattle.std.proofs.Common.{Option, None, Some, sym, ◌∙◌, ap, subst, arith}
 use Rattle.std.specs.Option.{IsSomeAnd}
 use Rattle.std.proofs.lemmas.List.{length-append}

@@ -1,18 +1,18 @@
 -- What a look at the desks finds: numbers of two desks, entries of none, and what all of them know.
-use Rattle.std.proofs.Common.{◌≡◌, ◌≢◌, ◌⊎◌, inl, inr, ℕ, zero, suc, ◌+◌, ◌≤◌, ◌<◌, Bool, true, false, List, [], ◌∷◌}
+use Rattle.std.proofs.Common.{◌≡◌, ◌⊎◌, inl, inr, ℕ, zero, suc, ◌+◌, ◌≤◌, ◌<◌, Bool, true, false, List, [], ◌∷◌}
 use Rattle.std.proofs.Common.{◌++◌, length, take, get_or, Option, Some, None, slice_get, refl, sym, ap, ◌∙◌, subst}
 use Rattle.std.proofs.Common.{arith}
 use Rattle.std.proofs.lemmas.Bool.Decides.{nat_tests}
 use Rattle.std.proofs.lemmas.List.{get_or-take, length-take-le}
 use Rattle.std.proofs.lemmas.List.Elements.{All-push}
 use Rattle.std.proofs.lemmas.Option.{slice_get_within, slice_get_read, slice_get-get_or, get_or_from_slice_get}
-use Rattle.std.specs.Prelude.{All, Any, AllPairs, ◌==◌, nat_lt}
+use Rattle.std.specs.Prelude.{All, Any, ◌==◌, nat_lt}
 use mathlib.Core.List.{IsPrefix}
 use Rattle.mud_chron.specs.Entry.{Accepted}
 use Rattle.mud_hall.specs.declared.fault.CloseFault.{CloseFault}
 use Rattle.mud_hall.specs.declared.fault.CloseFault.TheVariants.{OutOfMemory, SameNumber, Missing, Mismatch}
 use Rattle.mud_hall.specs.Desk.{View}
-use Rattle.mud_hall.specs.Settling.{made, HasNumber, HaveSameNumber, IsGathered, IsCloseFault}
+use Rattle.mud_hall.specs.Settling.{made, HasNumber, AreApart, HaveSameNumber, IsGathered, IsCloseFault}
 use Rattle.mud_hall.specs.Checking.{lesser_of, IsLeast, IsUnnamed, IsCheckFault}
 use Rattle.mud_hall.proofs.Least.{least_same, least_either, lesser_none, front, last, at_or_last}
 use Rattle.mud_hall.proofs.Least.{any_at, place, any_later, any_last}
@@ -91,7 +91,7 @@ twice_same ds d a least none =
 
 -- where no number is that of two desks each two differ
 pub all_apart : (ds : List View) → IsLeast (HaveSameNumber ds) None
-    → AllPairs (λ a b. a.state.number ≢ b.state.number) ds
+    → AreApart ds
 all_apart ds none i j d lt within same = none (get_or ds i d).state.number (record {
   i = i;
   j = j;
@@ -194,4 +194,4 @@ fault_of loaded desks history OutOfMemory whole found = tt
 fault_of loaded desks history (SameNumber n) whole found = found
 fault_of loaded desks history (Missing n) whole found = found
 fault_of loaded desks history (Mismatch v) whole found =
-    record { history = history; gathered = whole; odds = found.0; least = found.1 }
+    (found.0, record { history = history; gathered = whole; odds = found.1.0; least = found.1.1 })

@@ -1,7 +1,7 @@
 -- Texts of lines end with a line's end.
-use Rattle.std.proofs.Common.{◌≡◌, ℕ, List, [], ◌∷◌, ◌++◌, Option, Some, Result}
-use Rattle.std.proofs.Common.{Ok, Err, length, sym, ◌∙◌, ap, subst, append_assoc}
-use Rattle.std.specs.Prelude.{codes, IfOk}
+use Rattle.std.proofs.Common.{◌≡◌, ℕ, List, [], ◌∷◌, ◌++◌}
+use Rattle.std.proofs.Common.{length, sym, ◌∙◌, ap, append_assoc}
+use Rattle.std.specs.Prelude.{codes}
 use Rattle.mud_chron.specs.Entry.{Accepted}
 use Rattle.mud_chron.specs.Text.{line_feed, entries_text, end_line, written_text}
 

@@ -1,6 +1,5 @@
 -- What a guest may ask.
 use Rattle.std.proofs.Common.{◌≡◌, ℕ, Option, Some, None, refl}
-use Rattle.std.specs.Option.{IsSome}
 use Rattle.mud_words.specs.Line.{Line}
 use Rattle.mud_world.specs.State.{State}
 use Rattle.mud_rules.specs.declared.verdict.Query.{Query}

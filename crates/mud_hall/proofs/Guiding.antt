@@ -21,7 +21,7 @@ use Rattle.mud_guide.specs.Laws.{RouteIsLeast}
 use Rattle.mud_hall.specs.Told.{world_after}
 use Rattle.mud_hall.specs.Desk.{DeskState}
 use Rattle.mud_hall.specs.Replies.{verdict_on}
-use Rattle.mud_hall.specs.Answers.{Answered, answered, IsGuided, Shows, Answers}
+use Rattle.mud_hall.specs.Answers.{Answered, IsGuided, Shows, Answers}
 use Rattle.mud_hall.specs.Steps.{Hall, IsRun}
 use Rattle.mud_hall.specs.Right.{TellsJourney, TellsProof, IsCertified}
 use Rattle.mud_hall.specs.Laws.{IsRight, GuideIsRight}

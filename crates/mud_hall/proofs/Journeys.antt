@@ -1,5 +1,5 @@
 -- What an answer about a journey tells is so.
-use Rattle.std.proofs.Common.{◌≡◌, ℕ, ◌≤◌, List, [], ◌∷◌, length, map, Option, None, Some, refl, arith}
+use Rattle.std.proofs.Common.{◌≡◌, ℕ, ◌≤◌, List, [], ◌∷◌, length, Option, None, Some, refl, arith}
 use Rattle.std.specs.Prelude.{string_bytes}
 use Rattle.std.specs.Option.{option_map, IsSomeAnd}
 use Rattle.std.specs.List.{AllZip, sum_by}
@@ -17,7 +17,7 @@ use Rattle.mud_guide.specs.declared.answer.Answer.{Answer}
 use Rattle.mud_guide.specs.Accounts.{IsAccountOf}
 use Rattle.mud_guide.specs.Journeys.{Journey, IsJourney, goers_of}
 use Rattle.mud_cert.specs.Valid.{IsPlace}
-use Rattle.mud_guide.specs.Ways.{cost_of, IsWay, IsWayTo}
+use Rattle.mud_guide.specs.Ways.{cost_of, IsWayTo}
 use Rattle.mud_guide.specs.Answers.{IsCertOf, IsRouteAnswer, IsMeetAnswer}
 use Rattle.mud_guide.specs.Laws.{RouteIsLeast}
 use Rattle.mud_hall.specs.Right.{IsMemberFor, Certifies, IsBestWay, GoesBest, TellsRoute, TellsMeeting}

@@ -10,8 +10,6 @@ use Rattle.mud_world.specs.Legal.{refusal, after}
 use Rattle.mud_world.specs.History.{world_from}
 use Rattle.mud_world.specs.Opening.{opening_state}
 use Rattle.mud_world.specs.declared.change.Change.{Change}
-use Rattle.mud_rules.specs.declared.verdict.Verdict.{Verdict}
-use Rattle.mud_rules.specs.declared.verdict.Verdict.TheVariants as verdict
 use Rattle.mud_chron.specs.Entry.{Accepted as Entry, IsEntry}
 use Rattle.mud_chron.specs.Replay.{changes_of, AreLegalFrom, AreLegal}
 use Rattle.mud_chron.proofs.Spellable.{legal_is_spellable}
@@ -19,7 +17,7 @@ use Rattle.mud_words.specs.Parse.{parsed}
 use Rattle.mud_hall.specs.Told.{world_after}
 use Rattle.mud_hall.specs.Desk.{DeskState, new_desk}
 use Rattle.mud_hall.specs.Replies.{Reply, Accepted, Became, Refused, Question, Failed}
-use Rattle.mud_hall.specs.Replies.{verdict_on, Stores, Changes, Replies, Acts}
+use Rattle.mud_hall.specs.Replies.{Stores, Changes, Replies}
 use Rattle.mud_hall.specs.declared.fault.Fault.TheVariants.{OutOfMemory, HistoryFull, Unpublished, DesksFull}
 use Rattle.mud_hall.specs.Steps.{Hall, AreLoadable, opened, lone_desk, opened_alone, Begins, Gives, Turns, Grows}
 use Rattle.mud_hall.specs.Steps.{Step, Desks, See, Learn, Act, Ask, Guest, Makes, IsRun}

@@ -1,3 +1,4 @@
+pub mod Crosses
 pub mod Notices
 pub mod Seats
 pub mod Storing

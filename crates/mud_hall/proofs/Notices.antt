@@ -1,7 +1,7 @@
 -- The notices of entries that follow one another.
 use Rattle.std.proofs.Common.{◌≡◌, ℕ, zero, suc, ◌+◌, ◌≤◌, ◌<◌, Bool, true, false}
 use Rattle.std.proofs.Common.{List, [], ◌∷◌, ◌++◌, length, take, drop, Option, Some, None}
-use Rattle.std.proofs.Common.{slice_get, refl, sym, ap, ◌∙◌, subst, arith, add-one, append_assoc, length-append}
+use Rattle.std.proofs.Common.{slice_get, refl, sym, ap, ◌∙◌, subst, arith, add-one, append_assoc}
 use Rattle.std.proofs.lemmas.List.{append-nil, take-append-le, take-append-drop, length-take-le}
 use mathlib.Core.List.{IsPrefix}
 use Rattle.std.specs.Prelude.{MatchBool}
@@ -10,7 +10,7 @@ use Rattle.mud_world.specs.declared.change.Change.{Change}
 use Rattle.mud_chron.specs.Entry.{Accepted}
 use Rattle.mud_row.specs.Known.{Standing}
 use Rattle.mud_rules.specs.Hearing.{heard_line}
-use Rattle.mud_hall.specs.Told.{world_after, notice_text, notice_of, notice_in, notice, notices}
+use Rattle.mud_hall.specs.Told.{world_after, notice_of, notice_in, notice, notices}
 use Rattle.mud_hall.specs.Desk.{DeskState, state_of, took_in, TakesIn}
 
 pub notices-append : (p : Option ℕ) (h es fs : List Accepted)

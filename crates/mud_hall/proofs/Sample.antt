@@ -1,5 +1,5 @@
 -- A run: a desk is given, the wizard sits down there, and asks for a room that is none.
-use Rattle.std.proofs.Common.{◌≡◌, ◌≢◌, ℕ, cond, eqb, inl, [], ◌∷◌, codes, None, Some, refl, sym, ◌∙◌, ap, arith}
+use Rattle.std.proofs.Common.{◌≡◌, ◌≢◌, ℕ, cond, eqb, [], ◌∷◌, codes, None, Some, refl, sym, ◌∙◌, ap, arith}
 use Rattle.std.proofs.lemmas.Bool.{ne_eqb}
 use Rattle.std.specs.Fmt.{digits}
 use Rattle.mud_words.specs.Words.{words}

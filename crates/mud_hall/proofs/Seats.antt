@@ -1,11 +1,11 @@
 -- Who sits at a desk stays a player of the world, whatever follows.
 use Rattle.std.proofs.Common.{◌≡◌, ℕ, List, [], ◌∷◌, ◌++◌, Option, None, Some, refl, ap, sym, subst, ◌∙◌, append_assoc}
-use Rattle.std.specs.Prelude.{is_none, if◌then◌else◌, IsTrue}
+use Rattle.std.specs.Prelude.{IsTrue}
 use Rattle.std.proofs.lemmas.List.{map-append}
 use mathlib.Core.List.{IsPrefix}
 use Rattle.mud_world.specs.State.{State, is_player}
 use Rattle.mud_world.specs.Sound.{IsSound}
-use Rattle.mud_world.specs.Legal.{refusal, after}
+use Rattle.mud_world.specs.Legal.{refusal}
 use Rattle.mud_world.specs.History.{stepped, world_from, world_of}
 use Rattle.mud_world.specs.Opening.{opening_state}
 use Rattle.mud_world.specs.declared.change.Change.{Change}

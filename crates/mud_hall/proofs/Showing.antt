@@ -7,7 +7,8 @@ use Rattle.mud_rules.specs.declared.verdict.Journey.{Journey}
 use Rattle.mud_rules.specs.declared.verdict.Query.{Query}
 use Rattle.mud_rules.specs.declared.verdict.Query.TheVariants as query
 use Rattle.mud_chron.specs.Entry.{Accepted}
-use Rattle.mud_row.specs.Known.{Standing, world_at}
+use Rattle.mud_chron.specs.Replay.{world_at}
+use Rattle.mud_row.specs.Known.{Standing}
 use Rattle.mud_guide.specs.declared.answer.Answer.{Answer}
 use Rattle.mud_hall.specs.Told.{world_after}
 use Rattle.mud_hall.specs.Desk.{View, state_of}

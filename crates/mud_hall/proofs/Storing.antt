@@ -1,6 +1,6 @@
 -- What a line that acts leaves.
-use Rattle.std.proofs.Common.{◌≡◌, ℕ, zero, suc, ◌+◌, ◌≤◌, ◌<◌, Bool, true, false, List, [], ◌∷◌, ◌++◌, length, take}
-use Rattle.std.proofs.Common.{drop, Option, Some, None, refl, sym, ap, ◌∙◌, subst, arith, eq-eqb, append_assoc}
+use Rattle.std.proofs.Common.{◌≡◌, ℕ, ◌+◌, Bool, true, false, List, [], ◌∷◌, ◌++◌, length, take}
+use Rattle.std.proofs.Common.{drop, Option, Some, None, refl, sym, ap, ◌∙◌, subst, eq-eqb, append_assoc}
 use Rattle.std.specs.Prelude.{Result, Ok, Err, IsErrAnd, IsTrue, nat_eq, if◌then◌else◌}
 use Rattle.std.proofs.lemmas.List.{append-nil}
 use Rattle.std.proofs.Math.Seq.{take-length}
@@ -14,12 +14,13 @@ use Rattle.mud_world.specs.declared.change.Deed.TheVariants.{Dig, Make, Lock, Un
 use Rattle.mud_world.specs.declared.change.Deed.TheVariants.{Cost, Player, Rename, Recycle, Say, Emote}
 use Rattle.mud_world.proofs.Histories.{world_of-legal}
 use Rattle.mud_world.proofs.Players.{players_stay, new_players_are_players}
-use Rattle.mud_rules.specs.Hearing.{heard_line, heard_deed}
+use Rattle.mud_rules.specs.Hearing.{heard_deed}
 use Rattle.mud_rules.specs.Outcome.{IsActor}
 use Rattle.mud_chron.specs.Entry.{Accepted}
 use Rattle.mud_chron.specs.Replay.{changes_of}
 use Rattle.std.proofs.lemmas.List.{map_push}
-use Rattle.mud_row.specs.Known.{Standing, world_at}
+use Rattle.mud_chron.specs.Replay.{world_at}
+use Rattle.mud_row.specs.Known.{Standing}
 use Rattle.mud_hall.specs.declared.reply.Reply.{Reply as Returned}
 use Rattle.mud_hall.specs.declared.fault.Fault.{Fault}
 use Rattle.mud_hall.specs.declared.fault.Fault.TheVariants.{OutOfMemory}

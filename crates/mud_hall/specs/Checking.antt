@@ -4,7 +4,7 @@ use Rattle.mud_chron.specs.Entry.{Accepted}
 use Rattle.mud_hall.specs.declared.fault.CloseFault.{CloseFault}
 use Rattle.mud_hall.specs.declared.fault.CloseFault.TheVariants.{OutOfMemory, SameNumber, Missing, Mismatch}
 use Rattle.mud_hall.specs.Desk.{View}
-use Rattle.mud_hall.specs.Settling.{versions_by, first_apart, HasNumber, HaveSameNumber, IsMissing, IsAtOdds}
+use Rattle.mud_hall.specs.Settling.{versions_by, first_apart, HasNumber, AreApart, HaveSameNumber, IsMissing, IsAtOdds}
 
 -- the lesser of two numbers, of which none is greater than all
 abbrev pub lesser_of : Option ℕ → Option ℕ → Option ℕ
@@ -31,5 +31,5 @@ IsUnnamed desks first entries v =
 abbrev pub IsCheckFault : List View → ℕ → List Accepted → CloseFault → Type 0
 IsCheckFault desks first entries OutOfMemory = Unit {0}
 IsCheckFault desks first entries (SameNumber n) = IsLeast (HaveSameNumber desks) (Some n)
-IsCheckFault desks first entries (Missing n) = IsMissing desks n
-IsCheckFault desks first entries (Mismatch v) = IsLeast (IsAtOdds desks first entries) (Some v)
+IsCheckFault desks first entries (Missing n) = AreApart desks × IsMissing desks n
+IsCheckFault desks first entries (Mismatch v) = AreApart desks × IsLeast (IsAtOdds desks first entries) (Some v)

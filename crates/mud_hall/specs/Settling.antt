@@ -21,6 +21,10 @@ made loaded history = drop (length loaded) history
 abbrev pub HasNumber : List View → ℕ → Type 0
 HasNumber desks n = Any (λ d. d.state.number ≡ n) desks
 
+-- no two desks have the same number
+abbrev pub AreApart : List View → Type 0
+AreApart desks = AllPairs (λ c d. c.state.number ≢ d.state.number) desks
+
 -- the longest of what was loaded and of what each desk knows: each of them is a beginning of it
 pub record IsGathered (loaded : List Accepted) (desks : List View) (history : List Accepted) : Type 0 where
   pub begun : IsPrefix loaded history
@@ -32,7 +36,7 @@ pub record IsGathered (loaded : List Accepted) (desks : List View) (history : Li
 pub record IsSettled (loaded : List Accepted) (desks : List View) (history : List Accepted) : Type 0 where
   pub gathered : IsGathered loaded desks history
   pub calls : All (λ d. d.state.calls ≡ versions_by d.state.number (length loaded + 1) (made loaded history)) desks
-  pub apart : AllPairs (λ c d. c.state.number ≢ d.state.number) desks
+  pub apart : AreApart desks
   pub named : All (λ e. HasNumber desks e.desk) (made loaded history)
 
 -- two desks have the number
@@ -47,9 +51,10 @@ pub record HaveSameNumber (desks : List View) (n : ℕ) : Type 0 where
   pub one_is : a.state.number ≡ n
   pub other_is : b.state.number ≡ n
 
--- the least number from 1 that no desk has
+-- the least number from 1 to 64 that no desk has
 pub record IsMissing (desks : List View) (n : ℕ) : Type 0 where
   pub from : 1 ≤ n
+  pub to : n ≤ 64
   pub none : HasNumber desks n → ⊥
   pub least : (k : ℕ) → k + 1 < n → HasNumber desks (k + 1)
 
@@ -74,9 +79,9 @@ pub record IsMismatch (loaded : List Accepted) (desks : List View) (v : ℕ) : T
   pub odds : IsAtOdds desks (length loaded + 1) (made loaded history) v
   pub least : (u : ℕ) → IsAtOdds desks (length loaded + 1) (made loaded history) u → v ≤ u
 
--- when each fault of a settlement comes
+-- when each fault of a settlement comes; two desks of one number are told of first
 abbrev pub IsCloseFault : List Accepted → List View → CloseFault → Type 0
 IsCloseFault loaded desks OutOfMemory = Unit {0}
 IsCloseFault loaded desks (SameNumber n) = HaveSameNumber desks n × ((m : ℕ) → HaveSameNumber desks m → n ≤ m)
-IsCloseFault loaded desks (Missing n) = IsMissing desks n
-IsCloseFault loaded desks (Mismatch v) = IsMismatch loaded desks v
+IsCloseFault loaded desks (Missing n) = AreApart desks × IsMissing desks n
+IsCloseFault loaded desks (Mismatch v) = AreApart desks × IsMismatch loaded desks v

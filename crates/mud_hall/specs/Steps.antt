@@ -5,7 +5,6 @@ use Rattle.std.specs.List.{AllByRecursion}
 use mathlib.Core.List.{IsPrefix}
 use Rattle.mud_chron.specs.Entry.{Accepted as Entry, IsEntry}
 use Rattle.mud_chron.specs.Replay.{changes_of, AreLegal}
-use Rattle.mud_hall.specs.declared.fault.Fault.{Fault}
 use Rattle.mud_hall.specs.Desk.{DeskState, new_desk, as_guest, as_player, TakesIn, Learns}
 use Rattle.mud_hall.specs.Replies.{Reply, Acts}
 use Rattle.mud_hall.specs.Replies.{Accepted}

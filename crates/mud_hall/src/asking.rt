@@ -7,6 +7,7 @@ ghost use Rattle.mud_hall.specs.Replies.{verdict_on};
 ghost use Rattle.mud_hall.specs.Answers.{answered, Answers, IsShown, CanAsk};
 
 use crate::answering;
+use crate::crew::{Crew, guide_by, prove_by};
 use crate::desk::Desk;
 use crate::entries::entries_of;
 use crate::name::HallName;
@@ -14,8 +15,11 @@ use crate::texts::history_answer;
 use mud_guide::Answer;
 use mud_row::Row;
 use mud_rules::{Query, Verdict, decide, refusal_text};
+use mud_search::Gate;
 use mud_words::parse;
 use std::alloc::{AllocError, Global};
+use std::sync::Wait;
+use std::thread::Threads;
 
 impl<J: HallName> Desk<J> {
     // Answers a line at exactly what it has seen.
@@ -86,6 +90,70 @@ impl<J: HallName> Desk<J> {
                     cert: None,
                 })
             }
+        }
+    }
+
+    // Answers a line at exactly what it has seen, where several workers search.
+    pub(crate) fn answer_by<R: Threads + Wait + Sync, G: Gate + Sync>(
+        &mut self,
+        crew: &Crew<'_, R, G>,
+        alloc: Global,
+        row: &Row,
+        line: &str,
+    ) -> Result<Answer, AllocError>
+        requires { row.now ≡ J.cells }
+        ensures same { self.new.state ≡ self.old.state }
+        ensures ok { IfOk result (λ a. Answers self.old.state line.now (answered a)) }
+    {
+        self.catch_up(alloc, row)?;
+        self.respond_by(crew, alloc, row, line)
+    }
+
+    // Answers a line in the world of all that it has seen, where several workers search.
+    fn respond_by<R: Threads + Wait + Sync, G: Gate + Sync>(
+        &mut self,
+        crew: &Crew<'_, R, G>,
+        alloc: Global,
+        row: &Row,
+        line: &str,
+    ) -> Result<Answer, AllocError>
+        requires row { row.now ≡ J.cells }
+        requires all { self.old.at ≡ length self.old.state.seen }
+        ensures same { self.new.state ≡ self.old.state }
+        ensures ok { IfOk result (λ a. Answers self.old.state line.now (answered a)) }
+    {
+        match self.verdict(alloc, line)? {
+            Verdict::Ask(query) => self.explain_by(crew, alloc, row, &query),
+            Verdict::Refused(refusal) => {
+                answering::plain(alloc, self.seen(), refusal_text(refusal))
+            }
+            Verdict::Change(_) => answering::not_understood(alloc, self.seen()),
+            Verdict::Become(_) => answering::not_understood(alloc, self.seen()),
+        }
+    }
+
+    // The answer to a question, where several workers search.
+    fn explain_by<R: Threads + Wait + Sync, G: Gate + Sync>(
+        &mut self,
+        crew: &Crew<'_, R, G>,
+        alloc: Global,
+        row: &Row,
+        query: &Query,
+    ) -> Result<Answer, AllocError>
+        requires row { row.now ≡ J.cells }
+        requires all { self.old.at ≡ length self.old.state.seen }
+        requires question { IsQuestion (world_after self.old.state.seen) query.now }
+        requires player { CanAsk self.old.state.player query.now }
+        ensures same { self.new.state ≡ self.old.state }
+        ensures version { IfOk result (λ a. a.version ≡ length self.old.state.seen) }
+        ensures shown { IfOk result (λ a. IsShown self.old.state.seen self.old.state.player query.now (answered a)) }
+    {
+        let (version, player) = (self.seen(), self.player);
+        let world = self.replica.world();
+        match query {
+            Query::Journey(journey) => Ok(guide_by(crew, alloc, world, version, player, journey)?),
+            Query::Proof(journey) => prove_by(crew, alloc, world, version, player, journey),
+            Query::View(_) | Query::History => self.explain(alloc, row, query),
         }
     }
 }

@@ -1,10 +1,9 @@
 //! The settlement of a hall.
 
-ghost use Rattle.std.specs.Prelude.{◌≡◌, ◌≢◌, ◌≤◌, ◌+◌, ◌↔◌, ◌⊎◌, length, All, IfOk, IfErr, IfSome, IsTrue, OnOk};
-ghost use Rattle.std.specs.List.{AllPairs};
+ghost use Rattle.std.specs.Prelude.{◌≡◌, ◌≤◌, ◌+◌, ◌↔◌, ◌⊎◌, length, All, IfOk, IfErr, IfSome, IsTrue, OnOk};
 ghost use mathlib.Core.List.{IsPrefix};
 ghost use Rattle.mud_hall.specs.Settling.{IsGathered, IsSettled, IsCloseFault, IsAtOdds, IsMissing};
-ghost use Rattle.mud_hall.specs.Settling.{HasNumber, HaveSameNumber, versions_by, made, first_apart};
+ghost use Rattle.mud_hall.specs.Settling.{HasNumber, AreApart, HaveSameNumber, versions_by, made, first_apart};
 ghost use Rattle.mud_hall.specs.Checking.{lesser_of, IsLeast, Differs, IsUnnamed, IsCheckFault};
 
 use crate::desk::Desk;
@@ -140,7 +139,7 @@ fn check<J: HallName>(
     requires few { length new.now + first ≤ 65537 }
     requires given { given ≤ 64 }
     ensures calls { OnOk result (All (λ d. d.state.calls ≡ versions_by d.state.number first new.now) desks.now) }
-    ensures apart { OnOk result (AllPairs (λ c d. c.state.number ≢ d.state.number) desks.now) }
+    ensures apart { OnOk result (AreApart desks.now) }
     ensures named { OnOk result (All (λ e. HasNumber desks.now e.desk) new.now) }
     ensures fault { IfErr result (IsCheckFault desks.now first new.now) }
 {

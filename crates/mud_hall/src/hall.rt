@@ -7,6 +7,7 @@ ghost use Rattle.mud_hall.specs.Replies.{Failed, shown, Acts};
 ghost use Rattle.mud_hall.specs.Answers.{answered, Answers};
 ghost use Rattle.mud_hall.specs.Opening.{Begun, IsLoadFault};
 
+use crate::crew::Crew;
 use crate::desk::Desk;
 use crate::fault::{Fault, LoadFault};
 use crate::kept::Kept;
@@ -15,9 +16,11 @@ use crate::reply::Reply;
 use mud_chron::{ChronFault, Entry, replay};
 use mud_guide::Answer;
 use mud_row::{FillFault, Pass, Replica, Row};
+use mud_search::Gate;
 use std::alloc::{AllocError, Global};
 use std::marker::Model;
 use std::sync::{Mutex, Wait};
+use std::thread::Threads;
 
 /// A hall that has no name yet. A contract sees the names of the cells of its history, and the
 /// entries that it begins with.
@@ -208,6 +211,26 @@ impl<J: HallName> Desk<J> {
         ensures fault { IfErr result (λ f. f ≡ Fault.OutOfMemory) }
     {
         let answer = self.answer(hall.alloc, &hall.row, line)?;
+        Ok(answer)
+    }
+
+    /// Answers as [`Desk::ask`], where the guide is asked by so many workers, who pass the gate with
+    /// each room; the caller's thread is the first (see [`mud_search::labels`]). It waits for those
+    /// workers alone, and ends if the gate lets all pass.
+    pub fn ask_with<R: Threads + Wait + Sync, G: Gate + Sync>(
+        &mut self,
+        rt: &R,
+        hall: &Hall<J>,
+        line: &str,
+        workers: usize,
+        gate: &G,
+    ) -> Result<Answer, Fault>
+        ensures same { self.new.state ≡ self.old.state }
+        ensures ok { IfOk result (λ a. Answers self.old.state line.now (answered a)) }
+        ensures fault { IfErr result (λ f. f ≡ Fault.OutOfMemory) }
+    {
+        let crew = Crew { rt, workers, gate };
+        let answer = self.answer_by(&crew, hall.alloc, &hall.row, line)?;
         Ok(answer)
     }
 }

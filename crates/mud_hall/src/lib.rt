@@ -5,6 +5,7 @@ mod acting;
 mod answering;
 mod asking;
 mod close;
+mod crew;
 mod desk;
 mod entries;
 mod fault;

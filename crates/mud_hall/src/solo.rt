@@ -9,16 +9,20 @@ ghost use Rattle.mud_hall.specs.Answers.{answered, Answers, IsShown};
 ghost use Rattle.mud_hall.specs.Alone.{Alone, alone};
 
 use crate::answering;
+use crate::crew::{Crew, guide_by, prove_by};
 use crate::fault::Fault;
 use crate::reply::Reply;
 use crate::texts::history_answer;
 use mud_chron::Entry;
 use mud_guide::Answer;
 use mud_rules::{Query, Verdict, decide, refusal_text, reply_text, welcome_text};
+use mud_search::OpenGate;
 use mud_words::parse;
 use mud_world::{Change, World};
 use std::alloc::{AllocError, Global};
 use std::marker::Model;
+use std::sync::Wait;
+use std::thread::Threads;
 
 /// A desk that nobody else uses: its player, its world, and the entries that led there, all of desk
 /// 1. It is a desk of a hall in all it answers, but that no entry is ever not stored.
@@ -29,6 +33,7 @@ pub struct Solo {
     world: World,
     history: Vec<Entry>,
     player: u32,
+    workers: u32,
 }
 
 impl Model for Solo {
@@ -60,7 +65,16 @@ impl Solo {
             world,
             history: Vec::new(alloc),
             player: 1,
+            workers: 0,
         })
+    }
+
+    /// From now on so many workers search for what the guide is asked; at first there are none, and
+    /// the caller's thread searches alone. The answers are the same.
+    pub fn set_workers(&mut self, workers: u32)
+        ensures { self.new ≡ self.old }
+    {
+        self.workers = workers;
     }
 
     /// Replies to a line, as `Hall::act`. A change is made, or it is `HistoryFull`; after a fault the
@@ -144,12 +158,12 @@ impl Solo {
         })
     }
 
-    /// Answers a line, as `Desk::ask`.
-    pub fn ask(&self, line: &str) -> Result<Answer, AllocError>
+    /// Answers a line, as `Desk::ask_with` at an open gate.
+    pub fn ask<R: Threads + Wait + Sync>(&self, rt: &R, line: &str) -> Result<Answer, AllocError>
         ensures { IfOk result (λ a. Answers self.now.state line.now (answered a)) }
     {
         match self.verdict(line)? {
-            Verdict::Ask(query) => self.explain(&query),
+            Verdict::Ask(query) => self.explain(rt, &query),
             Verdict::Refused(refusal) => {
                 answering::plain(self.alloc, self.version(), refusal_text(refusal))
             }
@@ -159,19 +173,23 @@ impl Solo {
     }
 
     // The answer to a question.
-    fn explain(&self, query: &Query) -> Result<Answer, AllocError>
+    fn explain<R: Threads + Wait + Sync>(&self, rt: &R, query: &Query) -> Result<Answer, AllocError>
         requires { IsQuestion (world_after self.now.state.seen) query.now }
         ensures version { IfOk result (λ a. a.version ≡ length self.now.state.seen) }
         ensures shown { IfOk result (λ a. IsShown self.now.state.seen self.now.state.player query.now (answered a)) }
     {
         let (version, player) = (self.version(), Some(self.player));
         let (alloc, world) = (self.alloc, &self.world);
+        let workers = self.workers as usize;
+        let crew = Crew {
+            rt,
+            workers,
+            gate: &OpenGate,
+        };
         match query {
             Query::View(view) => answering::view(alloc, world, version, player, view),
-            Query::Journey(journey) => {
-                Ok(answering::guide(alloc, world, version, player, journey)?)
-            }
-            Query::Proof(journey) => answering::prove(alloc, world, version, player, journey),
+            Query::Journey(journey) => Ok(guide_by(&crew, alloc, world, version, player, journey)?),
+            Query::Proof(journey) => prove_by(&crew, alloc, world, version, player, journey),
             Query::History => Ok(Answer {
                 version,
                 text: history_answer(alloc, &self.history)?,

@@ -1,6 +1,7 @@
 //! Where the lines of a session are answered.
 
 ghost use Rattle.std.specs.Prelude.{◌≡◌, ◌≢◌, ◌++◌, [], IfOk, IfErr, OnOk, map, string_bytes};
+ghost use Rattle.std.specs.Thread.{IsSync};
 ghost use Rattle.mud_hall.specs.Desk.{DeskState, with_told};
 ghost use Rattle.mud_hall.specs.Replies.{Failed, Replies, shown};
 ghost use Rattle.mud_hall.specs.Answers.{Answers, answered};
@@ -36,6 +37,7 @@ pub trait Door {
 
     /// Answers a line that asks, by exactly what the desk has seen.
     fn ask<X: Threads + Wait + Sync>(&mut self, rt: &X, line: &str) -> Result<Answer, Fault>
+        requires { IsSync X.row }
         ensures capacity { (state self.new).capacity ≡ (state self.old).capacity }
         ensures same { (state self.new).desk ≡ (state self.old).desk }
         ensures answers { IfOk result (λ a. Answers (state self.old).desk line.now (answered a)) }
@@ -61,8 +63,8 @@ impl Door for Solo {
         Ok(())
     }
 
-    fn ask<X: Threads + Wait + Sync>(&mut self, _rt: &X, line: &str) -> Result<Answer, Fault> {
-        Ok(Solo::ask(self, line)?)
+    fn ask<X: Threads + Wait + Sync>(&mut self, rt: &X, line: &str) -> Result<Answer, Fault> {
+        Ok(Solo::ask(self, rt, line)?)
     }
 
     fn take_told(&mut self) -> Vec<String> {

@@ -1,8 +1,9 @@
 //! A session over a reader and a writer.
 
-ghost use Rattle.std.specs.Prelude.{◌≡◌, ℕ, ◌≤◌, ◌⊎◌, [], true, false, List, OnOk, OnErr, IfErr};
+ghost use Rattle.std.specs.Prelude.{◌≡◌, ℕ, ◌≤◌, ◌⊎◌, [], true, false, List, OnOk, OnErr, IfOk, IfErr};
 ghost use Rattle.mud_nvt.specs.History.{StandsAfter};
 ghost use Rattle.mud_ends.specs.Ends.{unread, unwritten};
+ghost use Rattle.mud_hall.specs.Alone.{alone};
 ghost use Rattle.mud_session.specs.Session.{TakesNone};
 ghost use Rattle.mud_session.specs.State.{talk_of};
 ghost use Rattle.mud_session.specs.Script.{begins, IsWhole, IsFront, IsOpen};
@@ -12,7 +13,7 @@ use crate::door::Door;
 use crate::session::Session;
 use mud_ends::{MAX_READS, Sink, Source};
 use mud_hall::Solo;
-use std::alloc::Global;
+use std::alloc::{AllocError, Global};
 use std::io::{Read, Write};
 use std::sync::Wait;
 use std::thread::Threads;
@@ -35,16 +36,15 @@ const BUFFER_LEN: usize = 4096;
 
 /// Answers the lines of a reader at a desk of its own, whose history holds at most `capacity` entries,
 /// 1 to 65,536, up to the reader's end or to an answered `quit`. Behind the reader's end comes one more
-/// line feed. After a fault what was written is a front of the text of what was read. The number of
-/// workers, 0 to 8, has no effect yet: it is for questions whose answers are searched for by several
-/// workers.
+/// line feed. After a fault what was written is a front of the text of what was read. So many workers,
+/// 0 to 8, search for what the guide is asked; what is written is the same.
 pub fn script<X: Threads + Wait + Sync, R: Read, W: Write>(
     rt: &X,
     alloc: Global,
     source: &mut Source<R>,
     sink: &mut Sink<W>,
     capacity: u32,
-    _workers: u32,
+    workers: u32,
 ) -> Result<(), ScriptFault>
     requires fresh { source.old ≡ unread source.old.left }
     requires unwritten { sink.old ≡ unwritten sink.old.holds }
@@ -58,7 +58,7 @@ pub fn script<X: Threads + Wait + Sync, R: Read, W: Write>(
     ensures open { result ≡ Err ScriptFault.TooManyReads
         → IsOpen TakesNone (begins capacity) source.old source.new sink.old sink.new }
 {
-    let mut solo = match Solo::open(alloc, capacity) {
+    let mut solo = match lone_desk(alloc, capacity, workers) {
         Ok(solo) => solo,
         Err(_) => return Err(ScriptFault::OutOfMemory),
     };
@@ -67,6 +67,16 @@ pub fn script<X: Threads + Wait + Sync, R: Read, W: Write>(
         Err(_) => return Err(ScriptFault::OutOfMemory),
     };
     converse(rt, &mut session, &mut solo, source, sink)
+}
+
+// A desk of its own, at which so many workers search.
+fn lone_desk(alloc: Global, capacity: u32, workers: u32) -> Result<Solo, AllocError>
+    requires { capacity ≤ 65536 }
+    ensures { IfOk result (λ solo. solo ≡ alone capacity 1 []) }
+{
+    let mut solo = Solo::open(alloc, capacity)?;
+    solo.set_workers(workers);
+    Ok(solo)
 }
 
 // Answers the lines of a reader at a door.

@@ -6,6 +6,7 @@ ghost use Rattle.mud_hall.specs.Desk.{untold};
 use crate::door::Door;
 use mud_guide::Answer;
 use mud_hall::{Desk, Fault, Hall, HallName, Reply};
+use mud_search::OpenGate;
 use std::marker::Model;
 use std::sync::Wait;
 use std::thread::Threads;
@@ -37,8 +38,8 @@ impl<'h, J: HallName> Model for Seat<'h, J> {
 }
 
 impl<'h, J: HallName> Seat<'h, J> {
-    /// The desk at its hall. The number of workers, 0 to 8, has no effect yet: it is for questions
-    /// whose answers are searched for by several workers.
+    /// The desk at its hall. So many workers, 0 to 8, search for what the guide is asked; the answers
+    /// are the same.
     pub fn new(hall: &'h Hall<J>, desk: Desk<J>, workers: u32) -> Seat<'h, J>
         requires { workers ≤ 8 }
         ensures { result ≡ record { capacity = length J.cells; desk = desk.state; untold = untold desk } }
@@ -88,8 +89,9 @@ impl<'h, J: HallName> Door for Seat<'h, J> {
         self.desk.see(self.hall)
     }
 
-    fn ask<X: Threads + Wait + Sync>(&mut self, _rt: &X, line: &str) -> Result<Answer, Fault> {
-        self.desk.ask(self.hall, line)
+    fn ask<X: Threads + Wait + Sync>(&mut self, rt: &X, line: &str) -> Result<Answer, Fault> {
+        let workers = self.workers as usize;
+        self.desk.ask_with(rt, self.hall, line, workers, &OpenGate)
     }
 
     fn take_told(&mut self) -> Vec<String> {

@@ -1,6 +1,6 @@
 use Rattle.std.proofs.Common.{map}
 use Rattle.std.specs.Prelude.{string_bytes}
-use Rattle.mud_hall.proofs.Showing.{IsAt, guided-shown, proven-shown, at-desk}
+use Rattle.mud_hall.proofs.Showing.{guided-shown, proven-shown, at-desk}
 use Rattle.mud_hall.proofs.desk.Desk.explain.Goals as goal
 
 pub returns-in_ok-guide-in-Journey-clause-shown : goal.returns-in_ok-guide-in-Journey-clause-shown

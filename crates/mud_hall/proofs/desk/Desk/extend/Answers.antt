@@ -1,4 +1,4 @@
-use Rattle.std.proofs.Common.{◌≡◌, map, ap}
+use Rattle.std.proofs.Common.{map, ap}
 use Rattle.std.specs.Prelude.{string_bytes}
 use Rattle.mud_hall.proofs.Notices.{grows}
 use Rattle.mud_hall.proofs.Seats.{held-on}

@@ -1,6 +1,5 @@
-use Rattle.std.proofs.Common.{◌≡◌, ◌++◌, [], None, map, take, drop, refl}
+use Rattle.std.proofs.Common.{None, map, take, drop, refl}
 use Rattle.std.specs.Prelude.{string_bytes}
-use Rattle.mud_hall.specs.Told.{notices}
 use Rattle.mud_hall.specs.Desk.{state_of, new_desk}
 use Rattle.mud_hall.proofs.Notices.{notices-none, state_eq}
 use Rattle.mud_hall.proofs.desk.Desk.guest_at.Goals as goal

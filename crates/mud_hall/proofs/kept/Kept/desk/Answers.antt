@@ -1,6 +1,5 @@
-use Rattle.std.proofs.Common.{◌≡◌, ◌∙◌, ap, arith}
+use Rattle.std.proofs.Common.{◌∙◌, ap, arith}
 use Rattle.mud_row.specs.Known.{Standing}
-use Rattle.mud_hall.specs.Desk.{IsKept}
 use Rattle.mud_hall.proofs.Seats.{prefix_trans}
 use Rattle.mud_hall.proofs.kept.Kept.desk.Goals as goal
 

@@ -1,10 +1,9 @@
-use Rattle.std.proofs.Common.{◌≡◌, ◌≢◌, ◌+◌, ◌-◌, ℕ, List, length, take, drop, subst, ap, ◌∙◌}
+use Rattle.std.proofs.Common.{◌≡◌, ◌+◌, ◌-◌, ℕ, List, length, take, drop, subst, ap, ◌∙◌}
 use Rattle.std.specs.Prelude.{All}
-use Rattle.std.specs.List.{AllPairs}
 use Rattle.mud_chron.specs.Entry.{Accepted}
 use Rattle.mud_hall.specs.declared.fault.CloseFault.{CloseFault}
 use Rattle.mud_hall.specs.Desk.{View}
-use Rattle.mud_hall.specs.Settling.{HasNumber, versions_by, made}
+use Rattle.mud_hall.specs.Settling.{HasNumber, AreApart, versions_by, made}
 use Rattle.mud_hall.specs.Checking.{IsCheckFault}
 use Rattle.mud_hall.proofs.Lists.{rest-all}
 use Rattle.mud_hall.proofs.Checks.{fault_of}
@@ -29,7 +28,6 @@ returns-clause-settled g c =
     let desks : c.deref-2.result.now ≡ ds = c.deref-2.ensures.value ∙ c.gathered.ensures.same in
     let C : List View → ℕ → List Accepted → Type 0 =
     λ xs m es. All (λ (d : View). d.state.calls ≡ versions_by d.state.number m es) xs in
-    let A : List View → Type 0 = λ xs. AllPairs (λ (x : View) (y : View). x.state.number ≢ y.state.number) xs in
     let N : List View → ℕ → List Accepted → Type 0 = λ xs m es. All (λ (e : Accepted). HasNumber xs e.desk) es in
     let carry = λ (P : List View → ℕ → List Accepted → Type 0).
     carried P g.J.HallName.loaded h c.deref.result.now c.args.loaded c.deref-2.result.now ds
@@ -37,7 +35,7 @@ returns-clause-settled g c =
     record {
       gathered = c.in_ok-history.ensures.gathered;
       calls = carry C c.in_default.ensures.calls;
-      apart = subst A desks c.in_default.ensures.apart;
+      apart = subst AreApart desks c.in_default.ensures.apart;
       named = carry N c.in_default.ensures.named;
     }
 

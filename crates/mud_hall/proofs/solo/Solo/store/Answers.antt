@@ -1,10 +1,10 @@
-use Rattle.std.proofs.Common.{◌≡◌, ℕ, ◌+◌, ◌<◌, List, [], ◌∷◌, ◌++◌, length, Option}
+use Rattle.std.proofs.Common.{◌≡◌, ℕ, ◌+◌, List, [], ◌∷◌, ◌++◌, length}
 use Rattle.std.proofs.Common.{Some, None, refl, sym, ap, ◌∙◌, subst, arith, length-append}
-use Rattle.std.specs.Prelude.{IsTrue, if◌then◌else◌, string_bytes}
+use Rattle.std.specs.Prelude.{IsTrue}
 use Rattle.std.proofs.lemmas.List.{map_push}
 use Rattle.mud_world.specs.State.{State, is_player}
 use Rattle.mud_world.specs.History.{world_of}
-use Rattle.mud_world.specs.Legal.{refusal, after, is_arrival}
+use Rattle.mud_world.specs.Legal.{refusal, after}
 use Rattle.mud_world.proofs.Histories.{world_of-legal}
 use Rattle.mud_rules.specs.Outcome.{IsActor}
 use Rattle.mud_rules.specs.Replies.{reply_text}

@@ -1,6 +1,6 @@
 //! The command lines of the programs: what their words ask for.
 //!
-//! A program takes its words by `words_of`, and what they ask for by a function of its own: `limits_of` for
+//! A program takes its words by `words_of`, and what they ask for by a function of its own: `service_of` for
 //! `mud_serve`, `sources_of` for `mud_check`, `task_of` for `mud_explain`. Where the words ask for nothing,
 //! the fault has the text to be shown.
 #![tactic(auto)]
@@ -8,13 +8,15 @@
 mod fault;
 mod limits;
 mod matches;
+mod service;
 mod sources;
 mod subject;
 mod task;
 mod words;
 
 pub use crate::fault::{CommandFault, show};
-pub use crate::limits::{Limits, limits_of};
+pub use crate::limits::Limits;
+pub use crate::service::{KIT, Listening, Service, service_of};
 pub use crate::sources::{Sources, sources_of};
 pub use crate::subject::{Reading, Subject};
 pub use crate::task::{Opening, Task, task_of};

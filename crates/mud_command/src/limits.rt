@@ -1,88 +1,35 @@
-//! The command line of `mud_serve`.
+//! What several command lines have in common: numbers with limits, and the history to go on from.
 
-ghost use Rattle.std.specs.Prelude.{◌≤◌, IfOk, IfSome};
+ghost use Rattle.std.specs.Prelude.{IfSome};
+ghost use Rattle.mud_command.specs.Service.{AreWithin};
 
-use crate::fault::CommandFault;
-use crate::matches::{matches_of, unfit};
-use clap::error::ErrorKind;
-use clap::{Arg, ArgMatches, Command, value_parser};
-use std::alloc::{AllocError, Global};
+use clap::{Arg, ArgMatches, value_parser};
+use std::alloc::Global;
 
-/// What `mud_serve script` was asked for.
+/// How many workers a service has, and how many changes its history holds.
 #[derive(Clone, Copy, Debug, PartialEq, Eq)]
 pub struct Limits {
-    /// How many workers answer a question, 0 to 8. They have no effect yet.
+    /// How many workers answer a question, 0 to 8.
     pub workers: u32,
     /// How many changes the history holds at most, 1 to 65,536.
     pub capacity: u32,
 }
 
-/// What the words of `mud_serve` ask for; the first is the program's name.
-pub fn limits_of(alloc: Global, words: &[String]) -> Result<Limits, CommandFault>
-    ensures workers { IfOk result (λ limits. limits.workers ≤ 8) }
-    ensures least { IfOk result (λ limits. 1 ≤ limits.capacity) }
-    ensures most { IfOk result (λ limits. limits.capacity ≤ 65536) }
-{
-    match command(alloc) {
-        Ok(mut command) => limits_by(alloc, &mut command, words),
-        Err(_) => Err(CommandFault::OutOfMemory),
-    }
-}
-
-// What the words ask for, as the command line reads them.
-fn limits_by<'a>(
-    alloc: Global,
-    command: &mut Command<'a>,
-    words: &'a [String],
-) -> Result<Limits, CommandFault>
-    ensures workers { IfOk result (λ limits. limits.workers ≤ 8) }
-    ensures least { IfOk result (λ limits. 1 ≤ limits.capacity) }
-    ensures most { IfOk result (λ limits. limits.capacity ≤ 65536) }
-{
-    let matches = matches_of(alloc, command, words)?;
-    match limits_in(&matches) {
-        Some(limits) => Ok(limits),
-        None => {
-            let message = "a number is out of its range";
-            Err(unfit(alloc, command, ErrorKind::ValueValidation, message))
-        }
-    }
-}
-
 // The numbers that were read, if each is within its range.
-fn limits_in(matches: &ArgMatches) -> Option<Limits>
-    ensures workers { IfSome result (λ limits. limits.workers ≤ 8) }
-    ensures least { IfSome result (λ limits. 1 ≤ limits.capacity) }
-    ensures most { IfSome result (λ limits. limits.capacity ≤ 65536) }
+pub(crate) fn limits_in(matches: &ArgMatches) -> Option<Limits>
+    ensures { IfSome result AreWithin }
 {
-    let script = matches.subcommand_matches("script")?;
     match (
-        script.get_one::<u32>("workers"),
-        script.get_one::<u32>("capacity"),
+        matches.get_one::<u32>("workers"),
+        matches.get_one::<u32>("capacity"),
     ) {
         (Some(workers @ 0..=8), Some(capacity @ 1..=65_536)) => Some(Limits { workers, capacity }),
         _ => None,
     }
 }
 
-// The command line that is understood.
-fn command<'a>(alloc: Global) -> Result<Command<'a>, AllocError> {
-    let script = script(alloc)?;
-    Command::new(alloc, "mud_serve")
-        .about("A server of text worlds")
-        .subcommand_required(true)
-        .subcommand(script)
-}
-
-// The command of a script.
-fn script<'a>(alloc: Global) -> Result<Command<'a>, AllocError> {
-    Command::new(alloc, "script")
-        .about("Answers the lines of standard input, as the Wizard in a world of his own")
-        .arg(workers(alloc))?
-        .arg(capacity(alloc))
-}
-
-fn workers<'a>(alloc: Global) -> Arg<'a> {
+// How many workers answer a question.
+pub(crate) fn workers<'a>(alloc: Global) -> Arg<'a> {
     number(alloc, "workers", 0, 8)
         .default_value("0")
         .help("How many workers answer a question, 0 to 8")
@@ -95,8 +42,16 @@ pub(crate) fn capacity<'a>(alloc: Global) -> Arg<'a> {
         .help("How many changes the history holds, 1 to 65536")
 }
 
+// The history that a hall goes on from.
+pub(crate) fn load<'a>(alloc: Global) -> Arg<'a> {
+    Arg::new(alloc, "load")
+        .long("load")
+        .value_name("FILE")
+        .help("The history that the hall goes on from")
+}
+
 // A number within these bounds.
-fn number<'a>(alloc: Global, name: &'a str, least: i64, most: i64) -> Arg<'a> {
+pub(crate) fn number<'a>(alloc: Global, name: &'a str, least: i64, most: i64) -> Arg<'a> {
     Arg::new(alloc, name)
         .long(name)
         .value_name("N")

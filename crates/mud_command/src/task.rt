@@ -4,7 +4,7 @@ ghost use Rattle.std.specs.Prelude.{◌≤◌, IfOk, IfSome};
 ghost use Rattle.mud_command.specs.Task.{IsWithin};
 
 use crate::fault::CommandFault;
-use crate::limits::capacity;
+use crate::limits::{capacity, load};
 use crate::matches::{matches_of, unfit};
 use crate::subject::{SUBJECTS, Subject, subject_named};
 use clap::error::ErrorKind;
@@ -98,11 +98,4 @@ fn hall<'a>(alloc: Global) -> Result<Command<'a>, AllocError> {
         .about("What each line, a step of a desk, comes to in one hall")
         .arg(capacity(alloc))?
         .arg(load(alloc))
-}
-
-fn load<'a>(alloc: Global) -> Arg<'a> {
-    Arg::new(alloc, "load")
-        .long("load")
-        .value_name("FILE")
-        .help("The history that the hall goes on from")
 }

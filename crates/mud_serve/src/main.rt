@@ -1,48 +1,73 @@
 //! `mud_serve`: a server of text worlds.
+//!
+//! `mud_serve script` answers the lines of standard input; `mud_serve listen` serves players who come by Telnet.
+//! docs/SERVER.md has the command lines and the statuses.
 #![tactic(auto)]
 
-ghost use Rattle.std.specs.Prelude.{◌≤◌, IfOk};
+mod serving;
+mod stop;
 
-use mud_command::{CommandFault, Limits, limits_of, show, words_of};
-use mud_ends::{Sink, Source};
-use mud_session::{ScriptFault, script};
-use std::io;
+use crate::serving::{answer, listen};
+use crate::stop::Stop;
+use log::Log;
+use mud_command::{CommandFault, KIT, Service, service_of, show, words_of};
+use std::io::{Eprint, Print};
+use std::net::{Net, TcpListener, TcpStream};
 use std::process::ExitCode;
+use std::rt::Runtime;
+use std::sync::Wait;
+use std::thread::Threads;
 
 fn main(rt: HostRuntime) -> ExitCode {
-    let limits = match limits_given(&rt) {
-        Ok(limits) => limits,
-        Err(CommandFault::OutOfMemory) => return stopped(&rt, ScriptFault::OutOfMemory),
-        Err(CommandFault::Told(text)) => return ExitCode::from(show(&rt, text.as_str())),
-    };
-    let mut source = Source::new(rt.reader());
-    let mut sink = Sink::new(io::writer(&rt));
-    match script(
-        &rt,
-        rt.alloc(),
-        &mut source,
-        &mut sink,
-        limits.capacity,
-        limits.workers,
-    ) {
-        Ok(()) => ExitCode::SUCCESS,
-        Err(fault) => stopped(&rt, fault),
+    match words_of(&rt) {
+        Ok(words) => run(&rt, words.as_slice()),
+        Err(fault) => unasked(&rt, fault),
     }
 }
 
-// What the words of the command line ask for.
-fn limits_given(rt: &HostRuntime) -> Result<Limits, CommandFault>
-    ensures { IfOk result (λ limits. limits.capacity ≤ 65536) }
-{
-    let words = words_of(rt)?;
-    limits_of(rt.alloc(), words.as_slice())
+// Does what the words ask for.
+fn run<
+    R: Runtime
+        + AllocGlobal
+        + Threads
+        + Wait
+        + Log
+        + Sync
+        + Net<Listener = TcpListener, Stream = TcpStream>,
+>(rt: &R, words: &[String]) -> ExitCode {
+    let service = match service_of(rt.alloc(), words) {
+        Ok(service) => service,
+        Err(fault) => return unasked(rt, fault),
+    };
+    let ended = match service {
+        Service::Version => tell_version(rt),
+        Service::Script(limits) => answer(rt, limits),
+        Service::Listen(listening) => listen(rt, listening),
+    };
+    match ended {
+        Ok(()) => ExitCode::SUCCESS,
+        Err(stop) => stopped(rt, stop),
+    }
+}
+
+// Names the program, and the toolchain with which it was proved.
+fn tell_version<R: Print>(rt: &R) -> Result<(), Stop> {
+    match println!(rt; "mud_serve, proved with {KIT}") {
+        Ok(()) => Ok(()),
+        Err(_) => Err(Stop::Write),
+    }
+}
+
+// Says why the words ask for nothing, and answers the status.
+fn unasked<R: Eprint>(rt: &R, fault: CommandFault) -> ExitCode {
+    match fault {
+        CommandFault::OutOfMemory => stopped(rt, Stop::OutOfMemory),
+        CommandFault::Told(text) => ExitCode::from(show(rt, text.as_str())),
+    }
 }
 
 // Says why the program stopped, where that can be said, and answers its status.
-fn stopped(rt: &HostRuntime, fault: ScriptFault) -> ExitCode {
-    let _ = eprintln!(rt; "mud_serve: {fault}");
-    ExitCode::from(match fault {
-        ScriptFault::OutOfMemory => 4,
-        ScriptFault::Read | ScriptFault::Write | ScriptFault::TooManyReads => 3,
-    })
+fn stopped<R: Eprint>(rt: &R, stop: Stop) -> ExitCode {
+    let _ = eprintln!(rt; "mud_serve: {stop}");
+    ExitCode::from(stop.status())
 }

@@ -6,7 +6,7 @@ use crate::rows::{number, parted};
 use mud_chron::Entry;
 use mud_hall::{Desk, Fault, Hall, HallName, NewHall, Reply};
 use std::alloc::{AllocError, Global};
-use std::marker::Brand;
+use std::marker::{Brand, PhantomData};
 use std::process::Abort;
 use std::sync::Wait;
 use std::test::Fail;
@@ -124,6 +124,40 @@ fn act_often<J: HallName, R: Wait>(
     tally
 }
 
+// What a thread does with a hall and a desk of it, whatever their types are.
+trait Acts<H, D, T> {
+    fn act_often<R: Wait>(rt: &R, hall: &H, desk: D, count: u32, line: &str) -> T;
+}
+
+// What it does with the hall that `J` names.
+#[derive(Drop)]
+struct OfHall<J: HallName> {
+    of: PhantomData<J>,
+}
+
+impl<J: HallName> Acts<Hall<J>, Desk<J>, Tally<J>> for OfHall<J> {
+    fn act_often<R: Wait>(
+        rt: &R,
+        hall: &Hall<J>,
+        desk: Desk<J>,
+        count: u32,
+        line: &str,
+    ) -> Tally<J> {
+        act_often(rt, hall, desk, count, line)
+    }
+}
+
+// Each desk acts so many times, on a thread of its own.
+fn acted<
+    H: Sync,
+    D: Send + Drop,
+    T: Send + Drop,
+    K: Acts<H, D, T> + Send + Sync,
+    R: Threads + Wait + Sync,
+>(rt: &R, hall: &H, desks: Vec<D>, count: u32, line: &str) -> Result<Vec<T>, AllocError> {
+    thread::map_vec(rt, desks, &|desk| K::act_often(rt, hall, desk, count, line))
+}
+
 // What came of all the lines of these desks, which are put back.
 fn added<J: HallName>(
     alloc: Global,
@@ -150,7 +184,7 @@ fn each<J: HallName + Send + Sync, R: Threads + Wait + Sync>(
     line: &str,
 ) -> Result<String, AllocError> {
     let sent = mem::replace(desks, Vec::new(alloc));
-    let tallies = thread::map_vec(rt, sent, &|desk| act_often(rt, hall, desk, count, line))?;
+    let tallies = acted::<Hall<J>, Desk<J>, Tally<J>, OfHall<J>, R>(rt, hall, sent, count, line)?;
     added(alloc, desks, tallies)
 }
 

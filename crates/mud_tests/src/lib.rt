@@ -18,6 +18,8 @@ mod hall;
 #[cfg(test)]
 mod house;
 #[cfg(test)]
+mod listen;
+#[cfg(test)]
 mod nvt;
 #[cfg(test)]
 mod plain;
@@ -33,5 +35,7 @@ mod search;
 mod sessions;
 #[cfg(test)]
 mod village;
+#[cfg(test)]
+mod workers;
 #[cfg(test)]
 mod world;

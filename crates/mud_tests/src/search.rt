@@ -15,7 +15,7 @@ use std::test::Fail;
 
 // The exits #3 from #0 to #2 at cost 9, #5 from #0 to #4 at 3, #6 from #4 to #2 at 4, #8 from #2 to
 // #7 at 1, and #9 from #2 to #0 at 1.
-const CROSSING: &str = "mud history 2
+pub(crate) const CROSSING: &str = "mud history 2
 1 1 dig #1 new \"A\" out \"a\"
 2 1 cost #1 #3 9
 3 1 dig #1 new \"B\" out \"b\"
@@ -152,7 +152,7 @@ fn by_hand<J: Job>(
 }
 
 // What the labels of the crossing are, from #0.
-fn check_labels(rt: &impl Abort, labels: &Labels) {
+pub(crate) fn check_labels(rt: &impl Abort, labels: &Labels) {
     for (room, wanted) in [
         (0, Some(label(0, 0))),
         (1, None),

@@ -1,0 +1,252 @@
+//! load PORT CLIENTS LINES seamountcup|mux: as many clients in a closed loop, each of which sends its next line when
+//! the last one was answered, LINES in all. One thread works them all by `poll`, so that it takes little of the machine
+//! that it measures. It prints three lines: how many lines were answered, in how many seconds, how many lines were read
+//! and how many of them told what another said; then the milliseconds that half of the replies and 99 of 100 stay
+//! below; and the same of the notices, from when the line was sent.
+
+use std::collections::HashMap;
+use std::io::{self, Read, Write};
+use std::net::TcpStream;
+use std::os::fd::AsRawFd;
+use std::time::{Duration, Instant};
+
+#[repr(C)]
+struct PollFd {
+    file: i32,
+    events: i16,
+    found: i16,
+}
+
+extern "C" {
+    fn poll(files: *mut PollFd, count: u64, milliseconds: i32) -> i32;
+    fn setsockopt(file: i32, level: i32, name: i32, value: *const i32, length: u32) -> i32;
+}
+
+const IPPROTO_TCP: i32 = 6;
+const TCP_QUICKACK: i32 = 12;
+
+const READABLE: i16 = 1;
+const PATIENCE: i32 = 20_000;
+/// What a client sends over and over; `say` gets a text of its own each time.
+const ROUND: [&str; 8] = ["look", "say", "north", "inventory", "@version", "say", "south", "look"];
+const SAID: &str = "number ";
+
+/// Which server is spoken to.
+#[derive(Clone, Copy, PartialEq)]
+enum Dialect {
+    Seamountcup,
+    Mux,
+}
+
+impl Dialect {
+    /// What brings a client into the world.
+    fn arrival(self, at: usize) -> String {
+        match self {
+            Dialect::Seamountcup => format!("connect Load{at}\r\n"),
+            Dialect::Mux => format!("OUTPUTSUFFIX [end]\r\ncreate Load{at} secret{at}\r\n"),
+        }
+    }
+
+    /// Whether a line is the end of what is answered to a line that was sent.
+    fn is_answer(self, line: &str) -> bool {
+        match self {
+            Dialect::Seamountcup => line.starts_with('[') || line == "(history full)",
+            Dialect::Mux => line == "[end]",
+        }
+    }
+
+    /// A line of the round.
+    fn spelled(self, line: &str, number: usize) -> String {
+        match (line, self) {
+            ("say", _) => format!("say {SAID}{number}"),
+            ("@version", Dialect::Mux) => "version".to_string(),
+            _ => line.to_string(),
+        }
+    }
+}
+
+/// What was measured.
+#[derive(Default)]
+struct Times {
+    replies: Vec<Duration>,
+    notices: Vec<Duration>,
+    lines_read: usize,
+    said: HashMap<usize, Instant>,
+}
+
+struct Client {
+    stream: TcpStream,
+    kept: Vec<u8>,
+    sent_at: Instant,
+    is_waiting: bool,
+    left: usize,
+    at: usize,
+}
+
+impl Client {
+    fn connect(port: u16, lines: usize, at: usize) -> io::Result<Client> {
+        let stream = TcpStream::connect(("127.0.0.1", port))?;
+        stream.set_nodelay(true)?;
+        stream.set_read_timeout(Some(Duration::from_secs(20)))?;
+        let (kept, sent_at) = (Vec::new(), Instant::now());
+        Ok(Client { stream, kept, sent_at, is_waiting: false, left: lines, at })
+    }
+
+    fn send(&mut self, line: &str) -> io::Result<()> {
+        self.sent_at = Instant::now();
+        self.is_waiting = true;
+        self.stream.write_all(format!("{line}\r\n").as_bytes())
+    }
+
+    /// Has what comes acknowledged at once: a server may wait for that before it sends more.
+    fn hurry(&self) {
+        // SAFETY: the value is read during the call, and has the length that is given.
+        unsafe { setsockopt(self.stream.as_raw_fd(), IPPROTO_TCP, TCP_QUICKACK, &1, 4) };
+    }
+
+    /// The lines that have come; waits for some bytes.
+    fn lines(&mut self) -> io::Result<Vec<String>> {
+        let mut buffer = [0; 65_536];
+        let count = self.stream.read(&mut buffer)?;
+        self.hurry();
+        if count == 0 {
+            return Err(io::ErrorKind::UnexpectedEof.into());
+        }
+        self.kept.extend_from_slice(&buffer[..count]);
+        let Some(end) = self.kept.iter().rposition(|byte| *byte == b'\n') else {
+            return Ok(Vec::new());
+        };
+        let whole: Vec<u8> = self.kept.drain(..=end).collect();
+        let text = String::from_utf8_lossy(&whole).into_owned();
+        Ok(text.lines().map(str::to_string).collect())
+    }
+
+    /// Takes what has come unasked.
+    fn drain(&mut self) -> io::Result<()> {
+        self.stream.set_nonblocking(true)?;
+        while self.lines().is_ok() {}
+        self.stream.set_nonblocking(false)
+    }
+
+    /// Sends a line and waits until it is answered, before anything is measured.
+    fn ask(&mut self, dialect: Dialect, line: &str) -> io::Result<()> {
+        self.send(line)?;
+        while !self.lines()?.iter().any(|line| dialect.is_answer(line)) {}
+        self.is_waiting = false;
+        Ok(())
+    }
+
+    /// Sends the next line of the round, if one is left.
+    fn go_on(&mut self, dialect: Dialect, times: &mut Times) -> io::Result<()> {
+        if self.left == 0 {
+            return Ok(());
+        }
+        self.left -= 1;
+        let number = times.said.len();
+        let line = dialect.spelled(ROUND[self.at % ROUND.len()], number);
+        self.at += 1;
+        self.send(&line)?;
+        if line.contains(SAID) {
+            times.said.insert(number, self.sent_at);
+        }
+        Ok(())
+    }
+
+    /// Takes what has come.
+    fn take(&mut self, dialect: Dialect, times: &mut Times) -> io::Result<()> {
+        let lines = self.lines()?;
+        let now = Instant::now();
+        times.lines_read += lines.len();
+        for line in &lines {
+            if let Some(sent_at) = told(line).and_then(|number| times.said.get(&number)) {
+                times.notices.push(now - *sent_at);
+            }
+        }
+        if self.is_waiting && lines.iter().any(|line| dialect.is_answer(line)) {
+            times.replies.push(now - self.sent_at);
+            self.is_waiting = false;
+            self.go_on(dialect, times)?;
+        }
+        Ok(())
+    }
+}
+
+/// The number of what another said, where the line tells that.
+fn told(line: &str) -> Option<usize> {
+    let (before, behind) = line.split_once(SAID)?;
+    if before.starts_with("You ") {
+        return None;
+    }
+    behind.trim_end_matches('"').parse().ok()
+}
+
+/// The time that so many of a thousand stay below, in milliseconds.
+fn within(times: &mut [Duration], thousandths: usize) -> f64 {
+    times.sort();
+    times.get(times.len() * thousandths / 1000).map_or(0.0, |it| it.as_secs_f64() * 1e3)
+}
+
+fn work(clients: &mut [Client], dialect: Dialect, times: &mut Times) -> io::Result<()> {
+    for client in clients.iter_mut() {
+        client.go_on(dialect, times)?;
+    }
+    let mut files: Vec<PollFd> = clients
+        .iter()
+        .map(|it| PollFd { file: it.stream.as_raw_fd(), events: READABLE, found: 0 })
+        .collect();
+    while clients.iter().any(|it| it.is_waiting) {
+        // SAFETY: `files` is a list of so many entries, in the layout of C.
+        if unsafe { poll(files.as_mut_ptr(), files.len() as u64, PATIENCE) } <= 0 {
+            return Err(io::ErrorKind::TimedOut.into());
+        }
+        for (file, client) in files.iter().zip(clients.iter_mut()) {
+            if file.found != 0 {
+                client.take(dialect, times)?;
+            }
+        }
+    }
+    Ok(())
+}
+
+fn run(port: u16, count: usize, lines: usize, dialect: Dialect) -> io::Result<()> {
+    let mut clients = Vec::new();
+    for at in 0..count {
+        let mut client = Client::connect(port, lines, at)?;
+        while client.lines()?.is_empty() {}
+        client.stream.write_all(dialect.arrival(at).as_bytes())?;
+        client.ask(dialect, "look")?;
+        clients.push(client);
+    }
+    std::thread::sleep(Duration::from_millis(200));
+    for client in &mut clients {
+        client.drain()?;
+    }
+    let mut times = Times::default();
+    let start = Instant::now();
+    work(&mut clients, dialect, &mut times)?;
+    let took = start.elapsed().as_secs_f64();
+    let answered = times.replies.len();
+    println!("{answered} {took:.3} {} {}", times.lines_read, times.notices.len());
+    for found in [&mut times.replies, &mut times.notices] {
+        println!("{:.3} {:.3}", within(found, 500), within(found, 990));
+    }
+    Ok(())
+}
+
+fn main() {
+    let words: Vec<String> = std::env::args().collect();
+    let number = |at: usize| words.get(at).and_then(|it| it.parse().ok());
+    let dialect = match words.get(4).map(String::as_str) {
+        Some("seamountcup") => Some(Dialect::Seamountcup),
+        Some("mux") => Some(Dialect::Mux),
+        _ => None,
+    };
+    let (Some(port), Some(count), Some(lines), Some(dialect)) = (number(1), number(2), number(3), dialect) else {
+        eprintln!("load PORT CLIENTS LINES seamountcup|mux");
+        std::process::exit(2);
+    };
+    if let Err(error) = run(port as u16, count, lines, dialect) {
+        eprintln!("load: {error}");
+        std::process::exit(1);
+    }
+}

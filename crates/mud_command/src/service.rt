@@ -1,0 +1,167 @@
+//! The command line of `mud_serve`.
+
+ghost use Rattle.std.specs.Prelude.{◌≤◌, IfOk, IfSome};
+ghost use Rattle.mud_command.specs.Service.{AreWithin, IsServed};
+
+use crate::fault::{CommandFault, told};
+use crate::limits::{Limits, capacity, limits_in, load, number, workers};
+use crate::matches::unfit;
+use clap::error::ErrorKind;
+use clap::{Arg, ArgMatches, Command, value_parser};
+use std::alloc::{AllocError, Global};
+
+/// The toolchain with which the programs were proved and built.
+pub const KIT: &str = "rattle-kit-13b logic dac8208d650f15bf";
+
+/// What `mud_serve` is asked for.
+#[derive(Clone, Copy, Debug)]
+pub enum Service<'a> {
+    /// To name itself, and the toolchain with which it was proved.
+    Version,
+    /// To answer a script.
+    Script(Limits),
+    /// To serve connections.
+    Listen(Listening<'a>),
+}
+
+/// What `mud_serve listen` was asked for.
+#[derive(Clone, Copy, Debug)]
+pub struct Listening<'a> {
+    /// What it shares with a script.
+    pub limits: Limits,
+    /// The address of this machine on which it listens.
+    pub address: &'a str,
+    /// The port; 0: one that is free.
+    pub port: u16,
+    /// After how many sessions it ends, up to 65,536; 0: it does not.
+    pub total: u32,
+    /// After how many seconds without a byte a session ends; 0: it does not.
+    pub idle: u32,
+    /// The file of the history that it goes on from, if there is one.
+    pub load: Option<&'a str>,
+}
+
+/// What the words of `mud_serve` ask for; the first is the program's name.
+pub fn service_of<'a>(alloc: Global, words: &'a [String]) -> Result<Service<'a>, CommandFault>
+    ensures { IfOk result IsServed }
+{
+    match command(alloc) {
+        Ok(mut command) => service_by(alloc, &mut command, words),
+        Err(_) => Err(CommandFault::OutOfMemory),
+    }
+}
+
+// What the words ask for, as the command line reads them.
+fn service_by<'a>(
+    alloc: Global,
+    command: &mut Command<'a>,
+    words: &'a [String],
+) -> Result<Service<'a>, CommandFault>
+    ensures { IfOk result IsServed }
+{
+    let matches = match command.try_get_matches_from_mut(words) {
+        Ok(matches) => matches,
+        Err(error) if error.kind() == ErrorKind::DisplayVersion => return Ok(Service::Version),
+        Err(error) => return Err(told(alloc, &error)),
+    };
+    match service_in(&matches) {
+        Some(service) => Ok(service),
+        None => {
+            let message = "a number is out of its range";
+            Err(unfit(alloc, command, ErrorKind::ValueValidation, message))
+        }
+    }
+}
+
+// What was named, if each number is within its range.
+fn service_in<'a>(matches: &ArgMatches<'a>) -> Option<Service<'a>>
+    ensures { IfSome result IsServed }
+{
+    match matches.subcommand_matches("listen") {
+        Some(listen) => Some(Service::Listen(listening_in(listen)?)),
+        None => Some(Service::Script(limits_in(matches.subcommand_matches("script")?)?)),
+    }
+}
+
+// What a server was asked for, if each number is within its range.
+fn listening_in<'a>(listen: &ArgMatches<'a>) -> Option<Listening<'a>>
+    ensures limits { IfSome result (λ listening. AreWithin listening.limits) }
+    ensures total { IfSome result (λ listening. listening.total ≤ 65536) }
+{
+    let total = match listen.get_one::<u32>("total") {
+        Some(total @ 0..=65_536) => total,
+        _ => return None,
+    };
+    Some(Listening {
+        limits: limits_in(listen)?,
+        address: listen.get_str("address")?,
+        port: listen.get_one::<u16>("port")?,
+        total,
+        idle: listen.get_one::<u32>("idle")?,
+        load: listen.get_str("load"),
+    })
+}
+
+// The command line that is understood.
+fn command<'a>(alloc: Global) -> Result<Command<'a>, AllocError> {
+    let script = script(alloc)?;
+    let listen = listen(alloc)?;
+    Command::new(alloc, "mud_serve")
+        .about("A server of text worlds")
+        .version(KIT)
+        .subcommand_required(true)
+        .subcommand(script)?
+        .subcommand(listen)
+}
+
+// The command of a script.
+fn script<'a>(alloc: Global) -> Result<Command<'a>, AllocError> {
+    Command::new(alloc, "script")
+        .about("Answers the lines of standard input, as the Wizard in a world of his own")
+        .arg(workers(alloc))?
+        .arg(capacity(alloc))
+}
+
+// The command of a server.
+fn listen<'a>(alloc: Global) -> Result<Command<'a>, AllocError> {
+    Command::new(alloc, "listen")
+        .about("Serves players who come by Telnet, up to 64 at once, in one world")
+        .arg(port(alloc))?
+        .arg(address(alloc))?
+        .arg(total(alloc))?
+        .arg(idle(alloc))?
+        .arg(load(alloc))?
+        .arg(workers(alloc))?
+        .arg(capacity(alloc))
+}
+
+fn port<'a>(alloc: Global) -> Arg<'a> {
+    Arg::new(alloc, "port")
+        .long("port")
+        .value_name("N")
+        .required(true)
+        .value_parser(value_parser!(u16))
+        .help("The port, 0 to 65535; 0 is one that is free")
+}
+
+fn address<'a>(alloc: Global) -> Arg<'a> {
+    Arg::new(alloc, "address")
+        .long("address")
+        .value_name("A")
+        .default_value("0.0.0.0")
+        .help("The address of this machine on which it listens")
+}
+
+fn total<'a>(alloc: Global) -> Arg<'a> {
+    number(alloc, "total", 0, 65_536).default_value("0").help(
+        "After how many sessions it ends and prints its history; 0: it does not",
+    )
+}
+
+fn idle<'a>(alloc: Global) -> Arg<'a> {
+    number(alloc, "idle", 0, 4_294_967_295)
+        .default_value("0")
+        .help(
+            "After how many seconds without a byte from its player a session ends; 0: it does not",
+        )
+}

@@ -1,0 +1,53 @@
+use Rattle.std.proofs.Common.{rules}
+use Rattle.std.proofs.lemmas.Result.{on_ok_weaker, on_err_weaker}
+use Rattle.mud_listen.specs.Listening.{IsListenFault}
+use Rattle.mud_listen.proofs.Written.{any_err, made_of, none_written, front_written, line_written}
+use Rattle.mud_listen.proofs.Written.{part_written, all_written}
+use Rattle.mud_listen.proofs.listen.listen_on.Goals as goal
+
+pub returns-in_err-hall-clause-front : goal.returns-in_err-hall-clause-front
+returns-in_err-hall-clause-front g c = any_err c.from_residual.result (none_written _ _ _)
+
+pub returns-in_err-hall-clause-fault : goal.returns-in_err-hall-clause-fault
+returns-in_err-hall-clause-fault g c =
+    let fault
+    : IsListenFault c.args.limits.capacity c.args.loaded.items c.args.out.now c.args.out.now c.in_err-hall.field-0.0 =
+    c.in_err-hall.ensures.fault c.args.out.now in
+    search rules
+
+pub returns-in_err-history-clause-fault : goal.returns-in_err-history-clause-fault
+returns-in_err-history-clause-fault g c =
+    let fault
+    : IsListenFault c.args.limits.capacity c.args.loaded.items c.args.out.now c.write_port.new.out
+    c.in_err-history.field-0.0 =
+    c.in_err-history.ensures.fault c.args.limits.capacity c.args.loaded.items c.args.out.now c.write_port.new.out in
+    search rules
+
+pub returns-in-Err-clause-front : goal.returns-in-Err-clause-front
+returns-in-Err-clause-front g c = none_written _ _ _
+
+pub returns-in_err-write_port-clause-front : goal.returns-in_err-write_port-clause-front
+returns-in_err-write_port-clause-front g c =
+    let front = c.in_err-write_port.ensures.front in
+    any_err c.from_residual-in_err-write_port.result (front_written _ c.port-port.result front.0 _ _ _ front.1)
+
+pub returns-in_err-history-clause-front : goal.returns-in_err-history-clause-front
+returns-in_err-history-clause-front g c =
+    any_err c.from_residual-in_err-history.result
+    (line_written _ c.port-port.result _ _ _ c.in_ok-write_port.ensures.ok)
+
+pub returns-clause-ok : goal.returns-clause-ok
+returns-clause-ok g c =
+    let made =
+    made_of _ _ _ _ _ c.in_ok-hall.ensures.loaded c.as_slice.ensures.value c.in_ok-history.ensures.made in
+    on_ok_weaker c.write_entries.result
+    (λ written. all_written _ c.port-port.result _ _ _ _ _ made c.in_ok-write_port.ensures.ok written)
+    c.write_entries.ensures.ok
+
+pub returns-clause-front : goal.returns-clause-front
+returns-clause-front g c =
+    let made =
+    made_of _ _ _ _ _ c.in_ok-hall.ensures.loaded c.as_slice.ensures.value c.in_ok-history.ensures.made in
+    on_err_weaker c.write_entries.result
+    (λ written. part_written _ c.port-port.result written.0 _ _ _ _ _ made c.in_ok-write_port.ensures.ok written.1)
+    c.write_entries.ensures.front

@@ -1,0 +1,39 @@
+use Rattle.std.proofs.Common.{◌≤◌, ◌∙◌, length, subst}
+use denote.Exit.{no, unseen}
+use denote.Param.{param}
+use denote.Param.Send.{IsSend, Quiet-if}
+use mir.Syntax.{of_param}
+use Rattle.mud_hall.proofs.Crosses.{hall_sync}
+use Rattle.mud_listen.specs.contracts.connection.Shared as Shared
+use Rattle.mud_listen.proofs.Crosses.{shared_send, shared_sync, places_sync}
+use Rattle.mud_listen.proofs.listen.serve_all.Goals as goal
+
+pub serve_house-requires-sync-H : goal.serve_house-requires-sync-H
+serve_house-requires-sync-H g c κs within =
+    record {
+      shared = (hall_sync (param 0 g.row.J) g.J.HallName c.type_bounds.send-J c.type_bounds.sync-J).shared;
+    }
+
+pub serve_house-requires-sync-D : goal.serve_house-requires-sync-D
+serve_house-requires-sync-D g c κs within =
+    record { shared = (places_sync (param 0 g.row.J) g.J.HallName c.type_bounds.send-J).shared }
+
+pub serve_house-requires-sync-S : goal.serve_house-requires-sync-S
+serve_house-requires-sync-S g c κs within =
+    record { shared = (shared_sync (param 0 g.row.J) g.J.HallName c.type_bounds.send-J).shared }
+
+pub serve_house-requires-send-S : goal.serve_house-requires-send-S
+serve_house-requires-send-S g c κs within =
+    let R = Shared.the_row (param 0 g.row.J) g.J.HallName in
+    let sent : IsSend R = shared_send (param 0 g.row.J) g.J.HallName c.type_bounds.send-J in
+    record {
+      owned = sent.owned;
+      leaving = λ k. Quiet-if (k (of_param 3)) (R.exit no) unseen (sent.leaving no) (λ x w. tt);
+    }
+
+pub returns-in-Ok-close-clause-made : goal.returns-in-Ok-close-clause-made
+returns-in-Ok-close-clause-made g c = record {
+  desks = c.in-Ok.desks.items;
+  few = subst (λ n. length c.in-Ok.desks.items ≤ n) c.in_ok-house.ensures c.in-Ok.ensures;
+  settled = c.in-Ok-close.ensures.settled;
+}

@@ -1,0 +1,60 @@
+//! What the threads of a server do, whatever the types of its hall, places and sessions are.
+
+ghost use Rattle.std.specs.Thread.{IsSync};
+
+use crate::connection::Connection;
+use crate::house::House;
+use crossbeam_utils::sync::{Parker, Unparker};
+use log::Log;
+use std::alloc::Global;
+use std::sync::Wait;
+use std::thread::Threads;
+
+/// What the threads of a server do with its hall `H`, the places `D` for its sessions, the bells `B` of their notice
+/// threads, and a talk `S`, the session of one connection. Threads are begun over these four apart: that threads may
+/// share each of them is shown for each alone.
+pub(crate) trait Kind<H, D, B, S> {
+    /// Takes the free place of the lowest number, if there is one.
+    fn take_place<R: Wait>(rt: &R, house: &House<H, D, B>) -> Option<usize>;
+
+    /// The talk of a connection whose session has not begun.
+    fn silent() -> S;
+
+    /// Says how the notice thread of the session at a place is woken.
+    fn listen<R: Wait>(rt: &R, house: &House<H, D, B>, at: usize, unparker: Unparker);
+
+    /// Begins the session of a connection at a place; the number of its desk. Where memory or a desk is wanting, there
+    /// is none.
+    fn start<R: Wait>(
+        rt: &R,
+        alloc: Global,
+        house: &House<H, D, B>,
+        connection: &Connection<S>,
+        at: usize,
+    ) -> Option<u32>;
+
+    /// The reader thread of the session at a place, at the desk of this number: it sends the greeting, gives the
+    /// session all that comes, and brings it down.
+    fn read_all<R: Threads + Wait + Log + Sync>(
+        rt: &R,
+        house: &House<H, D, B>,
+        connection: &Connection<S>,
+        at: usize,
+        number: u32,
+    )
+        requires { IsSync R.row };
+
+    /// The notice thread of a session: each time it is woken, the session looks for what others did.
+    fn tell_all<R: Wait>(
+        rt: &R,
+        house: &House<H, D, B>,
+        connection: &Connection<S>,
+        parker: &Parker,
+    );
+
+    /// Ends the session of a connection: its desk is kept for the next one, and its place is free.
+    fn leave<R: Wait>(rt: &R, house: &House<H, D, B>, connection: &Connection<S>, at: usize);
+
+    /// No session is at this place any more. A desk that it keeps stays.
+    fn free<R: Wait>(rt: &R, house: &House<H, D, B>, at: usize);
+}

@@ -1,0 +1,32 @@
+//! A server of one hall: sessions over connections, many at once.
+//!
+//! [`listen_on`] serves the connections of a listener, each by a session of its own at a desk of one
+//! hall, and at the end settles the hall and writes its history. docs/SERVER.md says which threads
+//! there are, what they lock, who wakes whom, and how all of it ends.
+//!
+//! ```
+//! let listener = TcpListener::bind(&rt, ("127.0.0.1", 4000))?;
+//! let limits = Limits { sessions: 64, total: 2, workers: 0, capacity: 1000, idle: 0 };
+//! let mut sink = Sink::new(io::writer(&rt));
+//! listen_on(&rt, rt.alloc(), &listener, limits, Vec::new(rt.alloc()), &mut sink)?;
+//! ```
+//!
+//! Proved: what is written. With Ok it is the line that names the port, and the text of a history that desks of one
+//! hall made, no more of them than sessions are served at once, by the definition of a settlement; after a fault a
+//! beginning of such a text. No contract says that a session is served at all, that a change wakes anybody or that a
+//! desk is handed back: tests show it.
+#![tactic(auto)]
+
+mod connection;
+mod fault;
+mod house;
+mod kind;
+mod limits;
+mod listen;
+mod place;
+mod talk;
+mod writing;
+
+pub use fault::ListenFault;
+pub use limits::Limits;
+pub use listen::listen_on;

@@ -1,0 +1,16 @@
+//! What a server keeps to.
+
+/// What a server keeps to.
+#[derive(Clone, Copy, Debug, PartialEq, Eq)]
+pub struct Limits {
+    /// How many sessions there are at once at most, 0 to 64.
+    pub sessions: u32,
+    /// After how many sessions the server ends; 0: it does not.
+    pub total: u32,
+    /// How many workers search for what the guide is asked, 0 to 8; the answers are the same.
+    pub workers: u32,
+    /// How many changes the history holds at most, 1 to 65,536.
+    pub capacity: u32,
+    /// After how many seconds without a byte from the other side a session ends; 0: it does not.
+    pub idle: u32,
+}

@@ -1,0 +1,18 @@
+//! A history's file.
+
+use crate::unloaded::Unloaded;
+use mud_chron::{Entry, read_history};
+use std::fs;
+use std::rt::Files;
+
+/// The entries of the history in the file of this name. The file is read whole before its text is.
+pub fn loaded<R: Files + AllocGlobal>(rt: &R, name: &str) -> Result<Vec<Entry>, Unloaded> {
+    let text = match fs::read(rt, name) {
+        Ok(text) => text,
+        Err(error) => return Err(Unloaded::of_file(&error)),
+    };
+    match read_history(rt.alloc(), &text) {
+        Ok(entries) => Ok(entries),
+        Err(fault) => Err(Unloaded::of_text(fault)),
+    }
+}

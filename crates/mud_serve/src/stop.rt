@@ -1,0 +1,71 @@
+//! Why the program stopped.
+
+use mud_listen::ListenFault;
+use mud_load::Unloaded;
+use mud_session::ScriptFault;
+use thiserror::Error;
+
+/// Why the program stopped.
+#[derive(Clone, Copy, Debug, PartialEq, Eq, Error)]
+pub(crate) enum Stop {
+    /// Memory ran out.
+    #[error("out of memory")]
+    OutOfMemory,
+    /// Standard input can't be read.
+    #[error("read fault")]
+    Read,
+    /// Standard output can't be written.
+    #[error("write fault")]
+    Write,
+    /// Standard input came in too many pieces.
+    #[error("too many reads")]
+    TooManyReads,
+    /// The port can't be had, or no connection can be taken.
+    #[error("cannot listen")]
+    Listen,
+    /// The desks of the sessions did not make one history.
+    #[error("cannot settle")]
+    Settle,
+    /// The world does not go on from the file.
+    #[error("cannot load: {0}")]
+    Load(Unloaded),
+}
+
+impl Stop {
+    /// Why a script stopped.
+    pub(crate) fn of_script(fault: ScriptFault) -> Stop {
+        match fault {
+            ScriptFault::OutOfMemory => Stop::OutOfMemory,
+            ScriptFault::Read => Stop::Read,
+            ScriptFault::Write => Stop::Write,
+            ScriptFault::TooManyReads => Stop::TooManyReads,
+        }
+    }
+
+    /// Why nothing was loaded.
+    pub(crate) fn of_load(fault: Unloaded) -> Stop {
+        match fault {
+            Unloaded::OutOfMemory => Stop::OutOfMemory,
+            fault => Stop::Load(fault),
+        }
+    }
+
+    /// Why a server ended.
+    pub(crate) fn of_listening(fault: &ListenFault) -> Stop {
+        match fault {
+            ListenFault::OutOfMemory => Stop::OutOfMemory,
+            ListenFault::Write => Stop::Write,
+            ListenFault::Accept => Stop::Listen,
+            ListenFault::Settle(_) => Stop::Settle,
+            ListenFault::Load(fault) => Stop::of_load(Unloaded::of_entries(fault)),
+        }
+    }
+
+    /// The status of the program.
+    pub(crate) fn status(self) -> u8 {
+        match self {
+            Stop::OutOfMemory => 4,
+            _ => 3,
+        }
+    }
+}

@@ -1,0 +1,86 @@
+"""What scripts share that play with `mud_serve listen`: a server on a free port of this machine, and its clients.
+
+Nothing here waits longer than SECONDS for one line, and nobody but this machine is spoken to.
+"""
+import os
+import socket
+import subprocess
+import tempfile
+
+HOST = "127.0.0.1"
+SECONDS = 10
+
+
+class Server:
+    """`PROGRAM listen WORD..` on a free port, which is its `port`; None where it ended before it said so."""
+
+    def __init__(self, program, words=(), environment=None):
+        self.errors = tempfile.TemporaryFile()
+        command = [program, "listen", "--port", "0", "--address", HOST, *words]
+        how = {"stdin": subprocess.DEVNULL, "stdout": subprocess.PIPE, "stderr": self.errors, "bufsize": 0}
+        self.process = subprocess.Popen(command, env={**os.environ, **(environment or {})}, **how)
+        first = self.process.stdout.readline()
+        self.port = int(first.removeprefix(b"listening on ")) if first.endswith(b"\n") else None
+
+    def end(self, seconds=SECONDS):
+        """Waits until the program ends by itself; answers its status and what it printed behind its first line."""
+        try:
+            printed, _ = self.process.communicate(timeout=seconds)
+        finally:
+            self.kill()
+        return self.process.returncode, printed
+
+    def said(self):
+        """What it has written to standard error."""
+        self.errors.seek(0)
+        return self.errors.read()
+
+    def kill(self):
+        """Ends the program, if it runs yet."""
+        if self.process.poll() is None:
+            self.process.kill()
+            self.process.wait()
+
+
+class Client:
+    """A connection to a server: lines are sent and read without their CR LF, as bytes."""
+
+    def __init__(self, port, seconds=SECONDS):
+        if port is None:
+            raise ConnectionRefusedError("the server does not listen")
+        self.socket = socket.create_connection((HOST, port), timeout=seconds)
+        self.kept = b""
+
+    def send(self, line):
+        self.give(line + b"\r\n")
+
+    def give(self, some):
+        """Sends these bytes as they are."""
+        self.socket.sendall(some)
+
+    def more(self):
+        """Whether more came; not so at the end, or where the connection was given up."""
+        try:
+            some = self.socket.recv(65_536)
+        except ConnectionError:
+            some = b""
+        self.kept += some
+        return bool(some)
+
+    def line(self):
+        """The next whole line; None at the end, and what is `kept` is then a front of a line, or nothing."""
+        while b"\r\n" not in self.kept:
+            if not self.more():
+                return None
+        line, _, self.kept = self.kept.partition(b"\r\n")
+        return line
+
+    def take(self, count):
+        """The next so many bytes, or fewer at the end."""
+        while len(self.kept) < count and self.more():
+            pass
+        some, self.kept = self.kept[:count], self.kept[count:]
+        return some
+
+    def close(self):
+        self.socket.close()

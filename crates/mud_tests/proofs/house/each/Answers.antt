@@ -1,12 +1,17 @@
 use denote.Exit.{no, unseen}
 use denote.Param.{param}
-use denote.Param.Send.{IsSend, Quiet-if}
+use denote.Param.Send.{IsSend, Quiet-if, sendable}
+use denote.RattleType.{RattleType}
 use mir.Syntax.{of_param}
+use Rattle.std.proofs.Crossing.{crosses}
 use Rattle.mud_hall.proofs.Crosses.{desk_send, hall_sync}
 use Rattle.mud_hall.specs.contracts.desk.Desk as Desk
+use Rattle.mud_hall.specs.declared.name.HallName as HallName
 use Rattle.mud_tests.specs.contracts.house.Tally as Tally
-use Rattle.mud_tests.proofs.Crosses.{tally_send}
 use Rattle.mud_tests.proofs.house.each.Goals as goal
+
+tally_send : (J : RattleType) (h : HallName.Ghosts J.Denot) → IsSend J → IsSend (Tally.the_row J h)
+tally_send J h s = search (sendable, crosses, desk_send) depth 40 fits 20000
 
 pub acted-requires-sync-H : goal.acted-requires-sync-H
 acted-requires-sync-H g c κs within =

@@ -7,7 +7,7 @@ ghost use Rattle.mud_world.specs.Truth.{key_true};
 ghost use Rattle.mud_world.specs.State.{has, opens, unlocked, IsHolding};
 
 use crate::holding::Holding;
-use crate::locks::{Asked, Bearer};
+use crate::locks::{Asked, Bearer, answer};
 use crate::world::World;
 use std::alloc::{AllocError, Global};
 
@@ -25,13 +25,25 @@ impl World {
         Ok(answers)
     }
 
+    // Whether the object opens with one level more. Where the plain answer is yes, it has no key that would be read.
+    fn opens_next(&self, holding: &Holding, plain: &[bool], before: &[bool], object: u32) -> bool
+        requires { (o : ℕ) → slice_index_or plain.now o false ≡ has self.now o (λ r. is_none r.key) }
+        ensures { result ≡ has self.now object (λ r. option_map_or
+            (key_true (λ a. list_any (nat_eq a) holding.now) (λ o. slice_index_or before.now o false)) r.key true) }
+    {
+        answer(plain, object)
+            || self.lets_in(Bearer::Holder(holding), Asked::Answers(before), object)
+    }
+
     // The answers of one level more.
     fn judge_more(
         &self,
         alloc: Global,
         holding: &Holding,
+        plain: &[bool],
         before: &[bool],
     ) -> Result<Vec<bool>, AllocError>
+        requires { (o : ℕ) → slice_index_or plain.now o false ≡ has self.now o (λ r. is_none r.key) }
         ensures { IfOk result (λ after. (o : ℕ) → slice_index_or after.items o false
             ≡ has self.now o (λ r. option_map_or
             (key_true (λ a. list_any (nat_eq a) holding.now) (λ o. slice_index_or before.now o false)) r.key true)) }
@@ -39,7 +51,7 @@ impl World {
         let next = self.next_number();
         let mut answers = Vec::with_capacity(alloc, next as usize)?;
         for object in 0..next {
-            answers.push(self.lets_in(Bearer::Holder(holding), Asked::Answers(before), object))?;
+            answers.push(self.opens_next(holding, plain, before, object))?;
         }
         Ok(answers)
     }
@@ -50,10 +62,10 @@ impl World {
             ≡ opens self.now 4 (λ a. list_any (nat_eq a) holding.now) o) }
     {
         let plain = self.judge_plain(alloc)?;
-        let first = self.judge_more(alloc, holding, &plain)?;
-        let second = self.judge_more(alloc, holding, &first)?;
-        let third = self.judge_more(alloc, holding, &second)?;
-        self.judge_more(alloc, holding, &third)
+        let first = self.judge_more(alloc, holding, &plain, &plain)?;
+        let second = self.judge_more(alloc, holding, &plain, &first)?;
+        let third = self.judge_more(alloc, holding, &plain, &second)?;
+        self.judge_more(alloc, holding, &plain, &third)
     }
 
     /// For each number whether its object is unlocked for the one whose holding it is (`unlocked`);

@@ -150,8 +150,36 @@ fn act<J: HallName, R: Wait>(
     }
 }
 
-// What Bob, at a desk that has not looked since he came, is sent when he looks twice: whether it is each line once, in
-// order; where memory is refused to the session itself it ends, with a front of them.
+// The same for each of some lines.
+fn act_on<J: HallName, R: Wait>(
+    rt: &R,
+    hall: &Hall<J>,
+    desk: &mut Desk<J>,
+    lines: &[&str],
+) -> Result<(), Fault> {
+    for line in lines {
+        act(rt, hall, desk, line)?;
+    }
+    Ok(())
+}
+
+// What one who has not looked since he came is sent when he looks twice: whether it is each line once, in order; where
+// memory is refused to the session itself it ends, with a front of them.
+fn hears_each_once<J: HallName>(
+    alloc: Global,
+    hall: &Hall<J>,
+    desk: Desk<J>,
+) -> Result<bool, Fail> {
+    let mut seat = Seat::new(hall, desk, 0);
+    let mut session = Session::new(alloc, false)?;
+    for _ in 0..2 {
+        let _ = session.nudge(&mut seat);
+    }
+    let sent = session.take_out();
+    Ok(HEARD.as_bytes().starts_with(&sent) && (session.ended() || sent.len() == HEARD.len()))
+}
+
+// Whether Bob hears so what the Wizard does.
 fn is_told_once_in<J: HallName, R: Threads + Wait + Sync>(
     rt: &R,
     alloc: Global,
@@ -163,18 +191,10 @@ fn is_told_once_in<J: HallName, R: Threads + Wait + Sync>(
     let hall = hall.named::<J>();
     let mut wizard = desk(rt, &hall)?;
     let mut bob = desk(rt, &hall)?;
-    act(rt, &hall, &mut wizard, "connect wizard")?;
-    act(rt, &hall, &mut bob, "connect Bob")?;
-    for line in ["say hi", ":waves.", "say ho"] {
-        act(rt, &hall, &mut wizard, line)?;
-    }
-    let mut seat = Seat::new(&hall, bob, 0);
-    let mut session = Session::new(alloc, false)?;
-    for _ in 0..2 {
-        let _ = session.nudge(&mut seat);
-    }
-    let sent = session.take_out();
-    Ok(HEARD.as_bytes().starts_with(&sent) && (session.ended() || sent.len() == HEARD.len()))
+    act_on(rt, &hall, &mut wizard, &["connect wizard"])?;
+    act_on(rt, &hall, &mut bob, &["connect Bob"])?;
+    act_on(rt, &hall, &mut wizard, &["say hi", ":waves.", "say ho"])?;
+    hears_each_once(alloc, &hall, bob)
 }
 
 const HEARD: &str = "(2) Wizard says, \"hi\"\r\n(3) Wizard waves.\r\n(4) Wizard says, \"ho\"\r\n";

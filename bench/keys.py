@@ -1,17 +1,18 @@
 #!/usr/bin/env python3
 """Writes the input of a script in which builders lock exits with keys that are as dear as keys can be.
 
-keys.py EXITS ROUTES
+keys.py EXITS ROUTES [WALKS]
 
 Three sets of 16 things: the key of each in the first asks all of the second, and the key of each in the
 second asks all of the third. Then EXITS exits, each to a room of its own and each locked with a key that
 asks all of the first set, so that a key read anew leads to 4,096 others. At last ROUTES routes through
-such an exit, and as many walks through one and back. The last line is `quit`.
+such an exit, and WALKS (0) new players, each of whom walks through one. The last line is `quit`.
 """
 
 import sys
 
 exits, routes = int(sys.argv[1]), int(sys.argv[2])
+walks = int(sys.argv[3]) if len(sys.argv) > 3 else 0
 lines = ["@create thing"] * 48
 sets = [range(first, first + 16) for first in (2, 18, 34)]
 
@@ -28,5 +29,7 @@ first = 50
 lines += [f'@dig x to "R{k}"' for k in range(exits)]
 lines += [f"@lock #{first + 2 * k + 1} with {asking(sets[0])}" for k in range(exits)]
 lines += [f"route to #{first + 2 * (k * 977 % exits)}" for k in range(routes)]
+for k in range(walks):
+    lines += [f"connect Walker{k}", f"go #{first + 2 * (k * 977 % exits) + 1}"]
 lines.append("quit")
 sys.stdout.write("\n".join(lines) + "\n")

@@ -17,7 +17,7 @@ use mud_world::Speech;
 use std::alloc::{AllocError, Global};
 
 /// Why there is no entry.
-#[derive(Clone, Copy, Debug, PartialEq, Eq)]
+#[derive(Clone, Copy)]
 pub(crate) enum Unread {
     /// Memory ran out.
     OutOfMemory,

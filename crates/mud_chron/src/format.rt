@@ -1,7 +1,7 @@
 //! The formats of a history's text.
 
 /// The two formats of a history's text (docs/HISTORY.md, "Formats").
-#[derive(Clone, Copy, Debug, PartialEq, Eq)]
+#[derive(Clone, Copy)]
 pub(crate) enum Format {
     /// `mud history 1`, in which no exit costs 0.
     One,

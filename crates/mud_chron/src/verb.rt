@@ -7,7 +7,7 @@ ghost use Rattle.mud_chron.specs.Fields.{Finds, word_of};
 use crate::fields::Unread;
 
 /// What a line tells, by its word.
-#[derive(Clone, Copy, Debug, PartialEq, Eq)]
+#[derive(Clone, Copy)]
 pub(crate) enum Verb {
     Dig,
     Make,

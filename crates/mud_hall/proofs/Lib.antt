@@ -5,6 +5,7 @@ pub mod Storing
 pub mod Showing
 pub mod Endings
 pub mod Guests
+pub mod Deciding
 pub mod Lists
 pub mod Least
 pub mod Apart

@@ -1,25 +1,82 @@
 -- The guide's answers are answers to the questions.
-use Rattle.std.proofs.Common.{◌≡◌, ℕ, List, length, Option, Result, Ok, Err, refl, sym, ap, ◌∙◌, subst}
-use Rattle.std.specs.Prelude.{IfOk}
+use Rattle.std.proofs.Common.{◌≡◌, ℕ, List, ◌++◌, length, Option, None, Result, Ok, Err, refl, sym, ap, ◌∙◌, subst}
+use Rattle.std.specs.Prelude.{codes, string_bytes, IfOk}
+use Rattle.std.specs.Option.{IsSome}
 use Rattle.std.specs.declared.alloc.AllocError.{AllocError}
 use Rattle.mud_world.specs.State.{State}
 use Rattle.mud_rules.specs.declared.verdict.Journey.{Journey}
 use Rattle.mud_rules.specs.declared.verdict.Query.{Query}
 use Rattle.mud_rules.specs.declared.verdict.Query.TheVariants as query
+use Rattle.mud_rules.specs.declared.verdict.View.{View as Viewed}
+use Rattle.mud_rules.specs.Outcome.{IsQuestion, IsJourney}
+use Rattle.mud_rules.specs.Answers.{show_text}
 use Rattle.mud_chron.specs.Entry.{Accepted}
-use Rattle.mud_chron.specs.Replay.{world_at}
-use Rattle.mud_row.specs.Known.{Standing}
+use Rattle.mud_chron.specs.Text.{written_text}
 use Rattle.mud_guide.specs.declared.answer.Answer.{Answer}
 use Rattle.mud_hall.specs.Told.{world_after}
-use Rattle.mud_hall.specs.Desk.{View, state_of}
-use Rattle.mud_hall.specs.Answers.{answered, IsGuided, IsProven, IsShown}
-use Rattle.mud_hall.proofs.Storing.{all_in}
+use Rattle.mud_hall.specs.Desk.{IsSeated}
+use Rattle.mud_hall.specs.Answers.{answered, IsGuided, IsProven, IsShown, CanAsk}
 
 -- what is asked about, at the desk that answers
 pub record IsAt (h : List Accepted) (player : Option ℕ) (w : State) (v : ℕ) (p : Option ℕ) : Type 0 where
   pub world : w ≡ world_after h
   pub version : v ≡ length h
   pub seat : p ≡ player
+
+-- what the guide wants to know of who asks for a journey
+pub record IsAsked (w : State) (p : Option ℕ) (j : Journey) : Type 0 where
+  pub player : IsSome p
+  pub seated : IsSeated w p
+  pub journey : IsJourney w j
+
+asked : (h : List Accepted) (player p : Option ℕ) (j : Journey) (w : State) (v : ℕ) → IsAt h player w v p
+    → IsSome player → IsSeated (world_after h) player → IsJourney (world_after h) j → IsAsked w p j
+asked h player p j w v is some seated journey = record {
+  player = subst (λ o. IsSome o) (sym is.seat) some;
+  seated = subst (IsSeated w) (sym is.seat) (subst (λ x. IsSeated x player) (sym is.world) seated);
+  journey = subst (λ x. IsJourney x j) (sym is.world) journey;
+}
+
+pub asked-journey : (h : List Accepted) (player p : Option ℕ) (q : Query) (j : Journey) (w : State) (v : ℕ)
+    → IsAt h player w v p → q ≡ query.Journey j → IsQuestion (world_after h) q → CanAsk player q
+    → IsSeated (world_after h) player → IsAsked w p j
+asked-journey h player p q j w v is asks question can seated =
+    let some : IsSome player = subst (CanAsk player) asks can in
+    let journey : IsJourney (world_after h) j = subst (IsQuestion (world_after h)) asks question in
+    asked h player p j w v is some seated journey
+
+pub asked-proof : (h : List Accepted) (player p : Option ℕ) (q : Query) (j : Journey) (w : State) (v : ℕ)
+    → IsAt h player w v p → q ≡ query.Proof j → IsQuestion (world_after h) q → CanAsk player q
+    → IsSeated (world_after h) player → IsAsked w p j
+asked-proof h player p q j w v is asks question can seated =
+    let some : IsSome player = subst (CanAsk player) asks can in
+    let journey : IsJourney (world_after h) j = subst (IsQuestion (world_after h)) asks question in
+    asked h player p j w v is some seated journey
+
+-- an answer speaks of the version
+pub spoken : (v n : ℕ) (r : Result Answer AllocError) → v ≡ n → IfOk r (λ a. a.version ≡ v)
+    → IfOk r (λ a. a.version ≡ n)
+spoken v n (Err e) is speaks = tt
+spoken v n (Ok a) is speaks = speaks ∙ is
+
+pub viewed-shown : (h : List Accepted) (player p : Option ℕ) (q : Query) (view : Viewed) (w : State) (v : ℕ)
+    (r : Result Answer AllocError) → IsAt h player w v p → q ≡ query.View view
+    → IfOk r (λ a. string_bytes a.text ≡ show_text w p view) → IfOk r (λ a. a.cert ≡ None)
+    → IfOk r (λ a. IsShown h player q (answered a))
+viewed-shown h player p q view w v (Err e) is asks text cert = tt
+viewed-shown h player p q view w v (Ok a) is asks text cert =
+    let P : Query → Type 0 = λ x. IsShown h player x (answered a) in
+    let here : string_bytes a.text ≡ show_text (world_after h) player view =
+    text ∙ (ap (λ x. show_text x p view) is.world ∙ ap (λ o. show_text (world_after h) o view) is.seat) in
+    subst P (sym asks) (here, cert)
+
+pub told-shown : (h : List Accepted) (player : Option ℕ) (q : Query) (r : Result Answer AllocError)
+    → q ≡ query.History → IfOk r (λ a. string_bytes a.text ++ codes "\n" ≡ codes "history\n" ++ written_text h)
+    → IfOk r (λ a. a.cert ≡ None) → IfOk r (λ a. IsShown h player q (answered a))
+told-shown h player q (Err e) asks text cert = tt
+told-shown h player q (Ok a) asks text cert =
+    let P : Query → Type 0 = λ x. IsShown h player x (answered a) in
+    subst P (sym asks) (text, cert)
 
 pub guided-shown : (h : List Accepted) (player p : Option ℕ) (q : Query) (j : Journey) (w : State) (v : ℕ) (g : Answer)
     → IsAt h player w v p → q ≡ query.Journey j → IsGuided w v p j g → IsShown h player q (answered g)
@@ -43,16 +100,3 @@ proven-shown h player p q j w v (Ok a) is asks proven =
     (subst (G w v) is.seat proven)) in
     subst P (sym asks) here
 
--- a desk that has taken all in answers in the world of what it has seen
-pub at-desk : (number : ℕ) (p : Option ℕ) (r : Standing) (calls : List ℕ) (stored : List (List ℕ)) (s : View)
-    (w : State) (v : ℕ)
-    → record { state = state_of number p r calls stored; at = r.at } ≡ s → s.at ≡ length s.state.seen
-    → w ≡ world_at r.list r.at → v ≡ length s.state.seen → IsAt s.state.seen s.state.player w v p
-at-desk number p r calls stored s w v is all world version =
-    let whole : r.at ≡ length r.list = ap (λ (x : View). x.at) is ∙ all
-    ∙ sym (ap (λ (x : View). length x.state.seen) is) in
-    record {
-      world = world ∙ all_in r.list r.at whole ∙ ap (λ (x : View). world_after x.state.seen) is;
-      version = version;
-      seat = ap (λ (x : View). x.state.player) is;
-    }

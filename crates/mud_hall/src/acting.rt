@@ -13,8 +13,7 @@ use crate::name::HallName;
 use crate::reply::Reply;
 use mud_chron::Entry;
 use mud_row::{Row, RowFault};
-use mud_rules::{Verdict, decide, refusal_text, reply_text, welcome_text};
-use mud_words::parse;
+use mud_rules::{Verdict, refusal_text, reply_text, welcome_text};
 use mud_world::Change;
 use std::alloc::{AllocError, Global};
 
@@ -36,8 +35,7 @@ impl<J: HallName> Desk<J> {
         ensures replies { Replies (length row.now) self.old.state line.now (shown result) self.new.state }
         ensures told { shown result ≢ Failed Fault.OutOfMemory → untold self.new ≡ [] }
     {
-        let parsed = parse(alloc, line)?;
-        match decide(alloc, self.replica.world(), self.player, &parsed)? {
+        match self.verdict(alloc, line)? {
             Verdict::Refused(refusal) => {
                 let text = String::from_str(alloc, refusal_text(refusal))?;
                 Ok(Reply::Refused {

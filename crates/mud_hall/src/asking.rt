@@ -1,8 +1,10 @@
 //! Lines that ask.
 
-ghost use Rattle.std.specs.Prelude.{◌≡◌, length, IfOk};
+ghost use Rattle.std.specs.Prelude.{◌≡◌, ◌++◌, length, codes, string_bytes, None, IfOk};
 ghost use Rattle.mud_rules.specs.Outcome.{IsQuestion, IsLawful};
+ghost use Rattle.mud_chron.specs.Text.{written_text};
 ghost use Rattle.mud_hall.specs.Told.{world_after};
+ghost use Rattle.mud_hall.specs.Desk.{IsSeated};
 ghost use Rattle.mud_hall.specs.Replies.{verdict_on};
 ghost use Rattle.mud_hall.specs.Answers.{answered, Answers, IsShown, CanAsk};
 
@@ -17,6 +19,7 @@ use mud_row::Row;
 use mud_rules::{Query, Verdict, decide, refusal_text};
 use mud_search::Gate;
 use mud_words::parse;
+use mud_world::World;
 use std::alloc::{AllocError, Global};
 use std::sync::Wait;
 use std::thread::Threads;
@@ -54,14 +57,30 @@ impl<J: HallName> Desk<J> {
         }
     }
 
+    // The world of all that it has seen.
+    fn world(&self) -> &World
+        requires { self.now.at ≡ length self.now.state.seen }
+        ensures { result.now ≡ world_after self.now.state.seen }
+    {
+        self.replica.world()
+    }
+
+    // Who sits here, a player of that world, or nobody.
+    fn player(&self) -> Option<u32>
+        ensures player { result ≡ self.now.state.player }
+        ensures seated { IsSeated (world_after self.now.state.seen) self.now.state.player }
+    {
+        self.player
+    }
+
     // What a line comes to in the world of all that it has seen.
-    fn verdict(&self, alloc: Global, line: &str) -> Result<Verdict, AllocError>
+    pub(crate) fn verdict(&self, alloc: Global, line: &str) -> Result<Verdict, AllocError>
         requires all { self.now.at ≡ length self.now.state.seen }
         ensures decision { IfOk result (λ v. v ≡ verdict_on self.now.state.seen self.now.state.player line.now) }
         ensures lawful { IfOk result (IsLawful (world_after self.now.state.seen) self.now.state.player) }
     {
         let parsed = parse(alloc, line)?;
-        decide(alloc, self.replica.world(), self.player, &parsed)
+        decide(alloc, self.world(), self.player(), &parsed)
     }
 
     // The answer to a question.
@@ -74,23 +93,34 @@ impl<J: HallName> Desk<J> {
         ensures version { IfOk result (λ a. a.version ≡ length self.old.state.seen) }
         ensures shown { IfOk result (λ a. IsShown self.old.state.seen self.old.state.player query.now (answered a)) }
     {
-        let (version, player) = (self.seen(), self.player);
-        let world = self.replica.world();
+        let (version, player) = (self.seen(), self.player());
+        let world = self.world();
         match query {
             Query::View(view) => answering::view(alloc, world, version, player, view),
             Query::Journey(journey) => {
                 Ok(answering::guide(alloc, world, version, player, journey)?)
             }
             Query::Proof(journey) => answering::prove(alloc, world, version, player, journey),
-            Query::History => {
-                let entries = entries_of(alloc, row, &mut self.replica)?;
-                Ok(Answer {
-                    version,
-                    text: history_answer(alloc, &entries)?,
-                    cert: None,
-                })
-            }
+            Query::History => self.history(alloc, row),
         }
+    }
+
+    // The answer to the question about the history.
+    fn history(&mut self, alloc: Global, row: &Row) -> Result<Answer, AllocError>
+        requires { row.now ≡ J.cells }
+        ensures same { self.new.state ≡ self.old.state }
+        ensures version { IfOk result (λ a. a.version ≡ length self.old.state.seen) }
+        ensures text { IfOk result
+            (λ a. string_bytes a.text ++ codes "\n" ≡ codes "history\n" ++ written_text self.old.state.seen) }
+        ensures cert { IfOk result (λ a. a.cert ≡ None) }
+    {
+        let version = self.seen();
+        let entries = entries_of(alloc, row, &mut self.replica)?;
+        Ok(Answer {
+            version,
+            text: history_answer(alloc, &entries)?,
+            cert: None,
+        })
     }
 
     // Answers a line at exactly what it has seen, where several workers search.
@@ -148,8 +178,8 @@ impl<J: HallName> Desk<J> {
         ensures version { IfOk result (λ a. a.version ≡ length self.old.state.seen) }
         ensures shown { IfOk result (λ a. IsShown self.old.state.seen self.old.state.player query.now (answered a)) }
     {
-        let (version, player) = (self.seen(), self.player);
-        let world = self.replica.world();
+        let (version, player) = (self.seen(), self.player());
+        let world = self.world();
         match query {
             Query::Journey(journey) => Ok(guide_by(crew, alloc, world, version, player, journey)?),
             Query::Proof(journey) => prove_by(crew, alloc, world, version, player, journey),

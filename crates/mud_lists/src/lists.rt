@@ -5,7 +5,7 @@ ghost use Rattle.mud_lists.specs.Rising.{inserted, put, without};
 ghost use Rattle.std.specs.List.{list_any};
 ghost use Rattle.mud_lists.specs.Lists.{list_at, AreSame, AreChanged, AreEmpty};
 
-use crate::numbers::{insert_number, remove_number};
+use crate::numbers::Rising;
 use indexmap::IndexMap;
 use std::alloc::{AllocError, Global};
 use std::marker::Model;
@@ -14,7 +14,7 @@ use std::marker::Model;
 /// and in which order, says nothing: `list_at` is what is asked.
 pub struct Lists {
     alloc: Global,
-    lists: IndexMap<u32, Vec<u32>>,
+    lists: IndexMap<u32, Rising>,
 }
 
 // Written out: where lists go, a proof then has one step, and not one for each part of the map.
@@ -30,9 +30,7 @@ impl Model for Lists {
 
     ghost Value = { List (ℕ × List ℕ) };
 
-    ghost use Rattle.mud_lists.specs.View.{view_of};
-
-    ghost view = { view_of };
+    ghost view = { λ a. a.lists.entries };
 }
 
 impl Lists {
@@ -62,7 +60,7 @@ impl Lists {
         ensures err { OnErr result (AreSame self.old self.new) }
     {
         match self.lists.get_mut(&holder) {
-            Some(list) => insert_number(list, number),
+            Some(list) => list.insert(number),
             None => self.begin(holder, number),
         }
     }
@@ -82,7 +80,10 @@ impl Lists {
     pub fn has(&self, holder: u32, number: u32) -> bool
         ensures { result ≡ list_any (nat_eq number) (list_at self.now holder) }
     {
-        self.get(holder).contains(&number)
+        let Some(list) = self.lists.get(&holder) else {
+            return false;
+        };
+        list.has(number)
     }
 
     // Begins a list with the number.
@@ -91,8 +92,7 @@ impl Lists {
         ensures ok { OnOk result (AreChanged (λ n. nat_eq n holder) (inserted number) self.old self.new) }
         ensures err { OnErr result (AreSame self.old self.new) }
     {
-        let mut list = Vec::with_capacity(self.alloc, 1)?;
-        list.push(number)?;
+        let list = Rising::of(self.alloc, number)?;
         match self.lists.insert(holder, list) {
             Ok(_) => Ok(()),
             Err(_) => Err(AllocError),
@@ -104,7 +104,7 @@ impl Lists {
         ensures { AreChanged (λ n. nat_eq n holder) (without number) self.old self.new }
     {
         if let Some(list) = self.lists.get_mut(&holder) {
-            remove_number(list, number);
+            list.remove(number);
         }
     }
 

@@ -1,34 +1,95 @@
 //! Rising lists of numbers.
 
-ghost use Rattle.std.specs.Prelude.{◌≡◌, ◌≤◌, ◌∷◌, ◌++◌, OnOk, OnErr, length, take, drop};
+ghost use Rattle.std.specs.Prelude.{◌≡◌, ◌≤◌, [], ◌∷◌, length, nat_eq, OnOk, OnErr, IfOk};
+ghost use Rattle.std.specs.List.{insert, list_any};
+ghost use Rattle.std.specs.List.Sorted.{IsNonDecreasing};
 ghost use Rattle.mud_lists.specs.Rising.{inserted, without};
 
-use std::alloc::AllocError;
+use std::alloc::{AllocError, Global};
+use std::marker::Model;
 
-// Where the number goes in a rising list.
+/// Numbers of which none is below one before it, so that a number is found by halving. A contract sees their list.
+#[derive(Drop)]
+pub(crate) struct Rising {
+    numbers: Vec<u32>,
+}
+
+impl Model for Rising {
+    ghost use Rattle.std.specs.Prelude.{ℕ, List};
+    ghost use Rattle.std.specs.List.Sorted.{IsNonDecreasing};
+
+    ghost Value = { List ℕ };
+
+    ghost view = { λ a. a.numbers.items };
+
+    ghost invariant = { λ a. IsNonDecreasing a.numbers.items };
+}
+
+// Where the number goes in a rising list: behind all that aren't above it.
 fn place_for(numbers: &[u32], number: u32) -> usize
+    requires { IsNonDecreasing numbers.now }
     ensures within { result ≤ length numbers.now }
-    ensures place { take result numbers.now ++ number ∷ drop result numbers.now ≡ inserted number numbers.now }
+    ensures place { insert numbers.now result number ≡ inserted number numbers.now }
+    ensures rising { IsNonDecreasing (inserted number numbers.now) }
 {
-    for (i, other) in numbers.iter().enumerate() {
-        if number < *other {
-            return i;
-        }
+    numbers.partition_point(|other| *other <= number)
+}
+
+// Takes the number out of a rising list, as often as it is there.
+fn remove_number(numbers: &mut Vec<u32>, number: u32)
+    requires { IsNonDecreasing numbers.old.items }
+    ensures rising { IsNonDecreasing numbers.new.items }
+    ensures items { numbers.new.items ≡ without number numbers.old.items }
+{
+    while let Ok(place) = numbers.binary_search(&number) {
+        numbers.remove(place);
     }
-    numbers.len()
 }
 
-pub(crate) fn insert_number(numbers: &mut Vec<u32>, number: u32) -> Result<(), AllocError>
-    ensures ok { OnOk result (numbers.new.items ≡ inserted number numbers.old.items) }
-    ensures err { OnErr result (numbers.new.items ≡ numbers.old.items) }
-{
-    let at = place_for(numbers, number);
-    numbers.insert(at, number)?;
-    Ok(())
+impl Rising {
+    /// The number alone.
+    pub(crate) fn of(alloc: Global, number: u32) -> Result<Rising, AllocError>
+        ensures { IfOk result (λ list. list ≡ number ∷ []) }
+    {
+        let mut numbers = Vec::with_capacity(alloc, 1)?;
+        numbers.push(number)?;
+        Ok(Rising { numbers })
+    }
+
+    pub(crate) fn as_slice(&self) -> &[u32]
+        ensures { result.now ≡ self.now }
+    {
+        self.numbers.as_slice()
+    }
+
+    pub(crate) fn has(&self, number: u32) -> bool
+        ensures { result ≡ list_any (nat_eq number) self.now }
+    {
+        self.numbers.binary_search(&number).is_ok()
+    }
+
+    pub(crate) fn insert(&mut self, number: u32) -> Result<(), AllocError>
+        ensures ok { OnOk result (self.new ≡ inserted number self.old) }
+        ensures err { OnErr result (self.new ≡ self.old) }
+    {
+        let at = place_for(&self.numbers, number);
+        self.numbers.insert(at, number)?;
+        Ok(())
+    }
+
+    pub(crate) fn remove(&mut self, number: u32)
+        ensures { self.new ≡ without number self.old }
+    {
+        remove_number(&mut self.numbers, number);
+    }
 }
 
-pub(crate) fn remove_number(numbers: &mut Vec<u32>, number: u32)
-    ensures { numbers.new.items ≡ without number numbers.old.items }
-{
-    numbers.retain(|other| *other != number);
+impl Clone for Rising {
+    ghost is_clone = { λ a b. b ≡ a };
+
+    fn clone(&self) -> Result<Rising, AllocError> {
+        Ok(Rising {
+            numbers: self.numbers.clone()?,
+        })
+    }
 }

@@ -3,7 +3,7 @@
 ghost use Rattle.std.specs.Prelude.{◌≡◌, ◌&&◌, ◌<◌, filter, length, map, string_bytes, Result, if◌then◌else◌};
 ghost use Rattle.std.specs.List.{list_any, range_with_len};
 ghost use Rattle.mud_rules.specs.Matching.{is_like, is_named, sole_like, digits_value, number_in, object_number};
-ghost use Rattle.mud_rules.specs.Matching.{candidates, local_match, room_match, player_match};
+ghost use Rattle.mud_rules.specs.Matching.{candidates, match_with, local_match, room_match, player_match};
 ghost use Rattle.mud_rules.specs.Steps.{direct_match, together, is_sort};
 ghost use Rattle.mud_world.specs.State.{exists, place_of};
 
@@ -60,13 +60,7 @@ pub fn local_match(world: &World, player: u32, text: &str) -> Result<u32, Match>
 pub fn room_match(world: &World, player: u32, text: &str) -> Result<u32, Match>
     ensures { result ≡ room_match world.now player text.now }
 {
-    if let Some(answer) = direct_match(world, player, text) {
-        return answer;
-    }
-    match sole_of_sort(world, Sort::Rooms, text, Likeness::Equal) {
-        Err(Match::NoSuch) => sole_of_sort(world, Sort::Rooms, text, Likeness::Prefix),
-        found => found,
-    }
+    sort_match(world, Sort::Rooms, player, text)
 }
 
 /// The player that a text means to a player: as [`local_match`], with all players as candidates. By
@@ -74,11 +68,19 @@ pub fn room_match(world: &World, player: u32, text: &str) -> Result<u32, Match>
 pub fn player_match(world: &World, player: u32, text: &str) -> Result<u32, Match>
     ensures { result ≡ player_match world.now player text.now }
 {
+    sort_match(world, Sort::Players, player, text)
+}
+
+// The same with all objects of a sort as candidates.
+fn sort_match(world: &World, sort: Sort, player: u32, text: &str) -> Result<u32, Match>
+    ensures { result ≡ match_with world.now player
+        (filter (is_sort sort world.now) (range_with_len 0 world.now.next)) text.now }
+{
     if let Some(answer) = direct_match(world, player, text) {
         return answer;
     }
-    match sole_of_sort(world, Sort::Players, text, Likeness::Equal) {
-        Err(Match::NoSuch) => sole_of_sort(world, Sort::Players, text, Likeness::Prefix),
+    match sole_of_sort(world, sort, text, Likeness::Equal) {
+        Err(Match::NoSuch) => sole_of_sort(world, sort, text, Likeness::Prefix),
         found => found,
     }
 }

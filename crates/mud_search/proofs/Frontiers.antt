@@ -25,7 +25,7 @@ use Rattle.mud_search.specs.Boards.{slot_at, label_at, settled, offers, IsBoardO
 use Rattle.mud_search.specs.Boards.{potential, weight, lists_of, Below}
 use Rattle.mud_search.specs.Slots.{label_of, is_open, is_held}
 use Rattle.mud_search.specs.Facts.{IsFrontier}
-use Rattle.mud_search.specs.Tasks.{IsBegun, IsDone}
+use Rattle.mud_search.specs.Tasks.{IsBegun, IsChanged, IsDone}
 use Rattle.mud_search.specs.Least.{AreLeast, AreBounded, label_in}
 use Rattle.mud_search.specs.Rooms.{labels_in}
 use Rattle.mud_search.specs.Tables.{table}
@@ -73,7 +73,7 @@ frontier-set w ts boards f m b h sound = record {
 }
 
 -- a labelled room is one of the rooms
-labelled-within : (slots : List Slot) (room : ℕ) (l : Label) → label_at slots room ≡ Some l → room < length slots
+pub labelled-within : (slots : List Slot) (room : ℕ) (l : Label) → label_at slots room ≡ Some l → room < length slots
 labelled-within slots room l e =
     elim (cases_lt room (length slots)) [
       | inl h ↦ h
@@ -94,6 +94,29 @@ frontier-relabelled w ts boards f m room v l h was is not_done =
     let within : room < w.next = omega (arith, sound.whole, labelled-within (board_of boards m) room l was) in
     faithful-relabelled (roads_of w t.player) t.place w.next (board_of boards m) sound room v l within was is
     (λ s d c. absurd (not_done l d)))
+
+-- where a labelled room gets another slot, nothing else changes
+pub slot-changed : (boards : List (List Slot)) (m room : ℕ) (v : Slot) (l : Label) (b : List Slot) → m < length boards
+    → label_at (board_of boards m) room ≡ Some l → b ≡ set (board_of boards m) room v
+    → IsChanged (slot_of boards) (slot_of (set boards m b)) m room v
+slot-changed boards m room v l b h was is =
+    let within : room < length (board_of boards m) = labelled-within (board_of boards m) room l was in
+    let new : board_of (set boards m b) m ≡ set (board_of boards m) room v = get_or-set_same boards m b [] h ∙ is in
+    record {
+      here = ap (λ x. slot_at x room) new ∙ get_or-set_same (board_of boards m) room v Unknown within;
+      others = λ n q apart.
+          elim (cases_eq n m) [
+            | inl same ↦
+                elim apart [
+                  | inl other ↦ absurd (other same)
+                  | inr other ↦
+                      ap (λ (k : ℕ). slot_of (set boards m b) k q) same ∙ ap (λ x. slot_at x q) new
+                      ∙ get_or-set_other (board_of boards m) room q v Unknown other
+                      ∙ ap (λ (k : ℕ). slot_of boards k q) (sym same)
+                ]
+            | inr other ↦ ap (λ x. slot_at x q) (get_or-set_other boards m n b [] other)
+          ];
+    }
 
 -- a blank board
 blank-at : (n room : ℕ) → slot_at (replicate n Unknown) room ≡ Unknown

@@ -1,5 +1,5 @@
-//! The tests of the libraries: each public call once with memory enough, unless an example of a
-//! program shows it, and what refuses a wrong body that no contract refuses.
+//! The tests of the libraries: what no example of a program shows, and what refuses a wrong body that
+//! no contract refuses.
 //!
 //! Tables that a program can show are no tests: they stand in `examples/`, and the programs are
 //! run on them. No other crate has a test, so each of them is proved once. Here a table is a text
@@ -8,27 +8,11 @@
 #![tactic(auto)]
 
 #[cfg(test)]
-mod chron;
-#[cfg(test)]
-mod dice;
-#[cfg(test)]
-mod guide;
-#[cfg(test)]
 mod hall;
-#[cfg(test)]
-mod house;
 #[cfg(test)]
 mod listen;
 #[cfg(test)]
-mod nvt;
-#[cfg(test)]
-mod plain;
-#[cfg(test)]
-mod row;
-#[cfg(test)]
 mod rows;
-#[cfg(test)]
-mod rules;
 #[cfg(test)]
 mod search;
 #[cfg(test)]

@@ -120,8 +120,8 @@ fn play<R: Net<Listener = TcpListener, Stream = TcpStream> + AllocGlobal>(
         let Some((asked, wanted)) = row.split_once(" => ") else {
             continue;
         };
-        let (client, what) = parted(asked);
-        let Some(client) = clients.get_mut(number(client) as usize) else {
+        let (who, what) = parted(asked);
+        let Some(client) = clients.get_mut(number(who) as usize) else {
             continue;
         };
         let line = seen(rt, address, client, what)?;
@@ -222,14 +222,6 @@ const OF_TWO: &str = "all as told; done; mud history 2
 end 2
 ";
 
-// Refused are a change that wakes nobody, and a desk that is thrown away, which `close` would miss.
-#[test]
-fn two_players_meet(rt: HostRuntime) -> Result<(), Fail> {
-    let outcome = outcome(&rt, limits(64, 2, 16), "", TWO)?;
-    assert_eq!(rt; outcome.as_str(), OF_TWO);
-    Ok(())
-}
-
 // The first goes without a word, and what it was sent is not read: its socket fails. The third is served at its desk.
 const FULL: &str = "
 0 comes => Welcome. Type: connect NAME
@@ -281,21 +273,13 @@ const OF_GOES_ON: &str = "all as told; done; mud history 2
 end 3
 ";
 
-// Refused is a server that starts empty.
-#[test]
-fn a_server_goes_on(rt: HostRuntime) -> Result<(), Fail> {
-    let outcome = outcome(&rt, limits(64, 1, 3), LIBRARY, GOES_ON)?;
-    assert_eq!(rt; outcome.as_str(), OF_GOES_ON);
-    Ok(())
-}
-
-const BEFORE_WALK: &str = "mud history 2
+// As long as the hall has room for.
+const WHOLE: &str = "mud history 2
 1 1 dig #1 new \"T\" out \"far\"
 2 1 cost #1 #3 10000
 3 1 dig #1 new \"A\" out \"a\"
-";
-
-const BEHIND_WALK: &str = "5 1 dig #1 new \"B\" out \"b\"
+4 1 walk #1 #5
+5 1 dig #1 new \"B\" out \"b\"
 6 1 walk #1 #7
 7 1 dig #1 new \"C\" out \"c\"
 8 1 walk #1 #9
@@ -311,6 +295,36 @@ const BEHIND_WALK: &str = "5 1 dig #1 new \"B\" out \"b\"
 end 17
 ";
 
+const OF_WHOLE: &str = "all as told; done; mud history 2
+1 1 dig #1 new \"T\" out \"far\"
+2 1 cost #1 #3 10000
+3 1 dig #1 new \"A\" out \"a\"
+4 1 walk #1 #5
+5 1 dig #1 new \"B\" out \"b\"
+6 1 walk #1 #7
+7 1 dig #1 new \"C\" out \"c\"
+8 1 walk #1 #9
+9 1 dig #1 new \"D\" out \"d\"
+10 1 walk #1 #11
+11 1 dig #1 new \"E\" out \"e\"
+12 1 walk #1 #13
+13 1 dig #1 old #2 out \"f\"
+14 1 lock #1 #14 #1
+15 1 dig #1 old #0 out \"home\"
+16 1 walk #1 #15
+17 1 player #16 \"Bob\"
+end 17
+";
+
+// There is no exit #7 yet.
+const ASTRAY: &str = "mud history 2
+1 1 dig #1 new \"T\" out \"far\"
+2 1 cost #1 #3 10000
+3 1 dig #1 new \"A\" out \"a\"
+4 1 walk #1 #7
+end 4
+";
+
 const FULL_AT_ONCE: &str = "
 0 comes => Welcome. Type: connect NAME
 0 connect Wizard => [17] welcome #1
@@ -322,19 +336,21 @@ const OVER: &str = "all as told; cannot load: more entries than the capacity; ";
 
 const ILLEGAL: &str = "all as told; cannot load: change 4 is not legal; ";
 
-// A history that is as long as the hall has room for, one that is longer, and one that is not legal before it is too
-// long. Where it is refused nothing is written.
+// Refused are a change that wakes nobody, a desk that is thrown away, which `close` would miss, and a
+// server that starts empty. A history that is not legal is told of before one that is too long; where one
+// is refused nothing is written.
 #[test]
-fn histories_are_loaded(rt: HostRuntime) -> Result<(), Fail> {
-    let alloc = rt.alloc();
-    let legal = format!(in alloc; "{BEFORE_WALK}4 1 walk #1 #5\n{BEHIND_WALK}")?;
-    let illegal = format!(in alloc; "{BEFORE_WALK}4 1 walk #1 #7\n{BEHIND_WALK}")?;
-    let whole = outcome(&rt, limits(64, 1, 17), legal.as_str(), FULL_AT_ONCE)?;
-    let printed = format!(in alloc; "all as told; done; {legal}")?;
-    let long = outcome(&rt, limits(64, 1, 16), legal.as_str(), "")?;
-    let refused = outcome(&rt, limits(64, 1, 3), illegal.as_str(), "")?;
-    assert_eq!(rt; whole.as_str(), printed.as_str());
-    assert_eq!(rt; (long.as_str(), refused.as_str()), (OVER, ILLEGAL));
+fn servers(rt: HostRuntime) -> Result<(), Fail> {
+    for (total, capacity, history, rows, wanted) in [
+        (2, 16, "", TWO, OF_TWO),
+        (1, 3, LIBRARY, GOES_ON, OF_GOES_ON),
+        (1, 17, WHOLE, FULL_AT_ONCE, OF_WHOLE),
+        (1, 16, WHOLE, "", OVER),
+        (1, 3, ASTRAY, "", ILLEGAL),
+    ] {
+        let outcome = outcome(&rt, limits(64, total, capacity), history, rows)?;
+        assert_eq!(rt; outcome.as_str(), wanted);
+    }
     Ok(())
 }
 

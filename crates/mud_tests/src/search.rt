@@ -30,18 +30,6 @@ pub(crate) const CROSSING: &str = "mud history 2
 end 11
 ";
 
-fn label(cost: u32, exits: u32) -> Label {
-    Label { cost, exits }
-}
-
-fn task(room: u32, cost: u32, exits: u32) -> Task {
-    Task {
-        member: 0,
-        room,
-        label: label(cost, exits),
-    }
-}
-
 // Puts a task with the steps of its room.
 fn put<J: Job>(
     frontier: &mut Frontier<J>,
@@ -62,56 +50,49 @@ fn put<J: Job>(
     }
 }
 
-// What is done to a frontier, and what comes of it.
-#[derive(Clone, Copy, Drop)]
-enum Move {
-    Take(Task),
-    Back(Task),
-    Put(Task, Put),
-}
-
-// Does the move, and tells whether that came of it.
+// Does the move with a task, and tells whether that came of it: it is taken, given back, or put.
 fn moves<J: Job>(
     frontier: &mut Frontier<J>,
     alloc: Global,
     world: &World,
     party: &[Traveller],
-    turn: Move,
+    what: &str,
+    task: Task,
 ) -> Result<bool, AllocError>
     requires world { world.now ≡ J.world }
     requires party { party.now ≡ J.travellers }
     requires travellers { All (IsTraveller J.world) J.travellers }
 {
-    match turn {
-        Move::Take(task) => Ok(frontier.take() == Some(task)),
-        Move::Back(task) => {
+    match what {
+        "take" => Ok(frontier.take() == Some(task)),
+        "back" => {
             frontier.back(&task);
             Ok(true)
         }
-        Move::Put(task, becomes) => { Ok(put(frontier, alloc, world, party, &task)? == becomes) }
+        "done" => Ok(put(frontier, alloc, world, party, &task)? == Put::Done),
+        _ => Ok(put(frontier, alloc, world, party, &task)? == Put::Stale),
     }
 }
 
-// The moves of the wizard alone, who begins at #0, and how many rooms are then open and held.
-fn turns() -> [(Move, usize, usize); 15] {
-    [
-        (Move::Take(task(0, 0, 0)), 0, 1),
-        (Move::Back(task(0, 0, 1)), 0, 1),
-        (Move::Back(task(0, 0, 0)), 1, 0),
-        (Move::Take(task(0, 0, 0)), 0, 1),
-        (Move::Put(task(0, 0, 0), Put::Done), 2, 0),
-        (Move::Take(task(4, 3, 1)), 1, 1),
-        (Move::Take(task(2, 9, 1)), 0, 2),
-        (Move::Put(task(4, 3, 1), Put::Done), 1, 0),
-        (Move::Take(task(2, 7, 2)), 0, 1),
-        (Move::Put(task(2, 7, 2), Put::Done), 1, 0),
-        (Move::Put(task(2, 9, 1), Put::Stale), 1, 0),
-        (Move::Put(task(4, 3, 1), Put::Done), 1, 0),
-        (Move::Put(task(7, 5, 1), Put::Stale), 1, 0),
-        (Move::Take(task(7, 8, 3)), 0, 1),
-        (Move::Put(task(7, 8, 3), Put::Done), 0, 0),
-    ]
-}
+// The moves of the wizard alone, who begins at #0: with the task of which room, cost and exits, and how
+// many rooms are then open and held.
+const TURNS: [(&str, u32, u32, u32, usize, usize); 15] = [
+    ("take", 0, 0, 0, 0, 1),
+    ("back", 0, 0, 1, 0, 1),
+    ("back", 0, 0, 0, 1, 0),
+    ("take", 0, 0, 0, 0, 1),
+    ("done", 0, 0, 0, 2, 0),
+    ("take", 4, 3, 1, 1, 1),
+    ("take", 2, 9, 1, 0, 2),
+    ("done", 4, 3, 1, 1, 0),
+    ("take", 2, 7, 2, 0, 1),
+    ("done", 2, 7, 2, 1, 0),
+    ("stale", 2, 9, 1, 1, 0),
+    ("done", 4, 3, 1, 1, 0),
+    ("stale", 7, 5, 1, 1, 0),
+    ("take", 7, 8, 3, 0, 1),
+    ("done", 7, 8, 3, 0, 0),
+];
 
 // Does each move with a frontier; no room is open at the end.
 fn play<J: Job>(
@@ -125,8 +106,13 @@ fn play<J: Job>(
     requires party { party.now ≡ J.travellers }
     requires travellers { All (IsTraveller J.world) J.travellers }
 {
-    for (turn, opened, held) in turns() {
-        let is_so = moves(frontier, alloc, world, party, turn)?;
+    for (what, room, cost, exits, opened, held) in TURNS {
+        let task = Task {
+            member: 0,
+            room,
+            label: Label { cost, exits },
+        };
+        let is_so = moves(frontier, alloc, world, party, what, task)?;
         assert!(rt; is_so && frontier.rest() == Rest { opened, held });
     }
     frontier.facts();
@@ -151,19 +137,26 @@ fn by_hand<J: Job>(
     Ok(frontier.into_labels())
 }
 
+// The cost and exits of the label of each room of the crossing, from #0; of some there is none.
+const LABELS: [(u32, Option<(u32, u32)>); 8] = [
+    (0, Some((0, 0))),
+    (1, None),
+    (2, Some((7, 2))),
+    (4, Some((3, 1))),
+    (5, None),
+    (7, Some((8, 3))),
+    (9, None),
+    (4_294_967_295, None),
+];
+
 // What the labels of the crossing are, from #0.
 pub(crate) fn check_labels(rt: &impl Abort, labels: &Labels) {
-    for (room, wanted) in [
-        (0, Some(label(0, 0))),
-        (1, None),
-        (2, Some(label(7, 2))),
-        (4, Some(label(3, 1))),
-        (5, None),
-        (7, Some(label(8, 3))),
-        (9, None),
-        (4_294_967_295, None),
-    ] {
-        assert!(rt; labels.get(0, room) == wanted);
+    for (room, wanted) in LABELS {
+        let found = match labels.get(0, room) {
+            Some(label) => Some((label.cost, label.exits)),
+            None => None,
+        };
+        assert!(rt; found == wanted);
     }
     assert!(rt; labels.get(1, 0).is_none());
 }

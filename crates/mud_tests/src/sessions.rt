@@ -78,6 +78,20 @@ fn check_row<'h, J: HallName, R: Threads + Wait + Sync + Abort>(
 }
 
 // Sees that each row is answered as it says.
+fn play<'h, J: HallName, R: Threads + Wait + Sync + Abort>(
+    rt: &R,
+    alloc: Global,
+    first: &mut Guest<'h, J>,
+    second: &mut Guest<'h, J>,
+    rows: &String,
+) -> Result<(), Fail> {
+    for row in rows.split('\n') {
+        check_row(rt, alloc, first, second, row)?;
+    }
+    Ok(())
+}
+
+// The same of two guests of a hall.
 fn two_guests_in<J: HallName, R: Threads + Wait + Sync + Abort>(
     rt: &R,
     alloc: Global,
@@ -90,10 +104,7 @@ fn two_guests_in<J: HallName, R: Threads + Wait + Sync + Abort>(
     let hall = hall.named::<J>();
     let mut first = greeted(rt, alloc, &hall)?;
     let mut second = greeted(rt, alloc, &hall)?;
-    for row in rows.split('\n') {
-        check_row(rt, alloc, &mut first, &mut second, row)?;
-    }
-    Ok(())
+    play(rt, alloc, &mut first, &mut second, rows)
 }
 
 // Two guests at one hall.

@@ -11,17 +11,9 @@ pub(crate) fn world(alloc: Global, history: &str) -> Result<World, Fail> {
     Ok(replay(alloc, &entries)?)
 }
 
-/// The entry of a change, by a desk.
-pub(crate) fn entry(alloc: Global, desk: u32, change: &str) -> Result<Entry, Fail> {
-    let text = format!(in alloc; "mud history 2\n1 {desk} {change}\nend 1\n")?;
+/// The entry of a change.
+pub(crate) fn entry(alloc: Global, change: &str) -> Result<Entry, Fail> {
+    let text = format!(in alloc; "mud history 2\n1 1 {change}\nend 1\n")?;
     let mut entries = read_history(alloc, text.as_bytes())?;
     Ok(entries.pop().ok_or("no entry")?)
-}
-
-/// Does the change of an entry, if it is legal.
-pub(crate) fn take_in(world: &mut World, entry: &Entry) -> Result<(), Fail> {
-    match world.legal(entry.change()) {
-        Ok(()) => Ok(world.apply(entry.change())?),
-        Err(_) => Ok(()),
-    }
 }

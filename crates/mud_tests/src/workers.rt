@@ -5,12 +5,10 @@ ghost use Rattle.std.specs.Prelude.{◌≡◌, ◌≤◌};
 use crate::search::{CROSSING, check_labels};
 use crate::village::world;
 use mud_chron::read_history;
-use mud_guide::{meet, route};
 use mud_hall::{Desk, Hall, HallName, NewHall};
 use mud_roads::Traveller;
 use mud_search::{Gate, OpenGate, labels};
-use mud_world::World;
-use std::alloc::{AllocError, Global};
+use std::alloc::Global;
 use std::marker::Brand;
 use std::process::Abort;
 use std::slice;
@@ -89,18 +87,28 @@ fn workers_work_at_once(rt: HostRuntime) -> Result<(), Fail> {
     Ok(())
 }
 
+// What is asked at a wizard's desk of a hall that goes on from a history, and what is answered.
+#[derive(Drop)]
+struct Asked {
+    history: &'static str,
+    line: &'static str,
+    version: u32,
+    text: &'static str,
+}
+
 // Sees what a wizard's desk answers by workers.
 fn check_desk<J: HallName, R: Threads + Wait + Sync + Abort, G: Gate + Sync>(
     rt: &R,
     hall: &Hall<J>,
     desk: &mut Desk<J>,
+    asked: &Asked,
     workers: usize,
     gate: &G,
 ) -> Result<(), Fail> {
     let _ = hall.act(rt, desk, "connect wizard")?;
-    let answer = desk.ask_with(rt, hall, "route to #7", workers, gate)?;
+    let answer = desk.ask_with(rt, hall, asked.line, workers, gate)?;
     let found = (answer.version, answer.text.as_str());
-    assert_eq!(rt; found, (11, "route #0 to #7 cost 8 by #5 #6 #8"));
+    assert_eq!(rt; found, (asked.version, asked.text));
     Ok(())
 }
 
@@ -108,6 +116,7 @@ fn check_desk<J: HallName, R: Threads + Wait + Sync + Abort, G: Gate + Sync>(
 fn check_hall_of<J: HallName, R: Threads + Wait + Sync + Abort, G: Gate + Sync>(
     rt: &R,
     hall: NewHall,
+    asked: &Asked,
     workers: usize,
     gate: &G,
 ) -> Result<(), Fail>
@@ -116,34 +125,42 @@ fn check_hall_of<J: HallName, R: Threads + Wait + Sync + Abort, G: Gate + Sync>(
 {
     let hall = hall.named::<J>();
     let mut desk = hall.desk(rt)?;
-    check_desk(rt, &hall, &mut desk, workers, gate)
+    check_desk(rt, &hall, &mut desk, asked, workers, gate)
 }
 
-// Sees the same of the crossing's hall.
+// Sees the same of the history's hall.
 fn check_hall<R: Threads + Wait + Sync + Abort, G: Gate + Sync>(
     rt: &R,
     alloc: Global,
+    asked: &Asked,
     workers: usize,
     gate: &G,
 ) -> Result<(), Fail> {
-    let entries = read_history(alloc, CROSSING.as_bytes())?;
+    let entries = read_history(alloc, asked.history.as_bytes())?;
     let hall = NewHall::resume(alloc, 16, entries)?;
-    check_hall_of::<Brand, R, G>(rt, hall, workers, gate)
+    check_hall_of::<Brand, R, G>(rt, hall, asked, workers, gate)
 }
+
+const CROSSED: Asked = Asked {
+    history: CROSSING,
+    line: "route to #7",
+    version: 11,
+    text: "route #0 to #7 cost 8 by #5 #6 #8",
+};
 
 #[test]
 fn desks_ask_workers(rt: HostRuntime) -> Result<(), Fail> {
-    check_hall(&rt, rt.alloc(), 0, &OpenGate)?;
     for workers in [2, 8] {
         let gate = Barrier::new();
-        check_hall(&rt, rt.alloc(), workers, &gate)?;
+        check_hall(&rt, rt.alloc(), &CROSSED, workers, &gate)?;
         assert!(rt; !gate.is_late());
     }
     Ok(())
 }
 
 // Two ways of one cost from #0 to #6, of which the one whose last exit is lower is told.
-const TWO_WAYS: &str = "mud history 2
+const TWO_WAYS: Asked = Asked {
+    history: "mud history 2
 1 1 dig #1 new \"A\" out \"a\"
 2 1 dig #1 new \"B\" out \"b\"
 3 1 walk #1 #5
@@ -155,34 +172,15 @@ const TWO_WAYS: &str = "mud history 2
 9 1 dig #1 old #0 out \"back\"
 10 1 walk #1 #10
 end 10
-";
-
-// The guide's answer about the wizard's route to #6, by workers.
-fn route_by<R: Threads + Wait + Sync>(
-    rt: &R,
-    alloc: Global,
-    world: &World,
-    workers: usize,
-) -> Result<String, AllocError> {
-    if world.is_player(1) && world.is_room(6) {
-        Ok(route(rt, alloc, world, 10, 1, 6, workers, &OpenGate)?.text)
-    } else {
-        String::from_str(alloc, "none such")
-    }
-}
-
-#[test]
-fn routes_by_workers(rt: HostRuntime) -> Result<(), Fail> {
-    let world = world(rt.alloc(), TWO_WAYS)?;
-    for workers in [0, 1, 8] {
-        let text = route_by(&rt, rt.alloc(), &world, workers)?;
-        assert_eq!(rt; text.as_str(), "route #0 to #6 cost 2 by #5 #7");
-    }
-    Ok(())
-}
+",
+    line: "route to #6",
+    version: 10,
+    text: "route #0 to #6 cost 2 by #5 #7",
+};
 
 // Bob, #6, stands in #2 and the wizard in #4; each has an exit to #7 and one to #9.
-const MEETING: &str = "mud history 2
+const MEETING: Asked = Asked {
+    history: "mud history 2
 1 1 dig #1 new \"A\" out \"a\"
 2 1 dig #1 new \"B\" out \"b\"
 3 1 player #6 \"Bob\"
@@ -193,31 +191,27 @@ const MEETING: &str = "mud history 2
 8 1 dig #1 old #9 out \"y\"
 9 1 dig #1 old #7 out \"x\"
 end 9
-";
+",
+    line: "meet #6, #1",
+    version: 9,
+    text: "meet #6 #1 at #7 cost 1\n  #6 from #2 cost 1 by #8\n  #1 from #4 cost 1 by #12",
+};
 
-// The guide's answer about the meeting of Bob and the wizard, by workers.
-fn meet_by<R: Threads + Wait + Sync>(
+// Sees what a desk answers by so many workers each time.
+fn check_all<R: Threads + Wait + Sync + Abort>(
     rt: &R,
     alloc: Global,
-    world: &World,
-    workers: usize,
-) -> Result<String, AllocError> {
-    if world.is_player(6) && world.is_player(1) {
-        Ok(meet(rt, alloc, world, 9, &[6, 1], workers, &OpenGate)?.text)
-    } else {
-        String::from_str(alloc, "none such")
+    asked: &Asked,
+) -> Result<(), Fail> {
+    for workers in [0, 1, 2, 8] {
+        check_hall(rt, alloc, asked, workers, &OpenGate)?;
     }
+    Ok(())
 }
 
 #[test]
-fn meetings_by_workers(rt: HostRuntime) -> Result<(), Fail> {
-    let world = world(rt.alloc(), MEETING)?;
-    for workers in [0, 1, 2, 8] {
-        let text = meet_by(&rt, rt.alloc(), &world, workers)?;
-        assert_eq!(rt;
-            text.as_str(),
-            "meet #6 #1 at #7 cost 1\n  #6 from #2 cost 1 by #8\n  #1 from #4 cost 1 by #12"
-        );
-    }
-    Ok(())
+fn routes_and_meetings_by_workers(rt: HostRuntime) -> Result<(), Fail> {
+    check_all(&rt, rt.alloc(), &CROSSED)?;
+    check_all(&rt, rt.alloc(), &TWO_WAYS)?;
+    check_all(&rt, rt.alloc(), &MEETING)
 }

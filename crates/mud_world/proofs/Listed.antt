@@ -3,14 +3,16 @@ use Rattle.std.proofs.Common.{◌≡◌, ℕ, ◌+◌, ◌≤◌, Bool, true, fa
 use Rattle.std.specs.Prelude.{nat_eq, IsTrue, ◌↔◌}
 use Rattle.std.specs.Option.{option_map, option_map_or, option_and_then}
 use Rattle.std.specs.List.{list_any}
-use Rattle.std.proofs.lemmas.Bool.{eq-eqb, eqb-true, true≢false}
+use Rattle.std.proofs.lemmas.Bool.{eq-eqb, eqb-true, true≢false, or_left}
 use Rattle.mud_world.specs.declared.record.Record.{Record}
+use Rattle.mud_world.specs.declared.record.Kind.{Kind}
+use Rattle.mud_world.specs.declared.record.Kind.TheVariants.{Room, Exit, Thing, Player}
 use Rattle.mud_world.specs.Kinds.{kind_place, kind_passage}
 use Rattle.mud_world.specs.Numbers.{IsRisingFrom}
-use Rattle.mud_world.specs.State.{State, record_at, is_number}
-use Rattle.mud_world.specs.Sound.{IsRising, IsSound}
+use Rattle.mud_world.specs.State.{State, record_at, is_number, is_room, source_of, leaving_of}
+use Rattle.mud_world.specs.Sound.{IsRising, IsSound, IsPlacedWell}
 use Rattle.mud_world.specs.Laws.{AreContents, AreLeaving}
-use Rattle.mud_world.proofs.Records.{bool_cases}
+use Rattle.mud_world.proofs.Records.{bool_cases, record_cases}
 use Rattle.mud_world.proofs.Numbering.{passing, passing_by}
 use Rattle.mud_world.proofs.Carrying.{listed}
 
@@ -59,3 +61,23 @@ leaving_law = λ w sound c. (
       (λ among. sym said ∙ same.0 among, λ at. same.1 (said ∙ at)),
   rising-passing (λ r. is_number c (option_map (λ p. p.source) (kind_passage r.kind))) 0 w.next w.objects sound.rising,
 )
+
+source-room : (w : State) → IsSound w → (x n : ℕ) → source_of w x ≡ Some n → is_room w n ≡ true
+source-room w sound x n at =
+    record_cases (record_at w x)
+    (λ e. let bad : None ≡ Some n = sym (ap (λ v. option_map (λ p. p.source) (option_and_then (λ r. kind_passage r.kind) v)) e) ∙ at in absurd (cc))
+    (λ r e. room_of r.kind (sym (ap (λ v. option_map (λ p. p.source) (option_and_then (λ r. kind_passage r.kind) v)) e) ∙ at) (sound.placed x r e))
+  where
+    room_of : (k : Kind) → option_map (λ p. p.source) (kind_passage k) ≡ Some n → IsPlacedWell w k → is_room w n ≡ true
+    room_of Room e well = absurd (let bad : None ≡ Some n = e in cc)
+    room_of (Exit p) e well = let same : p.source ≡ n = cc in subst (λ (v : ℕ). is_room w v ≡ true) same well.0
+    room_of (Thing p) e well = absurd (let bad : None ≡ Some n = e in cc)
+    room_of (Player p) e well = absurd (let bad : None ≡ Some n = e in cc)
+
+-- no exit leaves what is no room
+pub none-leave : (w : State) → IsSound w → (n : ℕ) → is_room w n ≡ false → leaving_of w n ≡ []
+none-leave w sound n out = empty (leaving_of w n) (λ x among. true≢false (sym (source-room w sound x n (((leaving_law w sound n).0 x).0 among)) ∙ out))
+  where
+    empty : (xs : List ℕ) → ((x : ℕ) → IsTrue (list_any (nat_eq x) xs) → ⊥) → xs ≡ []
+    empty [] none = refl
+    empty (x ∷ xs) none = absurd (none x (or_left (nat_eq x x) _ (eq-eqb x x refl)))

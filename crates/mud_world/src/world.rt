@@ -161,7 +161,13 @@ impl World {
     pub fn leaving(&self, number: u32) -> &[u32]
         ensures { result.now ≡ leaving_of self.now number }
     {
-        self.links.leaving.get(number)
+        // most numbers are no room's, and a record is sooner there than a list
+        if self.is_room(number) {
+            self.links.leaving.get(number)
+        } else {
+            self.is_sound();
+            &[]
+        }
     }
 
     /// The player who has this name, ASCII case ignored. There is at most one (this project's

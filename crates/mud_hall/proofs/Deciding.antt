@@ -1,0 +1,29 @@
+-- What a line comes to in the world of a history.
+use Rattle.std.proofs.Common.{◌≡◌, ℕ, List, Option, Result, subst}
+use Rattle.std.specs.Prelude.{IfOk}
+use Rattle.std.specs.declared.alloc.AllocError.{AllocError}
+use Rattle.mud_words.specs.Line.{Line}
+use Rattle.mud_words.specs.Parse.{parsed}
+use Rattle.mud_world.specs.State.{State}
+use Rattle.mud_rules.specs.declared.verdict.Verdict.{Verdict}
+use Rattle.mud_rules.specs.Outcome.{IsLawful}
+use Rattle.mud_rules.specs.Table.{decision}
+use Rattle.mud_chron.specs.Entry.{Accepted}
+use Rattle.mud_hall.specs.Told.{world_after}
+use Rattle.mud_hall.specs.Replies.{verdict_on}
+
+pub decided : (w : State) (h : List Accepted) (p player : Option ℕ) (l : Line) (line : List ℕ)
+    (r : Result Verdict AllocError) → w ≡ world_after h → p ≡ player → l ≡ parsed line
+    → IfOk r (λ v. v ≡ decision w p l) → IfOk r (λ v. v ≡ verdict_on h player line)
+decided w h p player l line r world seat read is =
+    let L : Line → Type 0 = λ m. IfOk r (λ v. v ≡ decision w p m) in
+    let P : Option ℕ → Type 0 = λ q. IfOk r (λ v. v ≡ decision w q (parsed line)) in
+    let W : State → Type 0 = λ x. IfOk r (λ v. v ≡ decision x player (parsed line)) in
+    subst W world (subst P seat (subst L read is))
+
+pub lawful : (w : State) (h : List Accepted) (p player : Option ℕ) (r : Result Verdict AllocError)
+    → w ≡ world_after h → p ≡ player → IfOk r (IsLawful w p) → IfOk r (IsLawful (world_after h) player)
+lawful w h p player r world seat is =
+    let P : Option ℕ → Type 0 = λ q. IfOk r (IsLawful w q) in
+    let W : State → Type 0 = λ x. IfOk r (IsLawful x player) in
+    subst W world (subst P seat is)

@@ -1,0 +1,4 @@
+use Rattle.mud_rules.proofs.matching.player_match.Goals as goal
+
+pub returns : goal.returns
+returns c = c.sort_match.ensures

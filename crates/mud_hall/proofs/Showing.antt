@@ -99,4 +99,3 @@ proven-shown h player p q j w v (Ok a) is asks proven =
     subst (λ x. G x (length h) player) is.world (subst (λ y. G w y player) is.version
     (subst (G w v) is.seat proven)) in
     subst P (sym asks) here
-

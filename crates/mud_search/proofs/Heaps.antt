@@ -190,7 +190,7 @@ empty_labels es ps r m =
     ]
 
 -- what is written where two entries change places
-swapped_entries : (es : List Entry) (i j : ℕ) (a b : Entry) → i < length es → j < length es
+pub swapped_entries : (es : List Entry) (i j : ℕ) (a b : Entry) → i < length es → j < length es
     → a ≡ entry_at es i → b ≡ entry_at es j
     → IsSwapped es (set (set es i b) j a) i j
 swapped_entries es i j a b one other is_a is_b =
@@ -220,7 +220,7 @@ two_places ps r q i j one other =
     )
 
 -- two entries of one room are one
-one_entry : (es : List Entry) (ps : List ℕ) (i j : ℕ) → IsMatched es ps → i < length es → j < length es
+pub one_entry : (es : List Entry) (ps : List ℕ) (i j : ℕ) → IsMatched es ps → i < length es → j < length es
     → (entry_at es i).room ≡ (entry_at es j).room → i ≡ j
 one_entry es ps i j m one other same = sym (m.here i one).1 ∙ ap (place_at ps) same ∙ (m.here j other).1
 

@@ -5,6 +5,7 @@ pub mod Inside
 pub mod Orders
 pub mod Heaps
 pub mod Mending
+pub mod Holes
 pub mod Parts
 pub mod Potential
 pub mod Trails

@@ -15,7 +15,7 @@ use Rattle.mud_search.proofs.Orders.{no_later_itself, no_later_trans}
 abbrev pub IsOrdered : List Entry → ℕ → Type 0
 IsOrdered es w = (i : ℕ) → 0 < i → i < w → IsNoLater (entry_at es ((i - 1) / 2)) (entry_at es i)
 
-moved : (a b c d : Entry) → a ≡ c → b ≡ d → IsNoLater c d → IsNoLater a b
+pub moved : (a b c d : Entry) → a ≡ c → b ≡ d → IsNoLater c d → IsNoLater a b
 moved a b c d p q h =
     let P : Entry → Type 0 = λ x. IsNoLater x d in
     let Q : Entry → Type 0 = λ y. IsNoLater a y in

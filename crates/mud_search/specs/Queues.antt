@@ -60,6 +60,13 @@ pub record IsOrderedDownTo (entries : List Entry) (waiting at : ℕ) : Type 0 wh
   pub past : (i : ℕ) → 0 < i → i < waiting → (i - 1) / 2 ≡ at → 0 < at
       → IsNoLater (entry_at entries ((at - 1) / 2)) (entry_at entries i)
 
+-- one of those right below a place, and none of them comes before it
+pub record IsFirstBelow (entries : List Entry) (waiting at below : ℕ) : Type 0 where
+  pub some : 0 < below
+  pub within : below < waiting
+  pub under : (below - 1) / 2 ≡ at
+  pub first : (i : ℕ) → 0 < i → i < waiting → (i - 1) / 2 ≡ at → IsNoLater (entry_at entries below) (entry_at entries i)
+
 -- two entries have changed places
 pub record IsSwapped (before after : List Entry) (i j : ℕ) : Type 0 where
   pub whole : length after ≡ length before

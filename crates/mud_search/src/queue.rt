@@ -119,7 +119,7 @@ impl Queue {
 
 impl Heap {
     ghost use Rattle.mud_search.specs.Queues.{entry_at, heap_labels, IsNoLater, IsMatched, IsQueue, IsOrderedBut};
-    ghost use Rattle.mud_search.specs.Queues.{IsOrderedDownTo, IsSwapped};
+    ghost use Rattle.mud_search.specs.Queues.{IsOrderedDownTo, IsFirstBelow, IsSwapped};
 
     // Brings a room to those that wait, and says where it stands; its label means nothing yet.
     fn admit(&mut self, room: u32) -> usize
@@ -196,7 +196,7 @@ impl Heap {
         at
     }
 
-    // Swaps the entry with the first of those below it while that one comes before it.
+    // Moves the entry down, and each first of those below it up, while that one comes before it.
     fn sink(&mut self, from: usize)
         requires matched { IsMatched self.old.entries.items self.old.places.items }
         requires fits { self.old.waiting ≤ length self.old.entries.items }
@@ -205,14 +205,34 @@ impl Heap {
         ensures queue { IsQueue self.new.entries.items self.new.places.items self.new.waiting }
         ensures labels { heap_labels self.new ≡ heap_labels self.old }
     {
+        let entry = self.entries[from];
         let mut at = from;
-        while 2 * at + 1 < self.waiting {
-            let below = self.first_below(at);
-            if !comes_before(self.entries[below], self.entries[at]) {
-                return;
-            }
-            self.swap(at, below);
+        while let Some(below) = self.sooner_below(at, entry) {
+            let next = self.entries[below];
+            self.put(at, next);
             at = below;
+        }
+        self.put(at, entry);
+    }
+
+    // Where the first of those below a place stands, if it comes before the entry.
+    fn sooner_below(&self, at: usize, entry: Entry) -> Option<usize>
+        requires within { at < self.now.waiting }
+        requires fits { self.now.waiting ≤ length self.now.entries.items }
+        requires few { length self.now.entries.items < 2 ^ 32 }
+        ensures some { IfSome result (λ p. IsFirstBelow self.now.entries.items self.now.waiting at p
+            × IsNoLater (entry_at self.now.entries.items p) entry) }
+        ensures none { IfNone result ((i : ℕ) → 0 < i → i < self.now.waiting → (i - 1) / 2 ≡ at
+            → IsNoLater entry (entry_at self.now.entries.items i)) }
+    {
+        if 2 * at + 1 >= self.waiting {
+            return None;
+        }
+        let below = self.first_below(at);
+        if comes_before(self.entries[below], entry) {
+            Some(below)
+        } else {
+            None
         }
     }
 
@@ -221,11 +241,7 @@ impl Heap {
         requires some { 2 * at + 1 < self.now.waiting }
         requires fits { self.now.waiting ≤ length self.now.entries.items }
         requires few { length self.now.entries.items < 2 ^ 32 }
-        ensures within { result < self.now.waiting }
-        ensures below { 0 < result }
-        ensures under { (result - 1) / 2 ≡ at }
-        ensures first { (i : ℕ) → 0 < i → i < self.now.waiting → (i - 1) / 2 ≡ at
-            → IsNoLater (entry_at self.now.entries.items result) (entry_at self.now.entries.items i) }
+        ensures { IsFirstBelow self.now.entries.items self.now.waiting at result }
     {
         let left = 2 * at + 1;
         let right = left + 1;
@@ -234,6 +250,19 @@ impl Heap {
         } else {
             left
         }
+    }
+
+    // Puts an entry at a place.
+    fn put(&mut self, at: usize, entry: Entry)
+        requires place { at < length self.old.entries.items }
+        requires room { entry.room < length self.old.places.items }
+        requires few { length self.old.entries.items < 2 ^ 32 }
+        ensures entries { self.new.entries.items ≡ slice_set self.old.entries.items at entry }
+        ensures places { self.new.places.items ≡ slice_set self.old.places.items entry.room at }
+        ensures waiting { self.new.waiting ≡ self.old.waiting }
+    {
+        self.entries[at] = entry;
+        self.places[entry.room as usize] = at as u32;
     }
 
     // Swaps two entries.

@@ -10,8 +10,8 @@ use mud_roads::Label;
 use std::alloc::{AllocError, Global};
 use std::marker::Model;
 
-// A room with its label. Entries are compared by label, then by room.
-#[derive(Clone, Copy, Debug, PartialEq, Eq, PartialOrd, Ord, Drop)]
+// A room with its label.
+#[derive(Clone, Copy, Debug, PartialEq, Eq, Drop)]
 pub(crate) struct Entry {
     pub(crate) label: Label,
     pub(crate) room: u32,
@@ -187,7 +187,7 @@ impl Heap {
         let mut at = from;
         while at > 0 {
             let above = (at - 1) / 2;
-            if !comes_before(self.entries[at], self.entries[above]) {
+            if !comes_before(&self.entries[at], &self.entries[above]) {
                 return at;
             }
             self.swap(at, above);
@@ -229,7 +229,7 @@ impl Heap {
             return None;
         }
         let below = self.first_below(at);
-        if comes_before(self.entries[below], entry) {
+        if comes_before(&self.entries[below], &entry) {
             Some(below)
         } else {
             None
@@ -245,11 +245,12 @@ impl Heap {
     {
         let left = 2 * at + 1;
         let right = left + 1;
-        if right < self.waiting && comes_before(self.entries[right], self.entries[left]) {
-            right
-        } else {
-            left
+        if right >= self.waiting {
+            return left;
         }
+        let is_right = comes_before(&self.entries[right], &self.entries[left]);
+        // a sum, not a choice: which of the two comes first can't be foreseen
+        left + usize::from(is_right)
     }
 
     // Puts an entry at a place.
@@ -283,10 +284,14 @@ impl Heap {
     }
 }
 
-// Whether an entry comes before another.
-fn comes_before(a: Entry, b: Entry) -> bool
-    ensures first { OnTrue result (IsBefore a.label a.room b.label b.room) }
-    ensures later { OnFalse result (IsBefore b.label b.room a.label a.room) }
+// Whether an entry comes before another: by cost, then by exits, then by room.
+fn comes_before(a: &Entry, b: &Entry) -> bool
+    ensures first { OnTrue result (IsBefore a.now.label a.now.room b.now.label b.now.room) }
+    ensures later { OnFalse result (IsBefore b.now.label b.now.room a.now.label a.now.room) }
 {
-    a < b
+    if a.label.cost == b.label.cost {
+        (a.label.exits, a.room) < (b.label.exits, b.room)
+    } else {
+        a.label.cost < b.label.cost
+    }
 }

@@ -35,5 +35,6 @@ pub mod Holders
 pub mod Needed
 pub mod Kept
 pub mod Asking
+pub mod Written
 pub mod Climbing
 pub mod Worlds

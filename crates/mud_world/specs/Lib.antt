@@ -17,5 +17,6 @@ pub mod Nesting
 pub mod Climbing
 pub mod Laws
 pub mod Inside
+pub mod Judging
 pub mod History
 pub mod Parts

@@ -1,58 +1,78 @@
 //! What is unlocked for one who carries so much, for all objects at once.
 
-ghost use Rattle.std.specs.Prelude.{◌≡◌, ℕ, false, true, slice_index_or, is_none, nat_eq, IfOk};
+ghost use Rattle.std.specs.Prelude.{◌≡◌, ℕ, false, true, slice_index_or, slice_set, nat_eq, IfOk};
 ghost use Rattle.std.specs.Option.{option_map_or};
 ghost use Rattle.std.specs.List.{list_any};
 ghost use Rattle.mud_world.specs.Truth.{key_true};
 ghost use Rattle.mud_world.specs.State.{has, opens, unlocked, IsHolding};
 
 use crate::holding::Holding;
-use crate::locks::{Asked, Bearer, answer};
+use crate::locks::{Asked, Bearer};
 use crate::world::World;
 use std::alloc::{AllocError, Global};
 
+// The answers of no level, and the objects whose answers may differ on higher ones.
+#[derive(Drop)]
+struct Plain {
+    // for each number whether its object has no key
+    answers: Vec<bool>,
+    // the numbers of those that have one, rising, and of what is recycled
+    locked: Vec<u32>,
+}
+
+// Writes the answer of an object.
+fn put_answer(answers: &mut Vec<bool>, object: u32, answer: bool)
+    ensures { answers.new.items ≡ slice_set answers.old.items object answer }
+{
+    if let Some(place) = answers.get_mut(object as usize) {
+        *place = answer;
+    }
+}
+
 impl World {
+    ghost use Rattle.mud_world.specs.Judging.{IsPlain};
+
     // The answers of no level: what has no key is unlocked.
-    fn judge_plain(&self, alloc: Global) -> Result<Vec<bool>, AllocError>
-        ensures { IfOk result (λ after. (o : ℕ) → slice_index_or after.items o false
-            ≡ has self.now o (λ r. is_none r.key)) }
+    fn judge_plain(&self, alloc: Global) -> Result<Plain, AllocError>
+        ensures { IfOk result (λ plain. IsPlain self.now plain.answers.items plain.locked.items) }
     {
         let next = self.next_number();
         let mut answers = Vec::with_capacity(alloc, next as usize)?;
+        let mut locked = Vec::new(alloc);
         for object in 0..next {
-            answers.push(self.is_keyless(object))?;
+            let is_keyless = self.is_keyless(object);
+            answers.push(is_keyless)?;
+            if !is_keyless {
+                locked.push(object)?;
+            }
         }
-        Ok(answers)
+        Ok(Plain { answers, locked })
     }
 
-    // Whether the object opens with one level more. Where the plain answer is yes, it has no key that would be read.
-    fn opens_next(&self, holding: &Holding, plain: &[bool], before: &[bool], object: u32) -> bool
-        requires { (o : ℕ) → slice_index_or plain.now o false ≡ has self.now o (λ r. is_none r.key) }
-        ensures { result ≡ has self.now object (λ r. option_map_or
-            (key_true (λ a. list_any (nat_eq a) holding.now) (λ o. slice_index_or before.now o false)) r.key true) }
-    {
-        answer(plain, object)
-            || self.lets_in(Bearer::Holder(holding), Asked::Answers(before), object)
-    }
-
-    // The answers of one level more.
+    // The answers of one level more: those of no level, but where a key is read.
     fn judge_more(
         &self,
         alloc: Global,
         holding: &Holding,
-        plain: &[bool],
+        plain: &Plain,
         before: &[bool],
     ) -> Result<Vec<bool>, AllocError>
-        requires { (o : ℕ) → slice_index_or plain.now o false ≡ has self.now o (λ r. is_none r.key) }
+        requires { IsPlain self.now plain.now.answers.items plain.now.locked.items }
         ensures { IfOk result (λ after. (o : ℕ) → slice_index_or after.items o false
             ≡ has self.now o (λ r. option_map_or
             (key_true (λ a. list_any (nat_eq a) holding.now) (λ o. slice_index_or before.now o false)) r.key true)) }
     {
-        let next = self.next_number();
-        let mut answers = Vec::with_capacity(alloc, next as usize)?;
-        for object in 0..next {
-            answers.push(self.opens_next(holding, plain, before, object))?;
+        let mut answers = Vec::with_capacity(alloc, plain.answers.len())?;
+        answers.extend_from_slice(&plain.answers)?;
+        for object in &plain.locked {
+            let is_unlocked = self.lets_in(
+                Bearer::Holder(holding),
+                Asked::Answers(before),
+                *object,
+            );
+            put_answer(&mut answers, *object, is_unlocked);
         }
+        self.is_sound();
         Ok(answers)
     }
 
@@ -62,7 +82,7 @@ impl World {
             ≡ opens self.now 4 (λ a. list_any (nat_eq a) holding.now) o) }
     {
         let plain = self.judge_plain(alloc)?;
-        let first = self.judge_more(alloc, holding, &plain, &plain)?;
+        let first = self.judge_more(alloc, holding, &plain, &plain.answers)?;
         let second = self.judge_more(alloc, holding, &plain, &first)?;
         let third = self.judge_more(alloc, holding, &plain, &second)?;
         self.judge_more(alloc, holding, &plain, &third)

@@ -30,7 +30,7 @@ pub(crate) enum Asked<'a> {
 }
 
 // The answer of a number; no past the last.
-pub(crate) fn answer(answers: &[bool], number: u32) -> bool
+fn answer(answers: &[bool], number: u32) -> bool
     ensures { result ≡ slice_index_or answers.now number false }
 {
     matches!(answers.get(number as usize), Some(true))

@@ -1,15 +1,21 @@
-use Rattle.std.proofs.Common.{◌∙◌, ◌<◌, ◌≤◌, arith, sym, ⊎_elim}
-use Rattle.std.proofs.lemmas.Bool.{cases_lt}
-use Rattle.mud_world.proofs.Carrying.{has-above, get_or-past}
+use Rattle.std.proofs.Common.{◌≡◌, ◌∙◌, ℕ, true, false, List, get_or, ap, sym, arith}
+use Rattle.std.proofs.lemmas.List.{drop_all}
+use Rattle.std.specs.Prelude.{nat_eq}
+use Rattle.std.specs.Option.{option_map_or}
+use Rattle.std.specs.List.{list_any}
+use Rattle.mud_world.specs.State.{has}
+use Rattle.mud_world.specs.Truth.{key_true}
+use Rattle.mud_world.specs.Judging.{written}
+use Rattle.mud_world.proofs.Written.{written-anew}
 use Rattle.mud_world.proofs.world.World.judge_more.Goals as goal
 
 pub returns : goal.returns
 returns c = λ o.
-    let next = c.next_number-next.ensures.next in
-    let inv = c.loop-object.invariant in
-    let long = inv.0 in
-    let done = c.loop-object-test.false in
-    ⊎_elim
-    (λ (lt : o < c.loop-object.object). inv.1 o lt)
-    (λ (le : c.loop-object.object ≤ o). get_or-past c.loop-object.answers.items o (omega (arith, le, long)) ∙ sym (has-above c.args.self.now c.next_number-next.ensures.sound o (omega (arith, le, next, done)) _))
-    (cases_lt o c.loop-object.object)
+    let plain = c.args.plain.now in
+    let test = key_true (λ a. list_any (nat_eq a) c.args.holding.now) (λ o. get_or c.args.before.now o false) in
+    let new = λ (k : ℕ). has c.args.self.now k (λ r. option_map_or test r.key true) in
+    let answers = c.loop-object.answers.items in
+    let done : written new plain.locked.items plain.answers.items ≡ answers =
+    sym c.loop-object.invariant ∙ ap (λ (left : List ℕ). written new left answers) (drop_all c.loop-object.object-index plain.locked.items (omega (arith, c.loop-object-test.false))) in
+    sym (ap (λ l. get_or l o false) done)
+    ∙ written-anew c.args.self.now c.is_sound.ensures plain.answers.items plain.locked.items c.requires test o

@@ -5,6 +5,7 @@
 //! |---|---|
 //! | [`labels_alone`] | the least labels of up to eight travellers, by the caller's thread |
 //! | [`labels`] | the same, by several workers, who pass a [`Gate`] with each room |
+//! | [`last_share`] | how many members, or workers, the last of several parts gets |
 //! | [`Labels::get`] | the least label of a member at a room |
 //! | [`Frontier`] | the rooms of all members while a search goes on: what is open, held, finished |
 //!
@@ -36,6 +37,7 @@ mod job;
 mod part;
 mod pool;
 mod queue;
+mod share;
 mod shared;
 mod slot;
 mod task;
@@ -46,6 +48,7 @@ pub use found::Labels;
 pub use frontier::Frontier;
 pub use gate::{Gate, OpenGate};
 pub use job::Job;
+pub use share::last_share;
 pub use shared::labels;
 pub use slot::Slot;
 pub use task::{Put, Rest, Task};

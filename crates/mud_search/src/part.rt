@@ -22,19 +22,19 @@ impl Part {
         }
     }
 
-    /// The first members, and half of the workers.
-    pub(crate) fn front(self) -> Part {
+    /// The first members, and the first workers: all but so many.
+    pub(crate) fn front(self, workers_behind: usize) -> Part {
         Part {
-            workers: self.workers / 2,
+            workers: self.workers.saturating_sub(workers_behind),
             ..self
         }
     }
 
-    /// The members behind so many, and the other half of the workers.
-    pub(crate) fn back(self, members: usize) -> Part {
-        let before = self.workers / 2;
+    /// The members behind so many, and the last workers: so many.
+    pub(crate) fn back(self, members: usize, workers_behind: usize) -> Part {
+        let before = self.workers.saturating_sub(workers_behind);
         Part {
-            workers: self.workers - before,
+            workers: workers_behind,
             first_worker: self.first_worker.saturating_add(before),
             first_member: self.first_member.saturating_add(members),
         }

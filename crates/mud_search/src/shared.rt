@@ -11,6 +11,7 @@ use crate::frontier::Frontier;
 use crate::gate::Gate;
 use crate::job::Job;
 use crate::part::Part;
+use crate::share::last_share;
 use crate::workers::worked;
 use mud_roads::Traveller;
 use mud_world::World;
@@ -42,7 +43,8 @@ pub fn labels<R: Threads + Wait + Sync, G: Gate + Sync>(
     labels_apart(rt, alloc, world, travellers, Part::whole(workers), gate)
 }
 
-// The labels of a part: of its halves apart, if it has two members and two workers.
+// The labels of a part: those of its last members apart, by the last workers, as long as it has two
+// members and two workers. So the caller's thread starts them all, and is the first worker.
 fn labels_apart<R: Threads + Wait + Sync, G: Gate + Sync>(
     rt: &R,
     alloc: Global,
@@ -59,20 +61,22 @@ fn labels_apart<R: Threads + Wait + Sync, G: Gate + Sync>(
     if members < 2 || part.workers < 2 {
         return labels_together(rt, alloc, world, travellers, part, gate);
     }
-    let (front, back) = travellers.split_at(members / 2);
-    let (first, second) = join(
+    let before = members - last_share(members, part.workers);
+    let behind = last_share(part.workers, members);
+    let (front, back) = travellers.split_at(before);
+    let (others, labels) = join(
         rt,
-        || -> Result<Labels, AllocError>
-            requires { IsSync R.row × IsSync G.row × All (IsTraveller world.now) front.now × (length front.now ≤ 8) }
-            ensures { IfOk result (AreFound world.entry.now front.entry.now) }
-        { labels_apart(rt, alloc, world, front, part.front(), gate) },
         || -> Result<Labels, AllocError>
             requires { IsSync R.row × IsSync G.row × All (IsTraveller world.now) back.now × (length back.now ≤ 8) }
             ensures { IfOk result (AreFound world.entry.now back.entry.now) }
-        { labels_apart(rt, alloc, world, back, part.back(members / 2), gate) },
+        { labels_apart(rt, alloc, world, back, part.back(before, behind), gate) },
+        || -> Result<Labels, AllocError>
+            requires { IsSync R.row × IsSync G.row × All (IsTraveller world.now) front.now × (length front.now ≤ 8) }
+            ensures { IfOk result (AreFound world.entry.now front.entry.now) }
+        { labels_apart(rt, alloc, world, front, part.front(behind), gate) },
     );
-    let mut labels = first?;
-    labels.append(second?)?;
+    let mut labels = labels?;
+    labels.append(others?)?;
     Ok(labels)
 }
 

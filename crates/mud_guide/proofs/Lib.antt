@@ -7,6 +7,7 @@ mod Shown
 mod Party
 mod Replies
 mod Parts
+mod Listings
 mod Rising
 pub mod Single
 pub mod Walked

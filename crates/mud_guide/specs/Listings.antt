@@ -1,9 +1,13 @@
 -- How the accounts of a certificate are made from labels and journeys. Private clauses alone cite this file.
-use Rattle.std.specs.Prelude.{◌≡◌, ℕ, ◌<◌, List, Option, Some, All, AllPairs, Contains, IfSome, length, slice_index_or}
+use Rattle.std.specs.Prelude.{◌≡◌, ℕ, ◌+◌, ◌<◌, List, Option, Some, All, AllPairs, Contains, IfSome, length, slice_index_or}
 use Rattle.std.specs.Option.{option_map}
+use Rattle.std.specs.List.{AllZip}
+use Rattle.mud_world.specs.State.{State}
 use Rattle.mud_roads.specs.declared.label.Label.{Label}
-use Rattle.mud_cert.specs.Certificate.{Account}
-use Rattle.mud_guide.specs.Journeys.{Journey}
+use Rattle.mud_roads.specs.Open.{Knowledge}
+use Rattle.mud_cert.specs.Certificate.{Account, IsAccount}
+use Rattle.mud_guide.specs.declared.lister.Listing.{Listing}
+use Rattle.mud_guide.specs.Journeys.{Journey, IsJourney}
 use Rattle.mud_guide.specs.Ways.{exits_of}
 
 -- the labels of the numbers below `next`, by rising number
@@ -30,3 +34,10 @@ pub record AreListed (labels : ℕ → ℕ → Option Label) (next : ℕ) (js : 
   pub long : length es ≡ length js
   pub each : (m : ℕ) (j : Journey) (a : Account) → m < length es
       → IsListed (labels m) next (slice_index_or js m j) (slice_index_or es m a)
+
+-- the members of a party from a number on, how they go to the room, and what is claimed of them, within the limits
+pub record IsListing (w : State) (labels : ℕ → ℕ → Option Label) (first : ℕ) (to : Option ℕ) (ts : List Knowledge)
+    (l : Listing) : Type 0 where
+  pub journeys : AllZip (λ t j. IsJourney w to t.player j) ts l.journeys.items
+  pub accounts : AreListed (λ m. labels (first + m)) w.next l.journeys.items l.accounts.items
+  pub limits : All IsAccount l.accounts.items

@@ -1,6 +1,6 @@
 //! What a certificate claims of each member.
 
-ghost use Rattle.std.specs.Prelude.{◌≡◌, ◌≤◌, All, IfOk};
+ghost use Rattle.std.specs.Prelude.{◌≡◌, ◌+◌, ◌≤◌, All, IfOk, length};
 ghost use Rattle.std.specs.Option.{option_map};
 ghost use Rattle.mud_cert.specs.Certificate.{IsAccount};
 ghost use Rattle.mud_search.specs.Least.{label_in, AreBounded};
@@ -72,22 +72,25 @@ fn account_of(
     Ok(Member::new(journey.player, journey.from, entries, walk))
 }
 
-/// What is claimed of all who go on the journeys.
+/// What is claimed of all who go on the journeys. They are the members from a number on.
 pub(crate) fn accounts_of(
     alloc: Global,
     next: u32,
     journeys: &[Journey],
     labels: &Labels,
+    first: usize,
 ) -> Result<Vec<Member>, AllocError>
     requires few { next ≤ 8192 }
+    requires members { first + length journeys.now ≤ 8 }
     requires inside { All (IsInside next) journeys.now }
     requires bounded { AreBounded (label_in labels.now) }
-    ensures accounts { IfOk result (λ ms. AreListed (label_in labels.now) next journeys.now ms.items) }
+    ensures accounts { IfOk result (λ ms.
+        AreListed (λ m. label_in labels.now (first + m)) next journeys.now ms.items) }
     ensures limits { IfOk result (λ ms. All IsAccount ms.items) }
 {
     let mut accounts = Vec::with_capacity(alloc, journeys.len())?;
     for member in 0..journeys.len() {
-        accounts.push(account_of(alloc, next, &journeys[member], labels, member)?)?;
+        accounts.push(account_of(alloc, next, &journeys[member], labels, first + member)?)?;
     }
     Ok(accounts)
 }

@@ -4,21 +4,20 @@ ghost use Rattle.std.specs.Prelude.{◌≡◌, ◌≢◌, ◌≤◌, [], ◌∷�
 ghost use Rattle.std.specs.Option.{option_map};
 ghost use Rattle.mud_world.specs.State.{is_player, is_room};
 ghost use Rattle.mud_roads.specs.Open.{IsTraveller};
-ghost use Rattle.mud_cert.specs.Certificate.{IsCertificate, IsConclusion};
+ghost use Rattle.mud_cert.specs.Certificate.{IsAccount, IsCertificate, IsConclusion};
 ghost use Rattle.mud_cert.specs.declared.cert.Form.TheVariants.{Two};
 ghost use Rattle.mud_search.specs.Least.{label_in, AreLeast, AreBounded};
 ghost use Rattle.mud_guide.specs.Ways.{cost_of};
-ghost use Rattle.mud_guide.specs.Listings.{IsInside, AreListed};
 ghost use Rattle.mud_guide.specs.Answers.{IsRouteAnswer, IsMeetAnswer};
 
 use crate::accounts::accounts_of;
 use crate::answer::Answer;
-use crate::journey::{Journey, journey_to};
+use crate::journey::journey_to;
 use crate::lister::{Alone, Lister};
 use crate::meeting::meeting_place;
 use crate::texts::{meet_text, route_text};
 use crate::way::Way;
-use mud_cert::{Cert, Conclusion, Form, Meeting};
+use mud_cert::{Cert, Conclusion, Form, Meeting, Member};
 use mud_roads::Traveller;
 use mud_search::{Labels, labels_alone};
 use mud_world::World;
@@ -68,14 +67,8 @@ pub(crate) fn route_by(
         to: room,
         cost: cost_of(&journey.way),
     };
-    let cert = certify(
-        alloc,
-        version,
-        next,
-        slice::from_ref(&journey),
-        labels,
-        conclusion,
-    )?;
+    let accounts = accounts_of(alloc, next, slice::from_ref(&journey), labels, 0)?;
+    let cert = certificate(version, accounts, conclusion);
     Ok(Answer {
         version,
         text,
@@ -148,19 +141,10 @@ pub(crate) fn meet_by<L: Lister>(
     requires bounded { AreBounded (label_in labels.now) }
     ensures { IfOk result (IsMeetAnswer world.now version (map (λ t. t.player) party.now)) }
 {
-    let next = world.next_number();
     let place = meeting_place(world, party, labels);
-    let journeys = lister.journeys(alloc, world, party, labels, room_of(place))?;
-    let text = meet_text(alloc, place, journeys.as_slice())?;
-    let conclusion = Conclusion::Meet(place);
-    let cert = certify(
-        alloc,
-        version,
-        next,
-        journeys.as_slice(),
-        labels,
-        conclusion,
-    )?;
+    let listing = lister.list(alloc, world, party, labels, room_of(place))?;
+    let text = meet_text(alloc, place, listing.journeys.as_slice())?;
+    let cert = certificate(version, listing.accounts, Conclusion::Meet(place));
     Ok(Answer {
         version,
         text,
@@ -188,26 +172,18 @@ fn room_of(place: Option<Meeting>) -> Option<u32>
     }
 }
 
-// The certificate of journeys, from the labels of the numbers below `next`.
-fn certify(
-    alloc: Global,
-    version: u32,
-    next: u32,
-    journeys: &[Journey],
-    labels: &Labels,
-    conclusion: Conclusion,
-) -> Result<Cert, AllocError>
+// The certificate that claims this of its members.
+fn certificate(version: u32, accounts: Vec<Member>, conclusion: Conclusion) -> Cert
     requires version { version ≤ 65536 }
-    requires few { next ≤ 8192 }
-    requires inside { All (IsInside next) journeys.now }
-    requires bounded { AreBounded (label_in labels.now) }
-    requires conclusion { IsConclusion (length journeys.now) conclusion }
-    ensures version { IfOk result (λ c. c.version ≡ version) }
-    ensures form { IfOk result (λ c. c.form ≡ Two) }
-    ensures members { IfOk result (λ c. AreListed (label_in labels.now) next journeys.now c.members) }
-    ensures conclusion { IfOk result (λ c. c.conclusion ≡ conclusion) }
-    ensures limits { IfOk result IsCertificate }
+    requires accounts { All IsAccount accounts.items }
+    requires conclusion { IsConclusion (length accounts.items) conclusion }
+    ensures is { result ≡ record {
+      version = version;
+      form = Two;
+      members = accounts.items;
+      conclusion = conclusion;
+    } }
+    ensures limits { IsCertificate result }
 {
-    let accounts = accounts_of(alloc, next, journeys, labels)?;
-    Ok(Cert::new(version, Form::Two, accounts, conclusion))
+    Cert::new(version, Form::Two, accounts, conclusion)
 }

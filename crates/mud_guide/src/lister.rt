@@ -1,38 +1,47 @@
-//! Who lists the journeys of a party.
+//! Who lists the journeys of a party, and what a certificate claims of its members.
 
 ghost use Rattle.std.specs.Prelude.{⊤, IfOk, IsTrue};
 ghost use Rattle.std.specs.Option.{ForSome};
-ghost use Rattle.std.specs.List.{AllZip};
 ghost use Rattle.std.specs.Thread.{IsSync};
 ghost use Rattle.mud_world.specs.State.{is_room};
-ghost use Rattle.mud_search.specs.Least.{label_in};
-ghost use Rattle.mud_guide.specs.Journeys.{IsJourney};
+ghost use Rattle.mud_search.specs.Least.{label_in, AreBounded};
 ghost use Rattle.mud_guide.specs.Parts.{AreMembers};
+ghost use Rattle.mud_guide.specs.Listings.{IsListing};
 
+use crate::accounts::accounts_of;
 use crate::journey::{Journey, journeys_to};
+use mud_cert::Member;
 use mud_roads::Traveller;
-use mud_search::Labels;
+use mud_search::{Labels, last_share};
 use mud_world::World;
 use std::alloc::{AllocError, Global};
 use std::thread::{Threads, join};
 
-/// Lists the journeys of all members to a room, if there is one to go to.
+/// How the members of a party go, and what is claimed of each.
+#[derive(Drop)]
+pub(crate) struct Listing {
+    pub(crate) journeys: Vec<Journey>,
+    pub(crate) accounts: Vec<Member>,
+}
+
+/// Lists how all members go to a room, if there is one to go to, and what is claimed of them.
 pub(crate) trait Lister {
     // What a caller must know of it: of several workers, that threads may share their handle.
     ghost ready: { Self → Type 0 } = { λ _. ⊤ };
 
-    fn journeys(
+    fn list(
         &self,
         alloc: Global,
         world: &World,
         party: &[Traveller],
         labels: &Labels,
         to: Option<u32>,
-    ) -> Result<Vec<Journey>, AllocError>
+    ) -> Result<Listing, AllocError>
         requires ready { Self.ready self.now }
         requires members { AreMembers world.now (label_in labels.now) 0 party.now }
         requires room { ForSome to (λ room. IsTrue (is_room world.now room)) }
-        ensures { IfOk result (λ js. AllZip (λ t j. IsJourney world.now to t.player j) party.now js.items) };
+        requires bounded { AreBounded (label_in labels.now) }
+        ensures { IfOk result (IsListing world.now (label_in labels.now) 0 to party.now) };
 }
 
 /// The caller's thread alone.
@@ -40,15 +49,15 @@ pub(crate) trait Lister {
 pub(crate) struct Alone;
 
 impl Lister for Alone {
-    fn journeys(
+    fn list(
         &self,
         alloc: Global,
         world: &World,
         party: &[Traveller],
         labels: &Labels,
         to: Option<u32>,
-    ) -> Result<Vec<Journey>, AllocError> {
-        journeys_to(alloc, world, party, labels, 0, to)
+    ) -> Result<Listing, AllocError> {
+        listing_of(alloc, world, party, labels, 0, to)
     }
 }
 
@@ -62,22 +71,42 @@ pub(crate) struct Crew<'a, R: Threads + Sync> {
 impl<'a, R: Threads + Sync> Lister for Crew<'a, R> {
     ghost ready = { λ _. IsSync R.row };
 
-    fn journeys(
+    fn list(
         &self,
         alloc: Global,
         world: &World,
         party: &[Traveller],
         labels: &Labels,
         to: Option<u32>,
-    ) -> Result<Vec<Journey>, AllocError> {
-        journeys_by(self.rt, alloc, world, party, labels, 0, to, self.workers)
+    ) -> Result<Listing, AllocError> {
+        listing_by(self.rt, alloc, world, party, labels, 0, to, self.workers)
     }
 }
 
-// The journeys of members from a number on: of their halves apart, if there are two members and two
-// workers.
+// The listing of members from a number on.
+fn listing_of(
+    alloc: Global,
+    world: &World,
+    party: &[Traveller],
+    labels: &Labels,
+    first: usize,
+    to: Option<u32>,
+) -> Result<Listing, AllocError>
+    requires members { AreMembers world.now (label_in labels.now) first party.now }
+    requires room { ForSome to (λ room. IsTrue (is_room world.now room)) }
+    requires bounded { AreBounded (label_in labels.now) }
+    ensures { IfOk result (IsListing world.now (label_in labels.now) first to party.now) }
+{
+    let next = world.next_number();
+    let journeys = journeys_to(alloc, world, party, labels, first, to)?;
+    let accounts = accounts_of(alloc, next, journeys.as_slice(), labels, first)?;
+    Ok(Listing { journeys, accounts })
+}
+
+// The listing of members from a number on: of the last of them apart, by the last workers, as long as
+// there are two members and two workers.
 #[tactic(auto, using(crate::proofs::Parts::members_front, crate::proofs::Parts::members_back))]
-fn journeys_by<R: Threads + Sync>(
+fn listing_by<R: Threads + Sync>(
     rt: &R,
     alloc: Global,
     world: &World,
@@ -86,36 +115,39 @@ fn journeys_by<R: Threads + Sync>(
     first: usize,
     to: Option<u32>,
     workers: usize,
-) -> Result<Vec<Journey>, AllocError>
+) -> Result<Listing, AllocError>
     requires members { AreMembers world.now (label_in labels.now) first party.now }
     requires room { ForSome to (λ room. IsTrue (is_room world.now room)) }
-    ensures { IfOk result (λ js. AllZip (λ t j. IsJourney world.now to t.player j) party.now js.items) }
+    requires bounded { AreBounded (label_in labels.now) }
+    ensures { IfOk result (IsListing world.now (label_in labels.now) first to party.now) }
 {
     let members = party.len();
     if members < 2 || workers < 2 {
-        return journeys_to(alloc, world, party, labels, first, to);
+        return listing_of(alloc, world, party, labels, first, to);
     }
-    let (front, back) = party.split_at(members / 2);
-    let behind = first + members / 2;
-    let before = workers / 2;
-    let after = workers - before;
-    let (one, other) = join(
+    let few = members - last_share(members, workers);
+    let (front, back) = party.split_at(few);
+    let behind = first + few;
+    let after = last_share(workers, members);
+    let before = workers - after;
+    let (others, listing) = join(
         rt,
-        || -> Result<Vec<Journey>, AllocError>
-            requires { IsSync R.row × AreMembers world.now (label_in labels.now) first front.now
-                × ForSome to (λ room. IsTrue (is_room world.now room)) }
-            ensures { IfOk result (λ js.
-                AllZip (λ t j. IsJourney world.entry.now to t.player j) front.entry.now js.items) }
-        { journeys_by(rt, alloc, world, front, labels, first, to, before) },
-        || -> Result<Vec<Journey>, AllocError>
+        || -> Result<Listing, AllocError>
             requires { IsSync R.row × AreMembers world.now (label_in labels.now) behind back.now
-                × ForSome to (λ room. IsTrue (is_room world.now room)) }
-            ensures { IfOk result (λ js.
-                AllZip (λ t j. IsJourney world.entry.now to t.player j) back.entry.now js.items) }
-        { journeys_by(rt, alloc, world, back, labels, behind, to, after) },
+                × ForSome to (λ room. IsTrue (is_room world.now room)) × AreBounded (label_in labels.now) }
+            ensures { IfOk result
+                (IsListing world.entry.now (label_in labels.entry.now) behind to back.entry.now) }
+        { listing_by(rt, alloc, world, back, labels, behind, to, after) },
+        || -> Result<Listing, AllocError>
+            requires { IsSync R.row × AreMembers world.now (label_in labels.now) first front.now
+                × ForSome to (λ room. IsTrue (is_room world.now room)) × AreBounded (label_in labels.now) }
+            ensures { IfOk result
+                (IsListing world.entry.now (label_in labels.entry.now) first to front.entry.now) }
+        { listing_by(rt, alloc, world, front, labels, first, to, before) },
     );
-    let mut journeys = one?;
-    let mut others = other?;
-    journeys.append(&mut others)?;
-    Ok(journeys)
+    let mut listing = listing?;
+    let mut others = others?;
+    listing.journeys.append(&mut others.journeys)?;
+    listing.accounts.append(&mut others.accounts)?;
+    Ok(listing)
 }

@@ -2,6 +2,7 @@
 
 ghost use Rattle.std.specs.Prelude.{◌≡◌, ◌<◌, ℕ, All, IfSome, IfNone, IsTrue, length, map};
 ghost use Rattle.mud_world.specs.State.{is_room};
+ghost use Rattle.mud_world.specs.Sound.{IsSound};
 ghost use Rattle.mud_roads.specs.Walks.{HasLeast};
 ghost use Rattle.mud_roads.specs.Open.{IsTraveller, goer};
 ghost use Rattle.mud_cert.specs.Valid.{IsPlace};
@@ -59,6 +60,7 @@ pub(crate) fn meeting_place(world: &World, party: &[Traveller], labels: &Labels)
     requires travellers { All (IsTraveller world.now) party.now }
     requires some { 0 < length party.now }
     requires least { AreLeast world.now party.now (label_in labels.now) }
+    ensures sound { IsSound world.now }
     ensures place { IsPlace (HasLeast 1) (map (goer world.now) party.now) result }
     ensures room { IfSome result (λ p. IsTrue (is_room world.now p.room)) }
     ensures greatest { IfSome result (λ p. IsGreatest (λ m. label_in labels.now m p.room) (length party.now) p.cost) }

@@ -10,7 +10,7 @@ use crate::answer::Answer;
 use crate::ask::{meet_by, route_by, travellers_of};
 use crate::lister::Crew;
 use mud_roads::Traveller;
-use mud_search::{Gate, labels};
+use mud_search::{Gate, labels, last_share};
 use mud_world::World;
 use std::alloc::{AllocError, Global};
 use std::slice;
@@ -65,7 +65,8 @@ pub fn meet<R: Threads + Wait + Sync, G: Gate + Sync>(
     meet_by(&crew, alloc, world, version, travellers.as_slice(), &labels)
 }
 
-// The travellers who are these players: of their halves apart, if there are two and two workers.
+// The travellers who are these players: the last of them apart, by the last workers, as long as there
+// are two players and two workers. So the caller's thread starts them all.
 fn travellers_by<R: Threads + Sync>(
     rt: &R,
     alloc: Global,
@@ -80,22 +81,22 @@ fn travellers_by<R: Threads + Sync>(
     if members < 2 || workers < 2 {
         return travellers_of(alloc, world, party);
     }
-    let (front, back) = party.split_at(members / 2);
-    let before = workers / 2;
-    let after = workers - before;
-    let (one, other) = join(
+    let (front, back) = party.split_at(members - last_share(members, workers));
+    let after = last_share(workers, members);
+    let before = workers - after;
+    let (others, travellers) = join(
         rt,
-        || -> Result<Vec<Traveller>, AllocError>
-            requires { IsSync R.row × All (λ p. IsTrue (is_player world.now p)) front.now }
-            ensures { IfOk result (λ ts. AreTravellers world.entry.now front.entry.now ts.items) }
-        { travellers_by(rt, alloc, world, front, before) },
         || -> Result<Vec<Traveller>, AllocError>
             requires { IsSync R.row × All (λ p. IsTrue (is_player world.now p)) back.now }
             ensures { IfOk result (λ ts. AreTravellers world.entry.now back.entry.now ts.items) }
         { travellers_by(rt, alloc, world, back, after) },
+        || -> Result<Vec<Traveller>, AllocError>
+            requires { IsSync R.row × All (λ p. IsTrue (is_player world.now p)) front.now }
+            ensures { IfOk result (λ ts. AreTravellers world.entry.now front.entry.now ts.items) }
+        { travellers_by(rt, alloc, world, front, before) },
     );
-    let mut travellers = one?;
-    let mut others = other?;
+    let mut travellers = travellers?;
+    let mut others = others?;
     travellers.append(&mut others)?;
     Ok(travellers)
 }

@@ -1,8 +1,9 @@
-use Rattle.std.proofs.Common.{ℕ, ◌+◌, ◌<◌, List, length, get_or, sym, ◌∙◌, ap, subst}
+use Rattle.std.proofs.Common.{ℕ, ◌+◌, ◌<◌, List, Option, length, get_or, sym, ◌∙◌, ap, subst}
 use Rattle.std.specs.Prelude.{All}
 use Rattle.std.proofs.lemmas.List.{length_push}
 use Rattle.std.proofs.lemmas.List.Elements.{All-push}
 use Rattle.mud_cert.specs.Certificate.{Account, IsAccount}
+use Rattle.mud_roads.specs.declared.label.Label.{Label}
 use Rattle.mud_search.specs.Least.{label_in}
 use Rattle.mud_guide.specs.Journeys.{Journey}
 use Rattle.mud_guide.specs.Listings.{IsListed}
@@ -12,7 +13,7 @@ use Rattle.mud_guide.proofs.accounts.accounts_of.Goals as goal
 
 pub loop-member-preserved : goal.loop-member-preserved
 loop-member-preserved c =
-    let labels = label_in c.args.labels.now in
+    let labels : ℕ → ℕ → Option Label = λ n. label_in c.args.labels.now (c.args.first + n) in
     let js = c.args.journeys.now in
     let es = c.loop-member.accounts.items in
     let m = c.loop-member.member in

@@ -1,4 +1,4 @@
-use Rattle.std.proofs.Common.{◌≡◌, ℕ, ◌<◌, length}
+use Rattle.std.proofs.Common.{◌≡◌, ℕ, ◌+◌, ◌<◌, length}
 use Rattle.std.specs.Prelude.{All, slice_index_or}
 use Rattle.mud_cert.specs.Certificate.{Account, IsAccount}
 use Rattle.mud_search.specs.Least.{label_in}
@@ -10,6 +10,6 @@ abbrev pub invariant-loop-member : goal.invariant-loop-member
 invariant-loop-member l = record {
   long : length l.accounts.items ≡ l.member;
   each : (m : ℕ) (j : Journey) (a : Account) → m < length l.accounts.items
-      → IsListed (label_in l.labels m) l.next (slice_index_or l.journeys m j) (slice_index_or l.accounts.items m a);
+      → IsListed (label_in l.labels (l.first + m)) l.next (slice_index_or l.journeys m j) (slice_index_or l.accounts.items m a);
   limits : All IsAccount l.accounts.items;
 }

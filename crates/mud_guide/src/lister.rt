@@ -125,9 +125,9 @@ fn listing_by<R: Threads + Sync>(
     if members < 2 || workers < 2 {
         return listing_of(alloc, world, party, labels, first, to);
     }
-    let few = members - last_share(members, workers);
-    let (front, back) = party.split_at(few);
-    let behind = first + few;
+    let ahead = members - last_share(members, workers);
+    let (front, back) = party.split_at(ahead);
+    let behind = first + ahead;
     let after = last_share(workers, members);
     let before = workers - after;
     let (others, listing) = join(

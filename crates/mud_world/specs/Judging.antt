@@ -1,5 +1,6 @@
 -- How the answers of a level are made from those of no level. Private clauses alone cite this file.
-use Rattle.std.specs.Prelude.{◌≡◌, ℕ, Bool, true, false, List, [], ◌∷◌, length, slice_index_or, slice_set, is_none, nat_eq}
+use Rattle.std.specs.Prelude.{◌≡◌, ℕ, Bool, true, false, List, [], ◌∷◌, length, slice_index_or, slice_set, is_none}
+use Rattle.std.specs.Prelude.{nat_eq}
 use Rattle.std.specs.List.{list_any}
 use Rattle.mud_world.specs.State.{State, has, key_of}
 

@@ -1,0 +1,81 @@
+"""Sessions: the lines of a player, and all that a script answers. The checker accepts each proof among the answers."""
+import os
+import re
+import subprocess
+from concurrent.futures import ThreadPoolExecutor
+
+from harness import inputs
+from harness.parts import part
+from harness.programs import TOP, program
+from harness.proofs import refused
+
+PROOF = re.compile(rb"^\[[0-9]+\] proof\n(.*?^end\n)", re.MULTILINE | re.DOTALL)
+HISTORY = re.compile(rb"^\[[0-9]+\] history\n(.*?^end [0-9]+\n)", re.MULTILINE | re.DOTALL)
+DIALOGUE = "tests/dialogues/two-players.talk"
+
+
+def answer(command, text):
+    """The status of a program, and what it prints when it reads a text."""
+    done = subprocess.run(command, input=text, stdout=subprocess.PIPE, stderr=subprocess.DEVNULL, cwd=TOP)
+    return done.returncode, done.stdout
+
+
+def difference(printed, wanted):
+    """The first line in which a text differs from the wanted one; nothing where they are the same."""
+    if printed == wanted:
+        return ""
+    lines, others = printed.split(b"\n"), wanted.split(b"\n")
+    same = len(os.path.commonprefix([lines, others]))
+    line, other = ([*some, None][same] for some in (lines, others))
+    return f"line {same + 1} is {line}, and not {other}"
+
+
+def misanswered(command, one):
+    """How what a program answers to an input differs from what is wanted; nothing where it doesn't."""
+    status, printed = answer([*command, *one.words], one.text)
+    return f"the status is {status}" if status != 0 else difference(printed, one.wanted())
+
+
+def count_each(count, why_not, tests):
+    """Counts tests, each a name and what is tried; one passes where `why_not` gives no reason. Several run at once."""
+    names, tried = zip(*tests)
+    with ThreadPoolExecutor(os.cpu_count()) as threads:
+        for name, why in zip(names, threads.map(why_not, tried)):
+            count(name, not why, why)
+
+
+def named(found):
+    """Inputs with their names: their paths, as seen from the top of the repository."""
+    return [(os.path.relpath(one.path, TOP), one) for one in found]
+
+
+def without_returns(text):
+    """Lines that end with CR LF, with LF only, as in the texts that the checker reads."""
+    return text.replace(b"\r", b"")
+
+
+def rejected(one):
+    """What the checker says of the proofs of a session that it doesn't accept; nothing where it accepts all.
+
+    The session is played without `quit`, and asks for the history at its end.
+    """
+    lines = [line for line in one.text.removesuffix(b"\n").split(b"\n") if line != b"quit"]
+    asked = b"\n".join([*lines, b"@history\n"])
+    _, printed = answer([program("mud_serve"), "script", *one.words], asked)
+    printed = without_returns(printed)
+    proofs = PROOF.findall(printed)
+    return "; ".join(refused(HISTORY.findall(printed)[-1], proofs)) if proofs else "no proof is printed"
+
+
+@part("sessions", "the lines of each session are answered as is written beside them")
+def play_sessions(count):
+    script = [program("mud_serve"), "script"]
+    count_each(count, lambda one: misanswered(script, one), named(inputs.sessions()))
+    shown, played = (inputs.read(f"{TOP}/{path}") for path in ("examples/two-players.talk", DIALOGUE))
+    count("examples/two-players.talk", shown == played, f"it isn't {DIALOGUE}, which is played")
+
+
+@part("proofs", "the checker accepts each proof that a session prints, by the history at its end")
+def check_proofs(count):
+    proving = [one for one in inputs.sessions() if PROOF.search(without_returns(one.wanted()))]
+    count_each(count, rejected, named(proving))

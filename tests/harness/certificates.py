@@ -62,7 +62,7 @@ class Table:
             self.texts[heading] = self.text(lines)
         else:
             *lines, (mark, verdict) = lines
-            need(mark == "= ", f"{heading} has no verdict")
+            need(mark == "= " and kind_of(verdict) in STATUS, f"{heading} has no verdict")
             self.cases[heading] = Case(b"".join(self.text(lines)), verdict)
 
     def text(self, lines):
@@ -75,7 +75,10 @@ class Table:
 
     def lines_of(self, spelled):
         """The line that is spelled so, or the lines of the text with this name."""
-        return self.texts[spelled] if spelled.startswith("[") else [line_of(spelled)]
+        if not spelled.startswith("["):
+            return [line_of(spelled)]
+        need(spelled in self.texts, f"there is no {spelled} further up")
+        return self.texts[spelled]
 
 
 def need(holds, why):
@@ -119,6 +122,7 @@ def unseen(braced):
     if re.fullmatch("[0-9A-F]{2}", braced):
         return chr(int(braced, 16))
     times, _, repeated = braced.partition(" ")
+    need(times.isdigit(), f"{{{braced}}} stands for nothing")
     return int(times) * repeated
 
 
@@ -133,24 +137,33 @@ def cases_of(path):
 
 
 def given(table, heading):
-    """What the checker reads in a case: `given("free-exits", "a way of one free exit")`."""
+    """What the checker reads in a case: `given("free-exits", "by one exit")`."""
     return cases_of(FOLDER / f"{table}.rows")[heading].given
+
+
+def kind_of(verdict):
+    """The first word of a verdict, which tells its status."""
+    return verdict.split(":")[0]
 
 
 def misjudged(case):
     """How the checker's line or status differs from the verdict; nothing where they don't."""
     status, printed = answer([program("mud_check")], case.given)
-    if status != STATUS[case.verdict.split(":")[0]]:
+    if status != STATUS[kind_of(case.verdict)]:
         return f"the status is {status}, and the line {printed}"
     return difference(printed, f"{case.verdict}\n".encode())
 
 
+def named_cases(count):
+    """The cases of all tables, each with its name. A table that is faulty counts as one test that failed."""
+    for path in sorted(FOLDER.glob("*.rows")):
+        try:
+            yield from ((f"{path.stem}: {heading}", case) for heading, case in cases_of(path).items())
+        except Faulty as fault:
+            count(f"{path.stem}.rows", False, fault)
+
+
 @part("certificates", "the checker accepts, refuses or can't read a history with a certificate, as the tables say")
 def judge_certificates(count):
-    cases = [
-        (f"{path.stem}: {heading}", case)
-        for path in sorted(FOLDER.glob("*.rows"))
-        for heading, case in cases_of(path).items()
-    ]
     example = Case(Path(TOP, "examples", "proof.txt").read_bytes(), "accepted")
-    count_each(count, misjudged, [*cases, ("examples/proof.txt", example)])
+    count_each(count, misjudged, [*named_cases(count), ("examples/proof.txt", example)])

@@ -1,0 +1,1 @@
+"""What tests/run runs: its parts, and what they share."""

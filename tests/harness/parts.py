@@ -1,0 +1,77 @@
+"""The parts of tests/run: each is a function with a name and a sentence, and counts its tests.
+
+    @part("prepositions", "each preposition is found in a line")
+    def prepositions(count):
+        count("with", found("put coin with lamp") == "with", "another word is found")
+
+A part on demand is run only where it is named. One that says which words it takes gets those after its name.
+"""
+import time
+from dataclasses import dataclass
+from typing import Callable
+
+PARTS = {}
+
+
+class Skipped(Exception):
+    """A part can't be run here, for this reason, and that is no fault."""
+
+
+@dataclass
+class Part:
+    """A function that counts tests, and what a reader is to know of it."""
+
+    name: str
+    sentence: str
+    run: Callable
+    on_demand: bool
+    words: str
+
+    def line(self):
+        """How `--list` shows it."""
+        name = f"{self.name} {self.words}".rstrip()
+        return f"{name:<28} {self.sentence}{' (on demand)' if self.on_demand else ''}"
+
+
+class Count:
+    """Counts tests: called with a test's name, whether it passed, and why not."""
+
+    def __init__(self):
+        self.passed = self.failed = 0
+
+    def __call__(self, name, passed, why=""):
+        if passed:
+            self.passed += 1
+        else:
+            self.failed += 1
+            print(f"FAILED: {name}: {why}" if why else f"FAILED: {name}", flush=True)
+
+    def __str__(self):
+        return f"{self.passed} passed, {self.failed} failed"
+
+
+def part(name, sentence, on_demand=False, words=""):
+    """Registers a function as a part of tests/run. `words` shows the words that it takes, if it takes some."""
+
+    def register(run):
+        if name in PARTS:
+            raise ValueError(f"two parts are named {name}")
+        PARTS[name] = Part(name, sentence, run, on_demand, words)
+        return run
+
+    return register
+
+
+def run_part(one, words, total):
+    """Runs a part and adds what it counts. Where it breaks off, that is one failed test."""
+    count, began = Count(), time.monotonic()
+    try:
+        one.run(count, *words)
+    except Skipped as reason:
+        print(f"{one.name}: skipped: {reason}", flush=True)
+        return
+    except Exception as error:
+        count(one.name, False, f"{type(error).__name__}: {error}")
+    total.passed += count.passed
+    total.failed += count.failed
+    print(f"{one.name}: {count} ({time.monotonic() - began:.0f} s)", flush=True)

@@ -29,8 +29,8 @@ class Part:
 
     def line(self):
         """How `--list` shows it."""
-        name = f"{self.name} {self.words}".rstrip()
-        return f"{name:<28} {self.sentence}{' (on demand)' if self.on_demand else ''}"
+        notes = ["on demand"] * self.on_demand + [f"words: {self.words}"] * bool(self.words)
+        return f"{self.name:<26} {self.sentence}" + (f" ({'; '.join(notes)})" if notes else "")
 
 
 class Count:

@@ -1,12 +1,11 @@
-#!/usr/bin/env python3
-"""huge-inputs: gives the programs inputs of a million bytes and more, which are made here, and
-compares what each answers. A million of one byte without a line end is answered within a second of
-processor time, and sixteen million bytes by a script within half of that memory. The status is 0
-where each answered rightly within its time and memory.
+"""Inputs of a million bytes and more, which are made here. A million of one byte without a line end is answered within
+a second of processor time, and sixteen million bytes by a script within half of that memory.
 """
 import resource
 import subprocess
-import sys
+
+from harness.parts import part
+from harness.programs import program
 
 SECONDS = 20
 FLOOD_SECONDS = 1
@@ -27,7 +26,7 @@ STAY = b"mud proof 1\nversion 65536\nmember #1 from #0\nlabels #0:0\nwalk nothin
 
 
 def history(count, end):
-    """A history of so many changes, with this at its end."""
+    """A history of `count` changes, with this at its end."""
     return b"mud history 2\n" + b"".join(b"%d 1 say #1 hi\n" % n for n in range(1, count + 1)) + end
 
 
@@ -44,7 +43,7 @@ ROWS = [
     ("a script of many lines", ["mud_serve", "script"], b"look\n" * 200_000, HALL * 200_000),
     ("as many changes as a history holds", ["mud_check"], history(65_536, b"end 65536\n") + STAY, b"accepted\n"),
     ("one change more", ["mud_check"], history(65_537, b"end 65537\n"), b"unreadable: history too long\n"),
-    ("a bad line behind them", ["mud_check"], history(65_536, b"x\n"), b"unreadable: history line 65538\n"),
+    ("a bad line after them", ["mud_check"], history(65_536, b"x\n"), b"unreadable: history line 65538\n"),
     ("a walk that sums up to 4,294,967,296", ["mud_check"], LIBRARY + ROUND, b"refused: walk cost of #1\n"),
     ("a text without a line end", ["mud_check"], b"m" * MILLION, b"unreadable: not a history\n"),
 ]
@@ -71,14 +70,22 @@ def floods():
         yield what, ["mud_check"], text, b"unreadable: not a history\n"
         yield what, ["mud_explain", "units"], text, b""
         yield what, ["mud_explain", "hall"], text, NOT_TEXT if byte == b"\xff" else b"not understood\n"
-        for word, right in zip(["words", "parse", "names", "key"], explained):
-            yield what, ["mud_explain", word], text, right
+        rights = zip(["words", "parse", "names", "key"], explained)
+        yield from ((what, ["mud_explain", word], text, right) for word, right in rights)
 
 
-def answer(program, words, text, memory=None):
+# What a script reads in constant memory; its input; its output.
+CONSTANT = [
+    ("a line", b"A" * (16 * MILLION), TOO_LONG),
+    ("refused options", b"\xff\xfc" * (8 * MILLION), b""),
+    ("a subnegotiation", b"\xff\xfa" + b"A" * (16 * MILLION), b""),
+]
+
+
+def answer(command, text, memory):
     """What a program answers, and the processor time that it takes; `memory` is the address space that it gets."""
     limit = None if memory is None else lambda: resource.setrlimit(resource.RLIMIT_AS, (memory, memory))
-    command = [f"crates/{program}/out/{program}", *words]
+    command = [program(command[0]), *command[1:]]
     before = resource.getrusage(resource.RUSAGE_CHILDREN)
     try:
         given = subprocess.run(command, input=text, stdout=subprocess.PIPE, timeout=SECONDS, preexec_fn=limit).stdout
@@ -88,30 +95,19 @@ def answer(program, words, text, memory=None):
     return given, after.ru_utime + after.ru_stime - before.ru_utime - before.ru_stime
 
 
-def is_wrong(what, command, text, right, seconds, memory=None):
-    """Whether an answer is wrong, or took too long; says so."""
-    given, took = answer(command[0], command[1:], text, memory)
+def why_wrong(command, text, right, seconds, memory=None):
+    """Why an answer is wrong, or came too late; nothing where it is right."""
+    given, took = answer(command, text, memory)
     if given != right:
-        print(f"huge-inputs: {what}, {command}: {given[:100]}, and not {right[:100]}", file=sys.stderr)
-    if took > seconds:
-        print(f"huge-inputs: {what}, {command}: {took} s", file=sys.stderr)
-    return given != right or took > seconds
+        return f"{given[:100]}, and not {right[:100]}"
+    return f"{took} s" if took > seconds else ""
 
 
-def main():
+@part("huge-inputs", "inputs of millions of bytes are answered, soon and in little memory")
+def huge_inputs(count):
+    trials = [(*row, SECONDS) for row in ROWS] + [(*row, FLOOD_SECONDS) for row in floods()]
     script = ["mud_serve", "script"]
-    trials = [(*row, SECONDS) for row in ROWS]
-    trials += [(*row, FLOOD_SECONDS) for row in floods()]
-    for what, text, right in [
-        ("a line in constant memory", b"A" * (16 * MILLION), TOO_LONG),
-        ("refused options in constant memory", b"\xff\xfc" * (8 * MILLION), b""),
-        ("a subnegotiation in constant memory", b"\xff\xfa" + b"A" * (16 * MILLION), b""),
-    ]:
-        trials.append((what, script, text, right, SECONDS, SCRIPT_MEMORY))
-    wrong = sum(is_wrong(*trial) for trial in trials)
-    print(f"{len(trials)} huge inputs, {wrong} answered wrongly")
-    return 1 if wrong else 0
-
-
-if __name__ == "__main__":
-    sys.exit(main())
+    trials += [(f"{what} in constant memory", script, *texts, SECONDS, SCRIPT_MEMORY) for what, *texts in CONSTANT]
+    for what, command, *rest in trials:
+        why = why_wrong(command, *rest)
+        count(f"huge inputs: {what}: {' '.join(command)}", not why, why)

@@ -1,8 +1,8 @@
-"""A plain world, written from docs/ alone: what the lines of a history make of it (docs/WORLD.md, docs/HISTORY.md),
-what a line of a player's comes to (docs/COMMANDS.md), the way (docs/ROADS.md), and what others hear.
+"""A plain world, written from docs/ only: what the lines of a history make of it (docs/WORLD.md, docs/HISTORY.md),
+what a player's line results in (docs/COMMANDS.md), the way (docs/ROADS.md), and what others hear.
 
 It serves to judge what a server answered, and is slow. It knows no `@rename`, `@recycle`, `@history`, and no ways to
-old rooms by `@dig`. A change is told as in a history, behind its version and desk.
+old rooms by `@dig`. A change is written as in a history, without its version and desk.
 """
 import heapq
 import re
@@ -36,7 +36,6 @@ PREPOSITIONS = [
 PHRASES = {tuple(phrase.split()): phrases[0] for phrases in PREPOSITIONS for phrase in phrases}
 NAME = re.compile(r"(?!#)[^\"\\,|&!?()]{1,60}")
 LAST = 8191
-FULL = "(history full)"
 
 
 class Refused(Exception):
@@ -102,7 +101,7 @@ def key_of(text, meant):
 
 
 def chain(tokens, meant):
-    """A chain of joins, grouped from the left, and the tokens behind it."""
+    """A chain of joins, grouped from the left, and the tokens after it."""
     key, tokens = unary(tokens, meant)
     while tokens and tokens[0] in ("&&", "||"):
         other, rest = unary(tokens[1:], meant)
@@ -292,7 +291,7 @@ class World:
             walk, room = [last, *walk], self.all[last].source
         return walk
 
-    def told_way(self, player, room):
+    def priced_way(self, player, room):
         """At what cost he gets there, and by which exits; None where there is no way."""
         labels, opened = self.labels(player)
         if room not in labels:
@@ -301,7 +300,7 @@ class World:
         return labels[room][0], walk
 
     def route(self, player, room):
-        start, way = self.all[player].place, self.told_way(player, room)
+        start, way = self.all[player].place, self.priced_way(player, room)
         end = "no way" if way is None else f"cost {way[0]} by {way[1]}"
         return [f"route #{start} to #{room} {end}"]
 
@@ -313,7 +312,7 @@ class World:
         if not rooms:
             return [first + " no meeting"]
         cost, room = min((max(it[room][0] for it in labels), room) for room in rooms)
-        ways = [(it, self.all[it].place, *self.told_way(it, room)) for it in party]
+        ways = [(it, self.all[it].place, *self.priced_way(it, room)) for it in party]
         members = [f"  #{it} from #{at} cost {own} by {by}" for it, at, own, by in ways]
         return [f"{first} at #{room} cost {cost}", *members]
 
@@ -456,7 +455,7 @@ def words_of(text):
 
 
 class Line:
-    """A line taken apart: its verb, what stands behind it, and round a preposition."""
+    """A line taken apart: its verb, what stands after it, and round a preposition."""
 
     def __init__(self, text):
         text = text.lstrip(" ")
@@ -479,7 +478,7 @@ class Line:
 
 
 class Decision:
-    """What a line of a player's, or of a guest's (None), comes to in a world: `change`, `become` or `asked` is set."""
+    """What a line of a player, or of a guest (None), results in: `change`, `become` or `asked` is set."""
 
     def __init__(self, world, player, text):
         self.world, self.player, self.line = world, player, Line(text)
@@ -684,7 +683,6 @@ class Decision:
         need(not self.line.words, 1)
         self.asked = ["bye"]
 
-
     def on_another(self):
         raise Unknown(self.line.text)
 
@@ -702,7 +700,7 @@ VERBS = {
 
 
 def decide(world, player, text):
-    """What a line comes to: its kind (`change`, `become`, `asked`, `refused`), and what goes with it."""
+    """What a line results in: its kind (`change`, `become`, `asked`, `refused`), and what goes with it."""
     try:
         decision = Decision(world, player, text)
     except Refused as refused:

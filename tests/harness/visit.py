@@ -1,8 +1,8 @@
-"""One session of a script's own with a server: what is sent and read is written down for the judge (judge.py)."""
+"""A visit to a server: one session, of which all that is sent and read is kept for the judge."""
 import time
 
-from judge import FULL, LACKING, Session
-from server import Client
+from harness.server import Client
+from harness.session import FULL, LACKING, Session
 
 SERVER_FULL = "(server full)"
 QUICK = 0.01
@@ -21,6 +21,7 @@ class Visit:
             self.client = Client(port)
 
     def read_line(self):
+        """The next line, which must come."""
         line = self.client.line()
         if line is None:
             raise ConnectionError("the end came too early")
@@ -37,9 +38,13 @@ class Visit:
                 return text
 
     def end(self):
-        """Leaves, and reads all that is left; comes to that also where memory is lacking."""
+        """Leaves, also where the server is out of memory at first, and reads all that is left."""
         while self.ask("quit") == LACKING:
             pass
+        self.read_rest()
+        self.client.close()
+
+    def read_rest(self):
+        """Reads up to the end."""
         while (line := self.client.line()) is not None:
             self.session.read.append(line.decode())
-        self.client.close()

@@ -1,8 +1,5 @@
-#!/usr/bin/env python3
-"""play-dialogue PROGRAM DIALOGUE FOLDER [WORD..]: starts `PROGRAM listen WORD..` on a free port of this machine, plays
-DIALOGUE with it, and compares all that its clients read and all that PROGRAM prints. What was printed is left in
-FOLDER as `history`, and the proofs that clients read as `proof.1`, `proof.2` and so on. The status is 0 where nothing
-differed.
+"""Dialogues: what several clients of one server send and read, and what the server prints at its end. The certificates
+that clients read are checked against the history that was printed.
 
 A dialogue has a step a line, which begins with the name of a client, any word:
 
@@ -13,19 +10,24 @@ A dialogue has a step a line, which begins with the name of a client, any word:
     Ann reads FF FC 03    reads these bytes
     Ann ends              reads the end of all that is sent to her
     Ann closes            closes her connection, with nothing left to read as far as that is known
-    listens WORD..        words for PROGRAM, before those of the command line; stands before all others
-    prints                PROGRAM ends with status 0; it has printed the lines behind this one, and no other
+    listens WORD..        words for `mud_serve listen`; stands before all others
+    prints                the server ends with status 0; it has printed the lines after this one, and no other
 
 Blank lines and lines that begin with `#` are none of the steps.
 """
 import os
 import re
-import sys
+import tempfile
 
-sys.dont_write_bytecode = True
-from server import Client, Server
+from harness.inputs import read, tests_file
+from harness.parts import part
+from harness.programs import program
+from harness.proofs import refused
+from harness.server import Client, Server
 
 PROOF = re.compile(rb"\[[0-9]+\] proof")
+# How many proofs are read in each dialogue.
+PROOFS = 2
 
 
 class Differs(Exception):
@@ -109,32 +111,41 @@ def steps_of(text):
     return " ".join(words).split(), [(at, [*parts, ""][:3]) for at, parts in lines], printed.encode()
 
 
-def keep(folder, history, proofs):
-    """Leaves what was printed and read as files."""
-    for name, text in [("history", history), *((f"proof.{at}", proof) for at, proof in enumerate(proofs, 1))]:
-        with open(os.path.join(folder, name), "wb") as file:
-            file.write(text)
-
-
-def main(program, dialogue, folder, *more):
-    with open(dialogue) as file:
-        words, steps, wanted = steps_of(file.read())
-    server = Server(program, [*words, *more])
+def play(dialogue, *more):
+    """Plays a dialogue, with more words for its server. Answers the history that was printed and the proofs that were
+    read; where something differs, that is raised with the number of the line."""
+    words, steps, wanted = steps_of(read(dialogue).decode())
+    server = Server(program("mud_serve"), [*words, *more])
     stage, at = Stage(server), 0
     try:
         for at, step in steps:
             stage.play(*step)
-        at = "the end"
-        history = stage.prints(wanted)
+        at = "at the end"
+        return stage.prints(wanted), stage.proofs
     except (Differs, OSError, KeyError) as error:
-        return f"play-dialogue: {dialogue}, {at}: {error!r}"
+        raise Differs(f"line {at}: {error!r}") from error
     finally:
         server.kill()
-    keep(folder, history, stage.proofs)
-    return 0
 
 
-if __name__ == "__main__":
-    if len(sys.argv) < 4:
-        sys.exit("play-dialogue PROGRAM DIALOGUE FOLDER [WORD..]")
-    sys.exit(main(*sys.argv[1:]))
+def count_dialogue(count, name, *more):
+    """Counts a dialogue and each proof that was read; answers the history, or nothing where the dialogue differs."""
+    try:
+        history, proofs = play(tests_file(f"dialogues/{name}.talk"), *more)
+    except Differs as error:
+        count(f"dialogues: {name}", False, error)
+        return None
+    faults = refused(history, proofs)
+    count(f"dialogues: {name}", True)
+    count(f"dialogues: {name}: {PROOFS} proofs", len(proofs) == PROOFS and not faults, faults or len(proofs))
+    return history
+
+
+@part("dialogues", "two people play at one server, and another server goes on from the history that it printed")
+def dialogues(count):
+    history = count_dialogue(count, "two-players")
+    with tempfile.TemporaryDirectory() as folder:
+        path = os.path.join(folder, "history")
+        with open(path, "wb") as file:
+            file.write(history or b"")
+        count_dialogue(count, "two-players-go-on", "--load", path)

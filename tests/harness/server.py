@@ -1,7 +1,4 @@
-"""What scripts share that play with `mud_serve listen`: a server on a free port of this machine, and its clients.
-
-Nothing here waits longer than SECONDS for one line, and nobody but this machine is spoken to.
-"""
+"""A server on a free port of this machine, and its clients. Nothing here waits longer than SECONDS for one line."""
 import os
 import socket
 import subprocess
@@ -23,7 +20,7 @@ class Server:
         self.port = int(first.removeprefix(b"listening on ")) if first.endswith(b"\n") else None
 
     def end(self, seconds=SECONDS):
-        """Waits until the program ends by itself; answers its status and what it printed behind its first line."""
+        """Waits until the program ends by itself; answers its status and what it printed after its first line."""
         try:
             printed, _ = self.process.communicate(timeout=seconds)
         finally:
@@ -34,6 +31,17 @@ class Server:
         """What it has written to standard error."""
         self.errors.seek(0)
         return self.errors.read()
+
+    def most_memory(self):
+        """The most memory that it has had, in bytes."""
+        with open(f"/proc/{self.process.pid}/status") as file:
+            return next(int(line.split()[1]) * 1024 for line in file if line.startswith("VmHWM"))
+
+    def __enter__(self):
+        return self
+
+    def __exit__(self, *_):
+        self.kill()
 
     def kill(self):
         """Ends the program, if it runs yet."""
@@ -76,7 +84,7 @@ class Client:
         return line
 
     def take(self, count):
-        """The next so many bytes, or fewer at the end."""
+        """The next `count` bytes, or fewer at the end."""
         while len(self.kept) < count and self.more():
             pass
         some, self.kept = self.kept[:count], self.kept[count:]

@@ -1,0 +1,154 @@
+"""Many clients play at once with one server, each at its pace. What each of them reads is judged by the history that
+was printed, and some of the certificates that they got are checked.
+
+Each client sends lines at random: it looks, talks, walks, digs, makes, gives, locks, asks the way. After each of
+them it leaves with a chance of one in a hundred, and comes again. With 64 clients, one more is sent away.
+"""
+import random
+import time
+from concurrent.futures import ThreadPoolExecutor
+
+from harness.judge import judge
+from harness.parts import part
+from harness.programs import program
+from harness.proofs import refused
+from harness.server import Client, Server
+from harness.visit import SERVER_FULL, Visit
+
+NAMES = [f"{first}{last}" for first in ("An", "Bo", "Ce", "Da", "El", "Fy", "Ga", "Hu") for last in "nbcdefgh"]
+THINGS = ["lamp", "brass key", "red ball", "red box", "chest", "bag"]
+WAYS = ["north", "south", "east", "west", "up", "down"]
+PLACES = ["Library", "Vault", "Attic", "Garden", "Long Hall"]
+LONGEST = 20
+BAD = ["xyzzy", "take", "put lamp", "drop #999999999", "route", "proof look", "@lock me with (", "go #1"]
+# How many proofs are checked, how many clients a server takes, how many faults are shown.
+PROOFS, MOST, SHOWN_FAULTS = 100, 64, 5
+
+
+class Talker:
+    """A player by name, who gives lines at random and guesses the numbers of objects."""
+
+    def __init__(self, seed):
+        self.random = random.Random(seed)
+        self.one = self.random.choice
+        self.name = NAMES[seed % len(NAMES)]
+        self.names = NAMES[: seed + 2]
+
+    def number(self):
+        return f"#{self.one([*range(40), self.random.randrange(400)])}"
+
+    def thing(self):
+        return self.one([*THINGS, self.number(), self.number(), "red", "b"])
+
+    def atom(self):
+        return self.one([self.number(), f"!{self.number()}", f"?{self.number()}", "me", "brass key"])
+
+    def key(self):
+        one, other = self.atom(), self.atom()
+        return self.one([one, f"{one} || me", f"{one} && {other}", f"!({one} || {other})"])
+
+    def line(self):
+        """A line at random: of the kinds, each as often as the number before it says."""
+        one, way, thing, number, name = self.one, self.one(WAYS), self.thing(), self.number(), self.one(self.names)
+        kinds = [
+            (12, ["look", "l", f"look {thing}", "look at me", f"look {number}", "look here"]),
+            (12, ["say Hello there.", '"What is that?', ":waves.", "emote sits down.", "say"]),
+            (20, [way, way, f"go {way}", f"go {number}"]),
+            (6, ["inventory", "i", "@version"]),
+            (8, [f"@create {one(THINGS)}"]),
+            (10, [f"take {thing}", f"drop {thing}", f"get {thing}", f"put {thing} in {self.thing()}"]),
+            (8, [f"give {thing} to {name}"]),
+            (2, [f"@dig {way}|{one(WAYS)} to {one(PLACES)}"]),
+            (4, [f"@lock {thing} with {self.key()}", f"@lock {way} with {self.key()}", f"@unlock {number}"]),
+            (3, [f"@key {thing}", f"@cost {way} is {self.random.randrange(12)}", "@cost here is 3"]),
+            (8, [f"route to {number}", f"route to {one(PLACES)}", f"proof route to {number}"]),
+            (4, [f"meet me, {name}", f"proof meet me, {name}, {one(self.names)}"]),
+            (1, [f"connect {name}"]),
+            (2, BAD),
+        ]
+        return one(self.random.choices([lines for _, lines in kinds], [weight for weight, _ in kinds])[0])
+
+
+class Crowd:
+    """Clients of one server, and the sessions that they had."""
+
+    def __init__(self, server, seconds, pace):
+        self.server, self.pace = server, pace
+        self.until = time.monotonic() + seconds
+        self.sessions = []
+
+    def visit(self, talker):
+        """One visit: a player comes, sends lines, and leaves by chance or where the time is over."""
+        visit = Visit(self.server.port)
+        self.sessions.append(visit.session)
+        visit.ask(f"connect {talker.name}")
+        is_leaving = False
+        while not is_leaving:
+            time.sleep(talker.random.expovariate(self.pace))
+            visit.ask(talker.line())
+            is_leaving = time.monotonic() > self.until or talker.random.random() < 0.01
+        visit.end()
+
+    def play(self, seed):
+        """One client after the other, until the time is over; what went wrong, as texts."""
+        talker = Talker(seed)
+        try:
+            while time.monotonic() < self.until:
+                self.visit(talker)
+        except (OSError, ValueError) as error:
+            return [f"client {seed}: {error!r}"]
+        return []
+
+    def play_all(self, count):
+        """All clients at once. Answers what went wrong, as texts, and whether one more client is sent away."""
+        with ThreadPoolExecutor(count) as threads:
+            playing = [threads.submit(self.play, seed) for seed in range(count)]
+            time.sleep(min(1, (self.until - time.monotonic()) / 2))
+            is_full = count < MOST or self.is_sent_away()
+            return [fault for one in playing for fault in one.result()], is_full
+
+    def is_sent_away(self):
+        """Whether one more client than there may be hears that."""
+        client = Client(self.server.port)
+        return client.line() == SERVER_FULL.encode() and client.line() is None
+
+    def finish(self, total):
+        """Makes sessions until the server ends by itself; answers its status and what it printed."""
+        for _ in range(len(self.sessions), total):
+            Visit(self.server.port).end()
+        return self.server.end(60)
+
+
+def judge_crowd(count, sessions, history):
+    """Counts what the sessions read, and the certificates that they got."""
+    faults, proofs = judge(history, sessions)
+    some = random.Random(0).sample(proofs, min(PROOFS, len(proofs)))
+    wrong = refused(history.encode(), [proof.encode() for proof in some])
+    answers, changes = sum(len(session.sent) for session in sessions), len(history.splitlines()) - 2
+    print(f"crowd: {len(sessions)} sessions, {answers} answers, {changes} changes, {len(some)} of {len(proofs)} proofs "
+          f"checked, {len(faults)} faults", flush=True)
+    count("crowd: what all sessions read", not faults, "; ".join(faults[:SHOWN_FAULTS]))
+    count("crowd: the proofs that they read", not wrong, wrong[:SHOWN_FAULTS])
+
+
+def count_crowd(count, clients, seconds, pace):
+    """Has a crowd play, and counts how it went."""
+    total = clients * LONGEST
+    with Server(program("mud_serve"), ["--total", str(total)]) as server:
+        crowd = Crowd(server, seconds, pace)
+        faults, is_full = crowd.play_all(clients)
+        status, printed = crowd.finish(total)
+    count("crowd: all clients are served", not faults, "; ".join(faults[:SHOWN_FAULTS]))
+    count("crowd: one more client is sent away", is_full)
+    count("crowd: the server ends with status 0", status == 0, status)
+    judge_crowd(count, crowd.sessions, printed.decode())
+
+
+@part("crowd", "clients play at once, and what each reads is judged", words="[CLIENTS [SECONDS [LINES_A_SECOND]]]")
+def small_crowd(count, clients="16", seconds="5", pace="20"):
+    count_crowd(count, int(clients), float(seconds), float(pace))
+
+
+@part("big-crowd", "the crowd of as many clients as a server takes, for a minute", on_demand=True)
+def big_crowd(count):
+    count_crowd(count, MOST, 60, 20)

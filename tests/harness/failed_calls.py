@@ -1,0 +1,86 @@
+"""Each call by which a program reads or writes fails in turn. A run must give all that is given where no call fails, or
+a front of that and what its program says:
+
+mud_serve, mud_explain    `PROGRAM: read fault` or `PROGRAM: write fault`, as the call was, and status 3; where it is a
+                          file of `--load` that can't be read, `PROGRAM: cannot load: file`
+mud_check                 `unreadable: file ` and the name of what it read, and nothing else; a front of its line, where
+                          it wrote; status 2
+
+Where each call moves one byte, all must be given.
+"""
+import subprocess
+
+from harness import runs
+from harness.inputs import tests_file
+from harness.parts import part
+from harness.preload import library
+from harness.programs import program
+from harness.trial import Trial, shown, tell
+
+ENDLESS_SECONDS = 60
+
+
+class FailedCalls(Trial):
+    """A trial whose calls are those that read or write."""
+
+    def __init__(self, run):
+        super().__init__(run, "fail_ends")
+
+    def says(self, kind):
+        """How the program may answer where a call of this kind fails: its status, and its texts after a front."""
+        name, words = self.run.program, self.run.words
+        if name == "mud_check":
+            unread = [(b"unreadable: file %s\n" % it.encode(), b"") for it in words or ["-"]]
+            return 2, unread if kind == "read" else [(b"", b"")]
+        texts = [f"{kind} fault", *(["cannot load: file"] if kind == "read" and "--load" in words else [])]
+        return 3, [(b"", f"{name}: {text}\n".encode()) for text in texts]
+
+    def is_right(self, given, _):
+        """Whether a call failed, and this is how the program answers that."""
+        kind = self.failed_kind()
+        if given == self.whole:
+            return kind != "none"
+        status, texts = self.says(kind)
+        for output, errors in texts if kind != "none" else []:
+            front = given[1].removesuffix(output)
+            if given == (status, front + output, errors) and self.whole[1].startswith(front):
+                return front == b"" or output == b""
+        return False
+
+
+def failed_in_turn(count, run):
+    """Each call of a run, and then one byte by each call."""
+    trial = FailedCalls(run)
+    felt, faults = trial.in_turn(trial.is_right)
+    by_bytes = trial.given(MOVED_BYTES=1)
+    if by_bytes != trial.whole:
+        faults.append(shown("byte by byte", by_bytes))
+    if not felt:
+        faults.append("no failed call is felt")
+    tell(count, "failed calls", trial, felt, faults)
+
+
+def read_endlessly():
+    """The status and the errors of a script that gets a line end from each read, and reads as often as it may."""
+    environment = {"LD_PRELOAD": library("fail_ends"), "MOVED_BYTES": "1"}
+    with subprocess.Popen(["yes", ""], stdout=subprocess.PIPE) as lines:
+        how = {"stdin": lines.stdout, "capture_output": True, "timeout": ENDLESS_SECONDS, "env": environment}
+        ran = subprocess.run([program("mud_serve"), "script"], check=False, **how)
+        lines.stdout.close()
+        lines.terminate()
+    return ran.returncode, ran.stdout + ran.stderr
+
+
+@part("failed-calls", "each call that reads or writes fails in turn, or moves one byte")
+def failed_calls(count):
+    hall = runs.hall("two-desks", "--load", tests_file("halls/ten.history"))
+    for run in [*runs.few_scripts(), runs.check(*runs.FREE_EXITS), hall]:
+        failed_in_turn(count, run)
+    given = read_endlessly()
+    count("failed calls: too many reads", given == (3, b"mud_serve: too many reads\n"), given)
+
+
+@part("failed-calls-everywhere", "failed-calls over all small inputs", on_demand=True)
+def failed_calls_everywhere(count):
+    for run in runs.small_runs():
+        failed_in_turn(count, run)

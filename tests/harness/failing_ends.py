@@ -1,0 +1,128 @@
+"""The programs get input that can't be read, a full disk, and command lines and files that are not what they should be.
+Each must end with its words and its status.
+"""
+import os
+import subprocess
+import tempfile
+
+from harness.inputs import read, tests_file
+from harness.parts import part
+from harness.programs import program
+from harness.runs import LIBRARY, history_and_proof
+
+ANY = object()
+FULL_DISK = "/dev/full"
+BAD_WORDS = {
+    "mud_serve": [
+        "", "wait", "script --capacity 0", "script --capacity 65537", "script --workers 9", "script more", "--help",
+    ],
+    "mud_explain": [
+        "", "word", "key more", "hall more", "hall --capacity 0", "hall --capacity 65537", "hall --load", "--help",
+    ],
+    "mud_check": ["one", "one two three", "--help"],
+}
+
+
+class Ends:
+    """Counts commands, each by the status, the output and the errors with which it ends."""
+
+    def __init__(self, count, folder):
+        self.count, self.folder = count, folder
+
+    def file(self, name, text):
+        """The path of a file that holds this."""
+        path = f"{self.folder}/{name}"
+        with open(path, "wb") as file:
+            file.write(text)
+        return path
+
+    def given(self, name, words, source, target):
+        """What a program gives that reads from one file, and writes to another where there is one."""
+        reading = os.open(source, os.O_RDONLY)
+        writing = subprocess.PIPE if target is None else os.open(target, os.O_WRONLY)
+        how = {"stdin": reading, "stdout": writing, "stderr": subprocess.PIPE, "text": True}
+        ran = subprocess.run([program(name), *words], check=False, **how)
+        os.close(reading)
+        if target is not None:
+            os.close(writing)
+        return ran.returncode, ran.stdout or "", ran.stderr
+
+    def wants(self, status, output, errors, name, words=(), source="/dev/null", target=None):
+        """Counts a command. `ANY` errors are any text but none."""
+        given = self.given(name, words, source, target)
+        is_right = given[:2] == (status, output) and (given[2] != "" if errors is ANY else given[2] == errors)
+        named = [*words, f"<{source}", *([f">{target}"] if target else [])]
+        self.count(f"failing ends: {' '.join([name, *named])}", is_right, given)
+
+    def wants_fault(self, fault, name, words, source="/", target=None):
+        """Counts a command that reads or writes what can't be read or written."""
+        self.wants(3, "", f"{name}: {fault} fault\n", name, words, source, target)
+
+    def cannot_load(self, fault, file, *words):
+        """A hall that does not go on from a file; it does not even read its steps."""
+        said = f"mud_explain: cannot load: {fault}\n"
+        self.wants(3, "", said, "mud_explain", ["hall", "--load", file, *words], source="/")
+
+
+def ten():
+    """The path of a history that a hall can go on from."""
+    return tests_file("halls/ten.history")
+
+
+def try_unreadable_input(ends):
+    ends.wants_fault("read", "mud_serve", ["script"])
+    ends.wants_fault("read", "mud_explain", ["words"])
+    ends.wants_fault("read", "mud_explain", ["hall", "--load", ten()])
+    ends.wants(2, "unreadable: file -\n", "", "mud_check", source="/")
+
+
+def try_full_disk(ends):
+    look, whole = ends.file("look", b"look\n"), ends.file("whole", b"".join(history_and_proof(*LIBRARY)))
+    ends.wants_fault("write", "mud_serve", ["script"], look, FULL_DISK)
+    ends.wants_fault("write", "mud_explain", ["words"], look, FULL_DISK)
+    ends.wants_fault("write", "mud_explain", ["hall"], tests_file("halls/full.in"), FULL_DISK)
+    ends.wants(2, "", "", "mud_check", [], whole, FULL_DISK)
+
+
+def try_bad_words(ends):
+    for name, words in ((name, words) for name, rows in BAD_WORDS.items() for words in rows):
+        ends.wants(2, "", ANY, name, words.split())
+
+
+def try_files_to_check(ends):
+    history, proof = history_and_proof(*LIBRARY)
+    past, longer = ends.file("history", history), ends.file("longer", history + b"x")
+    proof, none = ends.file("proof", proof), f"{ends.folder}/none"
+    ends.wants(0, "accepted\n", "", "mud_check", [past, proof])
+    ends.wants(2, f"unreadable: file {none}\n", "", "mud_check", [past, none])
+    ends.wants(2, f"unreadable: file {none}\n", "", "mud_check", [none, proof])
+    ends.wants(2, "unreadable: history line 4\n", "", "mud_check", [longer, proof])
+
+
+def try_files_to_load(ends):
+    whole = read(ten())
+    lines = whole.splitlines(keepends=True)
+    wrong_exit = whole.replace(b"\n4 1 walk #1 #5\n", b"\n4 1 walk #1 #7\n")
+    longer = ends.file("longer", history_and_proof(*LIBRARY)[0] + b"x")
+    ends.cannot_load("file", f"{ends.folder}/none")
+    ends.cannot_load("file", "/")
+    ends.cannot_load("not a history", "/dev/null")
+    ends.cannot_load("not a history", ends.file("returns", b"mud history 1\r\nend 0\n"))
+    ends.cannot_load("history line 2", ends.file("return", b"mud history 1\nend 0\r\n"))
+    ends.cannot_load("not a history", ends.file("cut", b"mud history 1"))
+    ends.cannot_load("history line 4", longer)
+    ends.cannot_load("over capacity", ten(), "--capacity", "16")
+    ends.cannot_load("history line 15", ends.file("skipping", b"".join(lines[:14] + lines[15:])))
+    ends.cannot_load("history without end", ends.file("endless", b"".join(lines[:-1])))
+    ends.cannot_load("history change 4", ends.file("wrong", wrong_exit), "--capacity", "3")
+
+
+@part("failing-ends", "unreadable input, a full disk, bad words and bad files end programs with their words")
+def failing_ends(count):
+    with tempfile.TemporaryDirectory() as folder:
+        ends = Ends(count, folder)
+        try_unreadable_input(ends)
+        try_full_disk(ends)
+        try_bad_words(ends)
+        try_files_to_check(ends)
+        try_files_to_load(ends)

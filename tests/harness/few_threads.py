@@ -1,0 +1,28 @@
+"""Each thread that a program asks for can't be started, in turn: it only, or it and all after it. Each run must give
+what is given where all threads can be started.
+"""
+from harness.inputs import session
+from harness.parts import part
+from harness.runs import script, small_sessions
+from harness.trial import Trial, tell
+
+WORKERS = ("--workers", "8")
+
+
+def kept_in_turn(count, one):
+    """Each thread of a session with eight workers."""
+    trial = Trial(script(one, *WORKERS), "fail_threads")
+    felt, faults = trial.in_turn(lambda given, _: given == trial.whole, ("FAILED_FROM", "FAILED_CALL"))
+    tell(count, "few threads", trial, felt, faults)
+
+
+@part("few-threads", "workers that can't be started change no answer")
+def few_threads(count):
+    for name in ("meetings-by-eight", "lowest-exit-backward-by-eight"):
+        kept_in_turn(count, session(name))
+
+
+@part("few-threads-everywhere", "few-threads over all small sessions", on_demand=True)
+def few_threads_everywhere(count):
+    for one in small_sessions():
+        kept_in_turn(count, one)

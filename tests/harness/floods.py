@@ -1,0 +1,99 @@
+"""What clients of one server may send and leave unread without making it grow. One sends megabytes without a line end,
+one a subnegotiation without an end, some send lines, questions and requests without end and read nothing; meanwhile two
+play, and all that they read is judged. At last some ask in one piece for the history, over and over, and read nothing.
+The server may grow by BOUND for each of them, besides what the history takes; by ANSWER for each who asks for that.
+"""
+import time
+
+from harness.judge import judge
+from harness.parts import part
+from harness.programs import program
+from harness.server import Client, Server
+from harness.visit import Visit
+
+MEGABYTES = 4
+BOUND = 1_000_000
+CHANGES, HISTORY = 500, 2_000_000
+ASKERS, ANSWER = 4, 4 * CHANGES * 920
+# How a flood begins, and what is sent over and over.
+FLOODS = [
+    (b"", b"A"),
+    (b"\xff\xfa", b"A"),
+    (b"", b"look\r\n"),
+    (b"connect Wizard\r\n", b"look\r\n"),
+    (b"connect Wizard\r\n", b"proof route to here\r\n"),
+    (b"", b"\xff\xf6"),
+    (b"", b"\xff\xfd\x01"),
+    (b"connect Wizard\r\n", b"\xff\xf8\xff\xf7\x08 \t"),
+]
+
+
+def flood(client, begin, again):
+    """Sends megabytes, or as much as is taken, and reads nothing; whether it may still be there."""
+    client.give(begin)
+    piece = again * (65_536 // len(again))
+    client.socket.settimeout(0.5)
+    try:
+        for _ in range(MEGABYTES * 16):
+            client.give(piece)
+    except TimeoutError:
+        pass
+    except ConnectionError:
+        return False
+    return True
+
+
+def play(one, other):
+    """Two talk, and nobody else reads."""
+    for at in range(CHANGES):
+        one.ask(f"say {at} {'x' * 890}")
+        if at % 10 == 0:
+            other.ask("look")
+
+
+def ask_for_all(clients):
+    """Each asks for the history as often as one piece has room for, and reads nothing."""
+    for client in clients:
+        client.line()
+        client.give(b"connect Wizard\r\n")
+        client.give(b"@history\r\n" * 455)
+    time.sleep(1)
+
+
+def flood_all(server):
+    """Has all of them flood the server, while two play. Answers what the server grew by, which floods were cut off, the
+    sessions of those who played, and how the server ended."""
+    one, other = Visit(server.port), Visit(server.port)
+    one.ask("connect Ann")
+    other.ask("connect Bob")
+    clients = [greeted(server.port) for _ in FLOODS]
+    before = server.most_memory()
+    cut_off = [again for client, (begin, again) in zip(clients, FLOODS) if not flood(client, begin, again)]
+    play(one, other)
+    askers = [Client(server.port) for _ in range(ASKERS)]
+    ask_for_all(askers)
+    grown = server.most_memory() - before
+    for client in clients + askers:
+        client.close()
+    one.end()
+    other.end()
+    return grown, cut_off, [one.session, other.session], server.end()
+
+
+def greeted(port):
+    """A client that has read its greeting."""
+    client = Client(port)
+    client.line()
+    return client
+
+
+@part("floods", "clients that send without end and read nothing don't make a server grow, nor keep it from others")
+def floods(count):
+    with Server(program("mud_serve"), ["--total", str(len(FLOODS) + ASKERS + 2)]) as server:
+        grown, cut_off, sessions, (status, printed) = flood_all(server)
+    faults = judge(printed.decode(), sessions)[0]
+    print(f"floods: {len(FLOODS) + ASKERS} of them: the server has grown by {grown} bytes", flush=True)
+    count("floods: what two others read meanwhile", not faults, faults[:3])
+    count("floods: none is cut off", not cut_off, cut_off)
+    count("floods: the server ends with status 0", status == 0, status)
+    count("floods: it stays small", grown <= HISTORY + BOUND * len(FLOODS) + ANSWER * ASKERS, f"{grown} bytes more")

@@ -21,13 +21,11 @@ import tempfile
 
 from harness.inputs import read, tests_file
 from harness.parts import part
-from harness.programs import program
+from harness.programs import TOP, program
 from harness.proofs import refused
 from harness.server import Client, Server
 
 PROOF = re.compile(rb"\[[0-9]+\] proof")
-# How many proofs are read in each dialogue.
-PROOFS = 2
 
 
 class Differs(Exception):
@@ -111,10 +109,10 @@ def steps_of(text):
     return " ".join(words).split(), [(at, [*parts, ""][:3]) for at, parts in lines], printed.encode()
 
 
-def play(dialogue, *more):
+def play(path, *more):
     """Plays a dialogue, with more words for its server. Answers the history that was printed and the proofs that were
     read; where something differs, that is raised with the number of the line."""
-    words, steps, wanted = steps_of(read(dialogue).decode())
+    words, steps, wanted = steps_of(read(path).decode())
     server = Server(program("mud_serve"), [*words, *more])
     stage, at = Stage(server), 0
     try:
@@ -128,24 +126,26 @@ def play(dialogue, *more):
         server.kill()
 
 
-def count_dialogue(count, name, *more):
-    """Counts a dialogue and each proof that was read; answers the history, or nothing where the dialogue differs."""
+def count_dialogue(count, path, *more):
+    """Counts a dialogue and the proofs that were read; answers the history, or None where the dialogue differs."""
+    name = os.path.relpath(path, TOP)
     try:
-        history, proofs = play(tests_file(f"dialogues/{name}.talk"), *more)
+        history, proofs = play(path, *more)
     except Differs as error:
-        count(f"dialogues: {name}", False, error)
+        count(name, False, error)
         return None
     faults = refused(history, proofs)
-    count(f"dialogues: {name}", True)
-    count(f"dialogues: {name}: {PROOFS} proofs", len(proofs) == PROOFS and not faults, faults or len(proofs))
+    count(name, True)
+    count(f"{name}: its proofs", proofs and not faults, "; ".join(faults) or "there is none")
     return history
 
 
 @part("dialogues", "two people play at one server, and another server goes on from the history that it printed")
 def dialogues(count):
-    history = count_dialogue(count, "two-players")
+    count_dialogue(count, f"{TOP}/examples/two-players.talk")
+    history = count_dialogue(count, tests_file("dialogues/two-players.talk"))
     with tempfile.TemporaryDirectory() as folder:
         path = os.path.join(folder, "history")
         with open(path, "wb") as file:
             file.write(history or b"")
-        count_dialogue(count, "two-players-go-on", "--load", path)
+        count_dialogue(count, tests_file("dialogues/two-players-go-on.talk"), "--load", path)

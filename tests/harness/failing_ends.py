@@ -70,6 +70,7 @@ def ten():
 
 
 def try_unreadable_input(ends):
+    """A folder as input."""
     ends.wants_fault("read", "mud_serve", ["script"])
     ends.wants_fault("read", "mud_explain", ["words"])
     ends.wants_fault("read", "mud_explain", ["hall", "--load", ten()])
@@ -77,6 +78,7 @@ def try_unreadable_input(ends):
 
 
 def try_full_disk(ends):
+    """An output that takes nothing."""
     look, whole = ends.file("look", b"look\n"), ends.file("whole", b"".join(history_and_proof(*LIBRARY)))
     ends.wants_fault("write", "mud_serve", ["script"], look, FULL_DISK)
     ends.wants_fault("write", "mud_explain", ["words"], look, FULL_DISK)
@@ -85,11 +87,13 @@ def try_full_disk(ends):
 
 
 def try_bad_words(ends):
+    """Words that are no command line of the program."""
     for name, words in ((name, words) for name, rows in BAD_WORDS.items() for words in rows):
         ends.wants(2, "", ANY, name, words.split())
 
 
 def try_files_to_check(ends):
+    """A history and a certificate in files of their own, and files that are not there or not whole."""
     history, proof = history_and_proof(*LIBRARY)
     past, longer = ends.file("history", history), ends.file("longer", history + b"x")
     proof, none = ends.file("proof", proof), f"{ends.folder}/none"
@@ -100,6 +104,7 @@ def try_files_to_check(ends):
 
 
 def try_files_to_load(ends):
+    """Files that a hall can't go on from."""
     whole = read(ten())
     lines = whole.splitlines(keepends=True)
     wrong_exit = whole.replace(b"\n4 1 walk #1 #5\n", b"\n4 1 walk #1 #7\n")

@@ -2,7 +2,9 @@
 one a subnegotiation without an end, some send lines, questions and requests without end and read nothing; meanwhile two
 play, and all that they read is judged. At last some ask in one piece for the history, over and over, and read nothing.
 The server may grow by BOUND for each of them, besides what the history takes; by ANSWER for each who asks for that.
+Then a server with `--idle 1` ends a session that is silent, and no other.
 """
+import contextlib
 import time
 
 from harness.judge import judge
@@ -87,8 +89,8 @@ def greeted(port):
     return client
 
 
-@part("floods", "clients that send without end and read nothing don't make a server grow, nor keep it from others")
-def floods(count):
+def count_floods(count):
+    """Counts what the floods do to the server and to others."""
     with Server(program("mud_serve"), ["--total", str(len(FLOODS) + ASKERS + 2)]) as server:
         grown, cut_off, sessions, (status, printed) = flood_all(server)
     faults = judge(printed.decode(), sessions)[0]
@@ -97,3 +99,33 @@ def floods(count):
     count("floods: none is cut off", not cut_off, cut_off)
     count("floods: the server ends with status 0", status == 0, status)
     count("floods: it stays small", grown <= HISTORY + BOUND * len(FLOODS) + ANSWER * ASKERS, f"{grown} bytes more")
+
+
+def silence(server):
+    """After how many seconds a silent session ended, while another was lively; None where it did not end."""
+    silent, lively = Visit(server.port), Visit(server.port)
+    began, ended = time.monotonic(), None
+    lively.ask("connect Ann")
+    silent.client.socket.settimeout(0.1)
+    while ended is None and time.monotonic() < began + 5:
+        lively.ask("@version")
+        with contextlib.suppress(TimeoutError):
+            if silent.client.line() is None:
+                ended = time.monotonic() - began
+    lively.end()
+    return ended
+
+
+def count_silence(count):
+    """Counts what `--idle` does to a session that is silent."""
+    with Server(program("mud_serve"), ["--total", "2", "--idle", "1"]) as server:
+        ended = silence(server)
+        status, _ = server.end()
+    count("floods: a silent session ends with --idle", ended is not None and ended > 0.8, f"after {ended} s")
+    count("floods: then the server ends with status 0", status == 0, status)
+
+
+@part("floods", "clients that send without end and read nothing, or are silent, cost a server little")
+def floods(count):
+    count_floods(count)
+    count_silence(count)

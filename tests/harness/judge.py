@@ -103,6 +103,10 @@ class Judge:
             self.judge_change(world, version + 1)
             world.apply(change)
         self.judge_answers(world, len(self.entries))
+        self.judge_rest()
+
+    def judge_rest(self):
+        """The answers in no world of the history."""
         for reply in (it for replies in self.answers.values() for it in replies):
             self.fault(reply.session, f"{reply.line!r} is answered at {reply.version}, beyond the history")
 
@@ -143,14 +147,18 @@ class Judge:
     def judge_notices(self, world, version, change):
         """Who heard of it."""
         reply = self.claims.get(version)
-        while self.to_come and self.to_come[-1][0] < version:
-            self.hearing.append(self.to_come.pop())
-        self.hearing = [span for span in self.hearing if version <= span[1]]
+        self.hearing = self.hearing_at(version)
         for _, _, player, reading in self.hearing:
             is_own = reply is not None and reply.session is reading
             wanted = None if is_own else world.heard(change, player)
             if reading.heard.get(version) != wanted:
                 self.fault(reading, f"of {version} it hears {reading.heard.get(version)!r}, and not {wanted!r}")
+
+    def hearing_at(self, version):
+        """Which sessions hear of this version: those that have a player before it, and still have that player at it."""
+        while self.to_come and self.to_come[-1][0] < version:
+            self.hearing.append(self.to_come.pop())
+        return [span for span in self.hearing if version <= span[1]]
 
     def is_of_a_broken(self, world, change):
         """Whether the change is that of a line whose answer was lost with its session; each is so once."""

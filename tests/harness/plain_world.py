@@ -266,17 +266,17 @@ class World:
 
     def labels(self, player):
         """The least cost and number of exits to each room that the player reaches."""
-        labels, waiting, opened = {}, [(0, 0, self.all[player].place)], {}
+        labels, waiting, opened = {}, [(0, 0, self.all[player].place)], []
         while waiting:
             cost, exits, room = heapq.heappop(waiting)
             if room in labels:
                 continue
             labels[room] = cost, exits
-            for number in self.all[room].leaving:
-                if opened.setdefault(number, self.is_open(number, player)):
-                    it = self.all[number]
-                    heapq.heappush(waiting, (cost + it.cost, exits + 1, it.to))
-        return labels, [number for number, is_open in opened.items() if is_open]
+            leaving = [number for number in self.all[room].leaving if self.is_open(number, player)]
+            opened += leaving
+            for it in (self.all[number] for number in leaving):
+                heapq.heappush(waiting, (cost + it.cost, exits + 1, it.to))
+        return labels, opened
 
     def way(self, player, room, labels, opened):
         """The canonical route, exit by exit."""
@@ -467,7 +467,10 @@ class Line:
         self.rest = text[first:].strip(" ")
         self.all = " ".join(self.words)
         self.direct, self.preposition, self.indirect = self.all, None, ""
-        low = [it.lower() for it in self.words]
+        self.find_preposition([it.lower() for it in self.words])
+
+    def find_preposition(self, low):
+        """Takes the words apart round the first preposition, and round the longest there."""
         for at in range(len(low)):
             found = [phrase for phrase in PHRASES if tuple(low[at : at + len(phrase)]) == phrase]
             if found:

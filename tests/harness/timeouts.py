@@ -3,7 +3,6 @@ sends a byte now and then does not. Without it, one that takes nothing of what i
 be written for a minute, while another reads a little now and then, and two talk. What lies between server and client
 may take a little more on the way, so that lasts up to three and a half minutes.
 """
-import contextlib
 import time
 from concurrent.futures import ThreadPoolExecutor
 
@@ -46,38 +45,15 @@ class Watched:
             self.began = time.monotonic()
 
 
-def silence(server):
-    """After how many seconds a silent session ended, while another was lively; None where it did not end."""
-    silent, lively = Visit(server.port), Visit(server.port)
-    began, ended = time.monotonic(), None
-    lively.ask("connect Ann")
-    silent.client.socket.settimeout(0.1)
-    while ended is None and time.monotonic() < began + 5:
-        lively.ask("@version")
-        with contextlib.suppress(TimeoutError):
-            if silent.client.line() is None:
-                ended = time.monotonic() - began
-    lively.end()
-    return ended
-
-
-@part("idle", "a server with `--idle 1` ends a session that is silent, and no other")
-def idle(count):
-    with Server(program("mud_serve"), ["--total", "2", "--idle", "1"]) as server:
-        ended = silence(server)
-        status, _ = server.end()
-    count("idle: the silent session ends", ended is not None and ended > 0.8, f"after {ended} s")
-    count("idle: the server ends with status 0", status == 0, status)
-
-
-@part("idle-bytes", "a session that sends a byte now and then is not silent", on_demand=True)
-def idle_bytes(count):
+def count_silent(count):
+    """Counts what `--idle` does to one who is silent, and to one who sends a byte now and then."""
     with Server(program("mud_serve"), ["--idle", str(IDLE)]) as server:
         silent, slow = Watched(server), Watched(server)
         took = silent.after(3 * IDLE, lambda: slow.client.give(b"\xff\xf1"))
         is_alone = not slow.has_ended()
-    count("idle: the silent session ends", took is not None and IDLE - 0.5 < took < IDLE + 2, f"after {took} s")
-    count("idle: one that sends a byte now and then goes on", is_alone)
+    is_right = took is not None and IDLE - 0.5 < took < IDLE + 2
+    count("timeouts: with --idle the silent session ends", is_right, f"after {took} s")
+    count("timeouts: with --idle one that sends a byte now and then goes on", is_alone)
 
 
 class Stuck:
@@ -104,13 +80,19 @@ class Stuck:
         self.slow.client.take(40_000)
 
 
-@part("timeouts", "a session that takes nothing of what is answered ends after a minute, and no other", on_demand=True)
-def timeouts(count):
+def count_stuck(count):
+    """Counts what happens to one who takes nothing, and to one who reads now and then."""
     with Server(program("mud_serve")) as server:
         stuck = Stuck(server)
         stuck.fill()
         took = stuck.deaf.after(LATEST, stuck.talk)
         is_alone = not stuck.slow.has_ended()
-    print(f"timeouts: it ended after {took} s; the others had their answers within {max(stuck.waits)} s", flush=True)
+    print(f"timeouts: the longest wait of others was {max(stuck.waits)} s", flush=True)
     count("timeouts: the session that takes nothing ends", took is not None and MINUTE - 5 < took, f"after {took} s")
     count("timeouts: the one that reads now and then goes on", is_alone)
+
+
+@part("timeouts", "a session that is silent ends, and one that takes nothing of what is answered, and no other", True)
+def timeouts(count):
+    count_silent(count)
+    count_stuck(count)

@@ -11,7 +11,6 @@ from harness.parts import part
 from harness.programs import TOP
 
 FOLDER = f"{TOP}/tests/wrong-bodies"
-COPIED = ("HANDLES", "crates.txt")
 
 
 def edits():
@@ -44,9 +43,9 @@ def file_text(path):
 
 def copy(folder):
     """Copies the crates, and the wrong bodies to those of the gate."""
-    for name in COPIED:
-        shutil.copy2(f"{TOP}/{name}", folder)
-    shutil.copytree(f"{TOP}/crates", f"{folder}/crates", symlinks=False)
+    shutil.copy2(f"{TOP}/HANDLES", folder)
+    shutil.copy2(f"{TOP}/crates.txt", folder)
+    shutil.copytree(f"{TOP}/crates", f"{folder}/crates")
     for edit in edits():
         must_fail = f"{folder}/crates/{crate_of(edit)}/must-fail"
         os.makedirs(must_fail, exist_ok=True)

@@ -12,6 +12,6 @@ def explain_texts(count):
     count_each(count, lambda one: misanswered([program("mud_explain"), words[one.path]], one), texts)
 
 
-@part("halls", "what the desks of a hall do and are told is what is written beside it")
+@part("halls", "what the desks of a hall do and hear is what is written beside it")
 def play_halls(count):
     count_each(count, lambda one: misanswered([program("mud_explain"), "hall"], one), named(inputs.halls()))

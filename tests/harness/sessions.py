@@ -11,7 +11,6 @@ from harness.proofs import refused
 
 PROOF = re.compile(rb"^\[[0-9]+\] proof\n(.*?^end\n)", re.MULTILINE | re.DOTALL)
 HISTORY = re.compile(rb"^\[[0-9]+\] history\n(.*?^end [0-9]+\n)", re.MULTILINE | re.DOTALL)
-DIALOGUE = "tests/dialogues/two-players.talk"
 
 
 def answer(command, text):
@@ -71,8 +70,6 @@ def rejected(one):
 def play_sessions(count):
     script = [program("mud_serve"), "script"]
     count_each(count, lambda one: misanswered(script, one), named(inputs.sessions()))
-    shown, played = (inputs.read(f"{TOP}/{path}") for path in ("examples/two-players.talk", DIALOGUE))
-    count("examples/two-players.talk", shown == played, f"it isn't {DIALOGUE}, which is played")
 
 
 @part("proofs", "the checker accepts each proof that a session prints, by the history at its end")

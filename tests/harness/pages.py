@@ -1,0 +1,223 @@
+"""The pages of the repository, held against the repository: what they quote and name is there, README has room for a
+reader, no line is too long, and nothing is told on two pages."""
+import glob
+import os
+import re
+import subprocess
+
+from harness.parts import PARTS, part
+from harness.programs import TOP
+
+LONGEST_LINE, README_LINES = 120, 100
+# What is read by people: pages, scripts, sources and specs. Proofs aren't.
+WRITTEN = ["*.md", "docs/*", "run", ".ci/run", "tests/run", "tests/*/*.py", "tests/*/*.c", "bench/*", "bench/*/*"]
+WRITTEN += ["crates/*/src/**/*.rt", "crates/*/specs/**/*.antt"]
+QUOTE = re.compile(r"^<!-- (\S+) -->\n```\w*\n(.*?)\n```$", re.M | re.S)
+FOLDERS = r"(?:crates|docs|examples|tests|bench|\.ci)"
+PATH = re.compile(rf"(?<![\w./-]){FOLDERS}/[\w./*{{}},-]*[\w/*}}]|(?<![\w/-])[\w/-]+\.(?:md|rt|antt|py|edit)\b")
+SPAN = re.compile(r"`([^`]+)`")
+RULE = re.compile(r"^\|[ :|-]+$")
+PLACEHOLDER = re.compile(r"\b(?:NAME|CRATE|SUBJECT|DOUBT|PROGRAM)\b")
+LOGIC = re.compile(r"logic ([0-9a-f]{8,})")
+
+
+def text_of(path):
+    """The text of a file, by its path below the top."""
+    with open(f"{TOP}/{path}", encoding="utf-8") as file:
+        return file.read()
+
+
+def pages():
+    """README and all pages, by their paths."""
+    names = [*glob.glob(f"{TOP}/docs/*.md"), f"{TOP}/README.md", f"{TOP}/bench/README.md"]
+    return sorted(os.path.relpath(name, TOP) for name in names)
+
+
+def files(patterns):
+    """The files that match one of the patterns."""
+    found = {name for pattern in patterns for name in glob.glob(f"{TOP}/{pattern}", recursive=True)}
+    return sorted(os.path.relpath(name, TOP) for name in found if os.path.isfile(name))
+
+
+def rows_of(page):
+    """The rows of a page's tables, each as its cells. A head is none, nor is the rule below it."""
+    lines = page.split("\n")
+    rows = [line for line, below in zip(lines, [*lines[1:], ""]) if line.startswith("|") and not RULE.match(below)]
+    return [[cell.strip() for cell in re.split(r"(?<!\\)\|", row)[1:-1]] for row in rows if not RULE.match(row)]
+
+
+# ---- quotes
+
+
+def quotes_of(page):
+    """What a page quotes: the file and the text of each block behind a line that names a file."""
+    return QUOTE.findall(page)
+
+
+def stands_in(quote, path):
+    """Whether the text stands in the file, as whole lines."""
+    return os.path.isfile(f"{TOP}/{path}") and f"\n{quote}\n" in f"\n{text_of(path)}\n"
+
+
+def count_quotes(count, page):
+    """A test for each quote of a page."""
+    for path, quote in quotes_of(text_of(page)):
+        count(f"{page}: quote of {path}", stands_in(quote, path), f"it hasn't these lines: {quote.splitlines()[0]} ..")
+
+
+# ---- paths
+
+
+def expanded(path):
+    """The patterns that a path with braces stands for; a placeholder stands for any name."""
+    brace = re.search(r"\{([^{}]*)\}", path)
+    if not brace:
+        return [PLACEHOLDER.sub("*", path)]
+    return [it for one in brace[1].split(",") for it in expanded(path.replace(brace[0], one, 1))]
+
+
+def is_there(path, folder):
+    """Whether the repository has what a page of this folder names: from the top, from the page, in a crate, or by its
+    file's name only. What is built isn't looked for."""
+    if "/out" in path:
+        return True
+    if "/" not in path:
+        return os.path.exists(f"{TOP}/{path}") or bool(glob.glob(f"{TOP}/*/**/{path}", recursive=True))
+    tops = (TOP, f"{TOP}/{folder}", f"{TOP}/crates", f"{TOP}/crates/*")
+    return all(any(glob.glob(f"{top}/{one}") for top in tops) for one in expanded(path))
+
+
+def paths_in(page):
+    """The paths that a page names, outside of the blocks that it quotes."""
+    return sorted({path.rstrip(".") for path in PATH.findall(QUOTE.sub("", page))})
+
+
+def count_paths(count, page):
+    """A test of all paths that a page names."""
+    gone = [path for path in paths_in(text_of(page)) if not is_there(path, os.path.dirname(page))]
+    count(f"{page}: paths", not gone, f"not there: {' '.join(gone)}")
+
+
+# ---- what is proved
+
+
+def has_name(path, name):
+    """Whether a file has each word of a name."""
+    text = text_of(path)
+    return all(re.search(rf"(?<![\w]){re.escape(word)}(?![\w])", text) for word in name.split("::"))
+
+
+def carriers(cell, crate):
+    """The files of a cell, each with the names behind it: `src/a.rt` `one`, `two`; `src/b.rt` `three`. Names before
+    the first file are those of parts of tests/run."""
+    found = [("", [])]
+    for span in SPAN.findall(cell):
+        if "/" not in span:
+            found[-1][1].append(span)
+        else:
+            found.append((span if re.match(FOLDERS, span) else f"crates/{crate}/{span}", []))
+    return found
+
+
+def missing_of(path, names):
+    """Which of the names the file hasn't, or the file itself, where it isn't there."""
+    if not path:
+        return [name for name in names if name not in PARTS]
+    if not os.path.exists(f"{TOP}/{path}"):
+        return [path]
+    return [f"{path}: {name}" for name in names if not has_name(path, name)]
+
+
+def faults_of(cell, crate=""):
+    """What a cell names that isn't there."""
+    return [fault for path, names in carriers(cell, crate) for fault in missing_of(path, names)]
+
+
+def count_promises(count, page):
+    """A test for each row of five cells, which tells what carries a promise: one of the last three. A row without a
+    crate is of the one above."""
+    crate = ""
+    for cells in (cells for cells in rows_of(text_of(page)) if len(cells) == 5):
+        crate = (SPAN.findall(cells[0]) or [crate])[0]
+        carried = [cell for cell in cells[2:] if cell]
+        faults = [fault for cell in carried for fault in faults_of(cell, crate)]
+        faults += [] if len(carried) == 1 else [f"one way to carry it, but {len(carried)}"]
+        count(f"{page}: {crate}: {cells[1]}", not faults, f"not there: {', '.join(faults)}")
+
+
+def count_together(count, page):
+    """A test for each row of two cells, which names what shows something of several programs."""
+    for shown, where in (cells for cells in rows_of(text_of(page)) if len(cells) == 2):
+        faults = faults_of(where)
+        count(f"{page}: {shown}", not faults, f"not there: {', '.join(faults)}")
+
+
+def edit_of(kind, crate, name):
+    """The file of a wrong body."""
+    return f"crates/{crate}/must-fail/{name}.edit" if kind == "gate" else f"tests/wrong-bodies/{crate}/{name}.edit"
+
+
+def count_wrong_bodies(count, page):
+    """A test for each row of three cells, which names what refuses a mistake."""
+    for mistake, kind, where in (cells for cells in rows_of(text_of(page)) if len(cells) == 3):
+        is_edit = kind in ("gate", "on demand")
+        faults = missing_of(edit_of(kind, *SPAN.findall(where)), []) if is_edit else faults_of(where)
+        count(f"{page}: {mistake}", not faults, f"not there: {', '.join(faults)}")
+
+
+# ---- lines, the kit, readers, repeated rows
+
+
+def long_lines(path):
+    """The numbers of the lines that are too long; a row with the address of a page elsewhere may be."""
+    lines = enumerate(text_of(path).split("\n"), 1)
+    return [n for n, line in lines if len(line) > LONGEST_LINE and not (line.startswith("|") and "://" in line)]
+
+
+def count_lines(count):
+    """A test of README's length, and of the lines of each file that is read by people."""
+    lines = len(text_of("README.md").splitlines())
+    count("README.md: length", lines <= README_LINES, f"{lines} lines")
+    for path in files(WRITTEN):
+        found = long_lines(path)
+        count(f"{path}: lines", not found, f"too long: {' '.join(map(str, found[:9]))}")
+
+
+def count_kit(count):
+    """A test that README and the programs name the logic of the kit that is here."""
+    said = subprocess.run(["rt", "version"], capture_output=True, text=True).stdout
+    here = LOGIC.findall(said)
+    for path in ("README.md", "crates/mud_command/src/service.rt"):
+        named = LOGIC.findall(text_of(path))
+        count(f"{path}: kit", bool(here) and set(named) == set(here), f"names {named}; rt version says {said.strip()}")
+
+
+def count_readers(count):
+    """A test for each page that README's table of pages has a row for it."""
+    rows = " ".join(cells[-1] for cells in rows_of(text_of("README.md")))
+    for page in (page for page in pages() if page != "README.md"):
+        count(f"{page}: a reader", page in rows, "README's table doesn't name it")
+
+
+def count_repeated(count):
+    """A test that no row of a table stands on two pages."""
+    seen = {}
+    for page in pages():
+        for row in {" | ".join(cells) for cells in rows_of(text_of(page))}:
+            seen.setdefault(row, []).append(page)
+    for row, both in seen.items():
+        count(f"a row of {both[0]}", len(both) == 1, f"stands on {' and '.join(both)}: {row}")
+
+
+@part("pages", "pages name and quote what is there, fit the reader, and don't repeat each other")
+def check_pages(count):
+    count_lines(count)
+    count_kit(count)
+    count_readers(count)
+    count_repeated(count)
+    for page in pages():
+        count_paths(count, page)
+        count_quotes(count, page)
+    for tables in (count_promises, count_together, count_wrong_bodies):
+        tables(count, "docs/PROVED.md")
+    count("docs/THEOREM.md: quotes", bool(quotes_of(text_of("docs/THEOREM.md"))), "it quotes nothing")

@@ -10,12 +10,15 @@ from harness.programs import TOP
 
 LONGEST_LINE, README_LINES = 120, 100
 # What is read by people: pages, scripts, sources and specs. Proofs aren't.
-WRITTEN = ["*.md", "docs/*", "run", ".ci/run", "tests/run", "tests/*/*.py", "tests/*/*.c", "bench/*", "bench/*/*"]
-WRITTEN += ["crates/*/src/**/*.rt", "crates/*/specs/**/*.antt"]
+SOURCES = ["crates/*/src/**/*.rt", "crates/*/specs/**/*.antt"]
+SCRIPTS = ["run", ".ci/run", "tests/run", "tests/*/*.py", "tests/*/*.c", "bench/*", "bench/*/*"]
+WRITTEN = ["*.md", "*/*.md", "docs/*", *SCRIPTS, *SOURCES]
 QUOTE = re.compile(r"^<!-- (\S+) -->\n```\w*\n(.*?)\n```$", re.M | re.S)
 FOLDERS = r"(?:crates|docs|examples|tests|bench|\.ci)"
 PATH = re.compile(rf"(?<![\w./-]){FOLDERS}/[\w./*{{}},-]*[\w/*}}]|(?<![\w/-])[\w/-]+\.(?:md|rt|antt|py|edit)\b")
-SPAN = re.compile(r"`([^`]+)`")
+SPAN = re.compile(r"`([^`\n]+)`")
+WORD = re.compile(r"\w+")
+NAME = re.compile(r"[A-Za-z_]\w*(?:::\w+)*")
 RULE = re.compile(r"^\|[ :|-]+$")
 PLACEHOLDER = re.compile(r"\b(?:NAME|CRATE|SUBJECT|DOUBT|PROGRAM)\b")
 LOGIC = re.compile(r"logic ([0-9a-f]{8,})")
@@ -50,7 +53,7 @@ def rows_of(page):
 
 
 def quotes_of(page):
-    """What a page quotes: the file and the text of each block behind a line that names a file."""
+    """What a page quotes: the file and the text of each block after a line that names a file."""
     return QUOTE.findall(page)
 
 
@@ -60,9 +63,24 @@ def stands_in(quote, path):
 
 
 def count_quotes(count, page):
-    """A test for each quote of a page."""
-    for path, quote in quotes_of(text_of(page)):
+    """A test for each quote of a page, and one that no block of definitions lacks the name of its file."""
+    text = text_of(page)
+    count(f"{page}: quotes", "\n```antt\n" not in QUOTE.sub("", text), "a block of definitions doesn't name its file")
+    for path, quote in quotes_of(text):
         count(f"{page}: quote of {path}", stands_in(quote, path), f"it hasn't these lines: {quote.splitlines()[0]} ..")
+
+
+def clauses_in(page):
+    """What the tables of a page say of clauses: the first cell of each row of two cells, in pieces where it is cut."""
+    cells = [cells[0] for cells in rows_of(page) if len(cells) == 2]
+    return [piece for cell in cells for span in SPAN.findall(cell) for piece in span.split("..")]
+
+
+def count_clauses(count, page):
+    """A test that each clause in a page's tables stands in what the page quotes."""
+    quoted = "\n".join(quote for _, quote in quotes_of(text_of(page)))
+    missing = [piece for piece in clauses_in(text_of(page)) if piece not in quoted]
+    count(f"{page}: clauses", bool(quoted) and not missing, f"quoted nowhere: {', '.join(missing)}")
 
 
 # ---- paths
@@ -107,8 +125,20 @@ def has_name(path, name):
     return all(re.search(rf"(?<![\w]){re.escape(word)}(?![\w])", text) for word in name.split("::"))
 
 
+def known_names():
+    """All names of the crates' sources and definitions."""
+    return {name for path in files(SOURCES) for name in WORD.findall(text_of(path))}
+
+
+def count_names(count, page, known):
+    """A test that each name between backquotes on a page is one of the crates, or of a part of tests/run."""
+    spans = [span for span in SPAN.findall(QUOTE.sub("", text_of(page))) if NAME.fullmatch(span)]
+    missing = sorted({span for span in spans if span not in PARTS and not known.issuperset(WORD.findall(span))})
+    count(f"{page}: names", not missing, f"nowhere in the crates: {', '.join(missing)}")
+
+
 def carriers(cell, crate):
-    """The files of a cell, each with the names behind it: `src/a.rt` `one`, `two`; `src/b.rt` `three`. Names before
+    """The files of a cell, each with the names after it: `src/a.rt` `one`, `two`; `src/b.rt` `three`. Names before
     the first file are those of parts of tests/run."""
     found = [("", [])]
     for span in SPAN.findall(cell):
@@ -220,4 +250,7 @@ def check_pages(count):
         count_quotes(count, page)
     for tables in (count_promises, count_together, count_wrong_bodies):
         tables(count, "docs/PROVED.md")
-    count("docs/THEOREM.md: quotes", bool(quotes_of(text_of("docs/THEOREM.md"))), "it quotes nothing")
+    count_clauses(count, "docs/THEOREM.md")
+    known = known_names()
+    for page in ("docs/PROVED.md", "docs/THEOREM.md"):
+        count_names(count, page, known)

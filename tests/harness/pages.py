@@ -1,5 +1,5 @@
 """The pages of the repository, held against the repository: what they quote and name is there, README has room for a
-reader, no line is too long, and nothing is told on two pages."""
+reader, no line is too long, and no row of a table stands on two pages."""
 import glob
 import os
 import re

@@ -12,7 +12,8 @@ LONGEST_LINE, README_LINES = 120, 100
 # What is read by people: pages, scripts, sources and specs. Proofs aren't.
 SOURCES = ["crates/*/src/**/*.rt", "crates/*/specs/**/*.antt"]
 SCRIPTS = ["run", ".ci/run", "tests/run", "tests/*/*.py", "tests/*/*.c", "bench/*", "bench/*/*"]
-WRITTEN = ["*.md", "*/*.md", "docs/*", *SCRIPTS, *SOURCES]
+PAGES = ["*.md", "docs/*", "bench/*.md", "tests/*.md"]
+WRITTEN = [*PAGES, *SCRIPTS, *SOURCES]
 QUOTE = re.compile(r"^<!-- (\S+) -->\n```\w*\n(.*?)\n```$", re.M | re.S)
 FOLDERS = r"(?:crates|docs|examples|tests|bench|\.ci)"
 PATH = re.compile(rf"(?<![\w./-]){FOLDERS}/[\w./*{{}},-]*[\w/*}}]|(?<![\w/-])[\w/-]+\.(?:md|rt|antt|py|edit)\b")
@@ -30,16 +31,15 @@ def text_of(path):
         return file.read()
 
 
-def pages():
-    """README and all pages, by their paths."""
-    names = [*glob.glob(f"{TOP}/docs/*.md"), f"{TOP}/README.md", f"{TOP}/bench/README.md"]
-    return sorted(os.path.relpath(name, TOP) for name in names)
-
-
 def files(patterns):
     """The files that match one of the patterns."""
     found = {name for pattern in patterns for name in glob.glob(f"{TOP}/{pattern}", recursive=True)}
     return sorted(os.path.relpath(name, TOP) for name in found if os.path.isfile(name))
+
+
+def pages():
+    """README and all pages, by their paths."""
+    return files(PAGES)
 
 
 def rows_of(page):

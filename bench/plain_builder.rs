@@ -1,9 +1,9 @@
 //! The plain program that builders' lines are compared with: unproved Rust with a vector of objects.
 //!
-//! `plain_builder < SCRIPT` answers the Wizard's lines `@create NAME`, `@dig NAME to "NAME"` and `@lock #N with KEY`, in
-//! which all objects have a `#`, as `mud_serve script` does, byte for byte. It keeps what they change (objects, what each
-//! holds, which exits leave it, whose keys ask it) and the list of changes, and tests names, keys and how deep a key
-//! nests as `docs/KEYS.md` and `docs/WORLD.md` say, by going down through what a key asks. It knows no other line.
+//! `plain_builder < SCRIPT` answers the Wizard's lines `@create NAME`, `@dig NAME to "NAME"` and `@lock #N with KEY`,
+//! in which all objects have a `#`, as `mud_serve script` does, byte for byte. It keeps what they change (objects, what
+//! each holds, which exits leave it, whose keys ask it) and the list of changes, and tests names, keys and how deep a
+//! key nests as `docs/KEYS.md` and `docs/WORLD.md` say, by going down through what a key asks. It knows no other line.
 
 use std::fmt::Write as _;
 use std::io::{self, BufRead, Write as _};

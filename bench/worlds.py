@@ -118,7 +118,9 @@ for exit, _, _ in exits:
         say(f"@cost #{exit} is {dice(10001)}")
 for exit, _, room in exits:
     if dice(40) == 0:
-        say(f"@lock #{exit} with {['#1', f'#{lamp} || #1', '!#1', f'!(#{lamp} && #1)'][dice(4)] if way_of.get(room) != exit else f'#{lamp} || #1'}")
+        passing = f"#{lamp} || #1"
+        keys = ["#1", passing, "!#1", f"!(#{lamp} && #1)"]
+        say(f"@lock #{exit} with {keys[dice(4)] if way_of.get(room) != exit else passing}")
 for room in rooms[1:]:
     if dice(50) == 0:
         say(f"@lock #{room} with #{lamp} || #1")

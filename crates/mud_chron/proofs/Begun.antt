@@ -16,7 +16,7 @@ each-push format [] e h is = (is, tt)
 each-push format (f ∷ es) e h is = (h.0, each-push format es e h.1 is)
 
 -- one more line
-entries_text-push : (version : ℕ) (es : List Accepted) (e : Accepted)
+pub entries_text-push : (version : ℕ) (es : List Accepted) (e : Accepted)
     → entries_text version (es ++ e ∷ []) ≡ entries_text version es ++ entry_text (version + length es) e
 entries_text-push version [] e = let now : version ≡ version + 0 = omega arith in
     append-nil (entry_text version e) ∙ ap (λ v. entry_text v e) now

@@ -11,3 +11,4 @@ mod Telling
 mod Begun
 pub mod Spellable
 mod Returns
+pub mod Fronts

@@ -31,14 +31,14 @@ use Rattle.mud_chron.proofs.Again.{entry_again, line_shape, plain_line}
 -- ---- lines
 
 -- what is cut is cut one way
-fronts : (cut_of : Option (List ℕ × List ℕ)) (a b x y : List ℕ) → cut_of ≡ Some (a, x) → cut_of ≡ Some (b, y)
+pub fronts : (cut_of : Option (List ℕ × List ℕ)) (a b x y : List ℕ) → cut_of ≡ Some (a, x) → cut_of ≡ Some (b, y)
     → (a ≡ b) × (x ≡ y)
 fronts cut_of a b x y h k =
     let both : ◌≡◌ {A = Option (List ℕ × List ℕ)} (Some (a, x)) (Some (b, y)) = sym h ∙ k in
     let pair : ◌≡◌ {A = List ℕ × List ℕ} (a, x) (b, y) = cc in
     (ap (λ (p : List ℕ × List ℕ). p.0) pair, ap (λ (p : List ℕ × List ℕ). p.1) pair)
 
-line_cut : (line rest : List ℕ) → lacks 10 line ≡ true → cut 10 (line ++ line_feed ++ rest) ≡ Some (line, rest)
+pub line_cut : (line rest : List ℕ) → lacks 10 line ≡ true → cut 10 (line ++ line_feed ++ rest) ≡ Some (line, rest)
 line_cut line rest h = ap (cut 10) (append_assoc line line_feed rest) ∙ cut_again 10 line rest h
 
 plain_lacks : (b : ℕ) → plain b ≡ true → not (eqb b 10) ≡ true
@@ -47,7 +47,7 @@ plain_lacks b h = go (ltb b 32) (ltb 126 b) (eqb b 10) refl refl refl h
     go : (x y z : Bool) → ltb b 32 ≡ x → ltb 126 b ≡ y → eqb b 10 ≡ z → (not x && not y) ≡ true → not z ≡ true
     go x y z e f g p = grind arith
 
-entry_lacks : (version : ℕ) (e : Accepted) → version < 2 ^ 64 → IsEntry e → lacks 10 (entry_line version e) ≡ true
+pub entry_lacks : (version : ℕ) (e : Accepted) → version < 2 ^ 64 → IsEntry e → lacks 10 (entry_line version e) ≡ true
 entry_lacks version e fits is =
     implied plain (λ b. not (eqb b 10)) plain_lacks (entry_line version e) (plain_line version e fits is)
 
@@ -56,7 +56,7 @@ unfolding end_line
 end_lacks count fits = decimal_lacks 10 count (omega arith) fits
 
 -- the last line is no entry's
-end_apart : (count version : ℕ) (e : Accepted) → version < 2 ^ 64 → end_line count ≡ entry_line version e → ⊥
+pub end_apart : (count version : ℕ) (e : Accepted) → version < 2 ^ 64 → end_line count ≡ entry_line version e → ⊥
 unfolding end_line
 end_apart count version e fits same =
     let one : cut 32 (end_line count) ≡ Some (codes "end", decimal count) = refl in

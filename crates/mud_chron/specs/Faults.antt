@@ -20,12 +20,16 @@ pub record Begins (format : Format) (entries : List Accepted) (bytes rest : List
   pub allowed : AreEntriesOf format entries
   pub spelled : bytes ≡ begun_text format entries rest
 
--- the line is that of no entry which makes this version, and isn't the last line before it
+-- the line is that of no entry which makes the version
+abbrev pub IsNoEntryLine : Format → ℕ → List ℕ → Type 0
+IsNoEntryLine format version line = (e : Accepted) → IsEntryOf format e → line ≢ entry_line version e
+
+-- the line is neither that of a next entry after this many nor the last line after them
 pub record IsBad (format : Format) (count : ℕ) (line : List ℕ) : Type 0 where
-  pub no_entry : (e : Accepted) → IsEntryOf format e → line ≢ entry_line (count + 1) e
+  pub no_entry : IsNoEntryLine format (count + 1) line
   pub no_end : line ≢ end_line count
 
--- behind some entries stands a bad line, line n
+-- after the lines of some entries stands a bad line, line n
 pub record HasBadLine (bytes : List ℕ) (n : ℕ) : Type 0 where
   pub format : Format
   pub entries : List Accepted
@@ -36,7 +40,7 @@ pub record HasBadLine (bytes : List ℕ) (n : ℕ) : Type 0 where
   pub bad : IsBad format (length entries) line
   pub number : n ≡ length entries + 2
 
--- behind a whole text stands at least one byte more, in line n
+-- after a whole text stands at least one byte more, in line n
 pub record HasMore (bytes : List ℕ) (n : ℕ) : Type 0 where
   pub format : Format
   pub entries : List Accepted
@@ -45,7 +49,7 @@ pub record HasMore (bytes : List ℕ) (n : ℕ) : Type 0 where
   pub more : rest ≢ []
   pub number : n ≡ length entries + 3
 
--- behind 65,536 entries stands the line of one more
+-- after 65,536 entries stands the line of one more
 pub record IsTooLong (bytes : List ℕ) : Type 0 where
   pub format : Format
   pub entries : List Accepted
@@ -55,7 +59,7 @@ pub record IsTooLong (bytes : List ℕ) : Type 0 where
   pub full : length entries ≡ 65536
   pub has_line : IsEntryOf format next
 
--- behind some entries stands no further line feed
+-- after the lines of some entries stands no further line feed
 pub record HasNoEnd (bytes : List ℕ) : Type 0 where
   pub format : Format
   pub entries : List Accepted
@@ -63,7 +67,7 @@ pub record HasNoEnd (bytes : List ℕ) : Type 0 where
   pub begins : Begins format entries bytes rest
   pub unended : HasNoLineFeed rest
 
--- the fault of the bytes; want of memory is none of theirs, and bad changes are found by `replay` alone
+-- the fault of the bytes; out of memory is none of theirs, and only `replay` finds bad changes
 abbrev pub HasFault : List ℕ → ChronFault → Type 0
 HasFault bytes NotHistory = IsNoHistory bytes
 HasFault bytes (BadLine n) = HasBadLine bytes n ⊎ HasMore bytes n

@@ -1,5 +1,5 @@
 -- What the readers of a line find: for each field, where the text is spelled so, this is found. An entry that was
--- found counts only where the line is its spelling. Clauses of private parts alone cite this file.
+-- found counts only where the line is its spelling. Only clauses of private parts cite this file.
 use Rattle.std.specs.Prelude.{◌≡◌, ◌≢◌, ℕ, ◌+◌, ◌-◌, ◌*◌, ◌≤◌, nat_eq, nat_lt, nat_le, Bool, ◌&&◌, if◌then◌else◌, List}
 use Rattle.std.specs.Prelude.{[], ◌∷◌, ◌++◌}
 use Rattle.std.specs.Prelude.{codes, Option, None, Some, Result, Ok, Err, IsTrue}
@@ -51,7 +51,7 @@ word_of Recycle = codes "recycle"
 word_of Say = codes "say"
 word_of Emote = codes "emote"
 
--- the text behind the actor, where it is that of a deed of the verb, and that the deed is found
+-- where the text after the actor is that of a deed of the verb, that deed is found
 abbrev pub FindsDeed : Verb → List ℕ → Result Deed Unread → Type 0
 FindsDeed Dig text r =
     (target : Target) (doors : Option Doors) → IsInRange (deed.Dig target doors) → HasParts (deed.Dig target doors)
@@ -96,7 +96,7 @@ abbrev pub up_to : ℕ → Option ℕ → Option ℕ
 up_to most None = None
 up_to most (Some n) = if nat_le n most then Some n else None
 
--- the number of an object, up to 8,191, behind a sharp
+-- the number of an object, up to 8,191, after a sharp
 abbrev pub object_in : List ℕ → Option ℕ
 object_in [] = None
 object_in (b ∷ digits) = if nat_eq b 35 then up_to 8191 (digits_on 0 digits) else None

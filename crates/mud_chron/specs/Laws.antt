@@ -1,12 +1,25 @@
 -- Laws of the definitions: what they say together.
-use Rattle.std.specs.Prelude.{◌≡◌, ◌≢◌, ℕ, ◌≤◌, List, length}
+use Rattle.std.specs.Prelude.{◌≡◌, ◌≢◌, ◌⊎◌, ℕ, ◌≤◌, ◌<◌, List, [], ◌∷◌, ◌++◌, length, take, None}
 use Rattle.std.specs.List.{AllByRecursion}
+use mathlib.Core.List.{IsPrefix}
+use Rattle.mud_world.specs.State.{State}
+use Rattle.mud_world.specs.Sound.{IsSound}
+use Rattle.mud_world.specs.Legal.{refusal}
+use Rattle.mud_world.specs.declared.change.Change.{Change}
 use Rattle.mud_chron.specs.declared.fault.ChronFault.{ChronFault}
+use Rattle.mud_chron.specs.declared.format.Format.{Format}
 use Rattle.mud_chron.specs.declared.format.Format.TheVariants.{Two}
-use Rattle.mud_chron.specs.Entry.{Accepted, IsEntry}
-use Rattle.mud_chron.specs.Text.{history_text}
-use Rattle.mud_chron.specs.History.{SpellsHistory}
+use Rattle.mud_chron.specs.Entry.{Accepted, IsEntry, IsSpellable}
+use Rattle.mud_chron.specs.Text.{line_feed, head_line, history_text, journal_text}
+use Rattle.mud_chron.specs.History.{AreEntriesOf, SpellsHistory}
 use Rattle.mud_chron.specs.Faults.{HasFault}
+use Rattle.mud_chron.specs.Fronts.{Recovers, HasFrontFault}
+
+-- a change that is legal in a sound world can be spelled, whichever desk made it
+abbrev pub LegalIsSpellable : Type 0
+LegalIsSpellable =
+    (w : State) (desk : ℕ) (change : Change) → IsSound w → refusal w change ≡ None → 1 ≤ desk → desk ≤ 64
+    → IsSpellable desk change
 
 -- bytes are the text of one list of entries at most, whatever the format
 abbrev pub SpellsOne : Type 0
@@ -35,3 +48,38 @@ IsWrittenAgain =
     (entries others : List Accepted) → AllByRecursion IsEntry entries → length entries ≤ 65536
     → SpellsHistory (history_text Two entries) entries
     × (SpellsHistory (history_text Two entries) others → others ≡ entries)
+
+-- ---- journals
+
+-- of the first n bytes of a journal these are the entries whose lines are whole, and keep is the length of their text;
+-- where not even the first line is whole, nothing is kept
+pub record AreWhole (format : Format) (entries : List Accepted) (n : ℕ)
+    (found : Format) (got : List Accepted) (keep : ℕ) : Type 0 where
+  pub left_out : List Accepted
+  pub front : entries ≡ got ++ left_out
+  pub next : (e : Accepted) (rest : List Accepted) → left_out ≡ e ∷ rest
+      → n < length (journal_text format (got ++ e ∷ []))
+  pub fits : keep ≤ n
+  pub kept : (n < length (head_line format ++ line_feed)) × (got ≡ []) × (keep ≡ 0)
+      ⊎ (found ≡ format) × (keep ≡ length (journal_text format got))
+
+-- whatever byte a journal is cut at, what is found are all entries whose lines are whole, and no others
+abbrev pub RecoversWhole : Type 0
+RecoversWhole =
+    (format found : Format) (entries got : List Accepted) (n keep : ℕ) → AreEntriesOf format entries
+    → Recovers (take n (journal_text format entries)) found got keep → AreWhole format entries n found got keep
+
+-- bytes with a fault are no journal that was cut at a byte
+abbrev pub FaultsAreNoFronts : Type 0
+FaultsAreNoFronts =
+    (bytes : List ℕ) (fault : ChronFault) → HasFrontFault bytes fault
+    → (format : Format) (entries : List Accepted) (n : ℕ) → AreEntriesOf format entries
+    → bytes ≢ take n (journal_text format entries)
+
+-- a journal that was cut after the text of what was synced: all that was synced is found, and only what was written
+abbrev pub NothingIsLost : Type 0
+NothingIsLost =
+    (format found : Format) (synced after got : List Accepted) (n keep : ℕ) → AreEntriesOf format (synced ++ after)
+    → length (journal_text format synced) ≤ n
+    → Recovers (take n (journal_text format (synced ++ after))) found got keep
+    → IsPrefix synced got × IsPrefix got (synced ++ after)

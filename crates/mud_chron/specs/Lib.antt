@@ -7,3 +7,4 @@ pub mod Replay
 pub mod Laws
 pub mod Fields
 pub mod Lines
+pub mod Fronts

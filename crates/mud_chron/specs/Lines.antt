@@ -1,5 +1,5 @@
--- What one line is. Clauses of private parts alone cite this file.
-use Rattle.std.specs.Prelude.{◌≡◌, ◌≢◌, ℕ, ◌+◌, List}
+-- What one line is. Only clauses of private parts cite this file.
+use Rattle.std.specs.Prelude.{◌≡◌, ℕ, ◌+◌, List}
 use Rattle.mud_chron.specs.declared.format.Format.{Format}
 use Rattle.mud_chron.specs.declared.line.Line.{Line}
 use Rattle.mud_chron.specs.declared.line.Line.TheVariants.{Entry, End, Bad}
@@ -8,11 +8,7 @@ use Rattle.mud_chron.specs.Text.{entry_line, end_line}
 use Rattle.mud_chron.specs.History.{IsEntryOf}
 use Rattle.mud_chron.specs.Faults.{IsBad}
 
--- the line is that of no entry which makes the version
-abbrev pub IsNoEntryLine : Format → ℕ → List ℕ → Type 0
-IsNoEntryLine format version line = (e : Accepted) → IsEntryOf format e → line ≢ entry_line version e
-
--- what the line is behind so many entries
+-- what the line is after this many entries
 abbrev pub IsLine : Format → ℕ → List ℕ → Line → Type 0
 IsLine format count line (Entry e) = IsEntryOf format e × (line ≡ entry_line (count + 1) e)
 IsLine format count line End = line ≡ end_line count

@@ -14,7 +14,7 @@ use Rattle.mud_chron.specs.Places.{FailsAt}
 abbrev pub changes_of : List Accepted → List Change
 changes_of entries = map (λ e. e.change) entries
 
--- the world of the first so many entries, where a change that is not legal changes nothing
+-- the world of the first entries, this many, where a change that is not legal changes nothing
 abbrev pub world_at : List Accepted → ℕ → State
 world_at entries count = world_of (changes_of (take count entries))
 

@@ -82,13 +82,17 @@ abbrev pub head_line : Format → List ℕ
 head_line One = codes "mud history 1"
 head_line Two = codes "mud history 2"
 
--- the last line behind so many entries, without its end
+-- the last line after this many entries, without its end
 unfoldable pub end_line : ℕ → List ℕ
 end_line count = codes "end " ++ decimal count
 
--- the first line, the lines of the entries, and what stands behind them
+-- the text of a journal: the first line, and the lines of the entries
+abbrev pub journal_text : Format → List Accepted → List ℕ
+journal_text format entries = head_line format ++ line_feed ++ entries_text 1 entries
+
+-- the text of a journal of these entries, and what stands after it
 abbrev pub begun_text : Format → List Accepted → List ℕ → List ℕ
-begun_text format entries rest = head_line format ++ line_feed ++ entries_text 1 entries ++ rest
+begun_text format entries rest = journal_text format entries ++ rest
 
 -- the text of a history
 abbrev pub history_text : Format → List Accepted → List ℕ

@@ -9,9 +9,9 @@ use mud_world::Change;
 use std::alloc::{AllocError, Global};
 use std::marker::Model;
 
-/// One accepted change, and the desk that made it. The desk is 1 to 64, the numbers of objects are
-/// 0 to 8,191, a cost is 0 to 10,000, and a way to an old room has an exit (`IsEntry`): the text
-/// can spell it. A contract sees the desk and the change.
+/// One accepted change, and the desk that made it. The text can spell it: the desk is 1 to 64, the numbers of objects
+/// are 0 to 8,191, a cost is 0 to 10,000, and a way to an old room has an exit (`IsEntry`). A contract sees the desk
+/// and the change.
 #[derive(Drop)]
 pub struct Entry {
     desk: u32,
@@ -33,8 +33,8 @@ impl Model for Entry {
 }
 
 impl Entry {
-    /// The entry of a change that the desk made. A change that is legal in a world is spellable
-    /// for a desk from 1 to 64 (`legal_is_spellable` in proofs/Spellable.antt).
+    /// The entry of a change that the desk made. By the law [`legal_is_spellable`](crate::laws::legal_is_spellable) a
+    /// change that is legal in a sound world can be spelled for each desk from 1 to 64.
     pub fn new(desk: u32, change: Change) -> Entry
         requires { IsSpellable desk change }
         ensures { result ≡ record { desk = desk; change = change } }
@@ -59,7 +59,7 @@ impl Entry {
         &self.change
     }
 
-    /// An equal entry. Only want of memory is an error.
+    /// An equal entry. The only error is out of memory.
     pub fn copy(&self, alloc: Global) -> Result<Entry, AllocError>
         ensures { IfOk result (λ e. e ≡ self.now) }
     {

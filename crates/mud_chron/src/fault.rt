@@ -13,8 +13,7 @@ pub enum ChronFault {
     /// The bytes begin with neither first line.
     #[error("not a history")]
     NotHistory,
-    /// This line is neither that of the next entry nor the last line, or something stands behind
-    /// the last line.
+    /// This line is neither that of the next entry nor the last line, or something stands after the last line.
     #[error("line {0} is bad")]
     BadLine(usize),
     /// The change of this entry isn't legal where it stands. Only `replay` answers it.

@@ -36,7 +36,7 @@ impl From<AllocError> for Unread {
     }
 }
 
-// What stands in front of the first such sign, and what stands behind it.
+// What stands before the first such sign, and what stands after it.
 pub(crate) fn cut(text: &str, sign: char) -> Result<(&str, &str), Unread>
     requires { sign < 128 }
     ensures { (front rest : List ℕ) → Lacks sign front → text.now ≡ front ++ sign ∷ rest
@@ -96,7 +96,7 @@ pub(crate) fn object(text: &str) -> Result<u32, Unread>
     }
 }
 
-// The number of an object up to a space, and what stands behind it.
+// The number of an object up to a space, and what stands after it.
 pub(crate) fn object_before(text: &str) -> Result<(u32, &str), Unread>
     ensures found { (n : ℕ) (rest : List ℕ) → IsNumber n → text.now ≡ number_text n ++ codes " " ++ rest
         → Finds (λ p. (p.0 ≡ n) × (p.1.now ≡ rest)) result }

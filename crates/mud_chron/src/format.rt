@@ -1,10 +1,25 @@
 //! The formats of a history's text.
 
+ghost use Rattle.std.specs.Prelude.{◌≡◌, ◌++◌};
+ghost use Rattle.mud_chron.specs.Text.{line_feed, head_line};
+
 /// The two formats of a history's text (docs/HISTORY.md, "Formats").
-#[derive(Clone, Copy)]
-pub(crate) enum Format {
+#[derive(Clone, Copy, Debug, PartialEq, Eq)]
+pub enum Format {
     /// `mud history 1`, in which no exit costs 0.
     One,
     /// `mud history 2`, which is written.
     Two,
+}
+
+impl Format {
+    /// The first line of a text in this format, with its end.
+    pub fn first_line(self) -> &'static str
+        ensures { result.now ≡ head_line self ++ line_feed }
+    {
+        match self {
+            Format::One => "mud history 1\n",
+            Format::Two => "mud history 2\n",
+        }
+    }
 }

@@ -19,7 +19,7 @@ use mud_key::{Name, Names};
 use mud_world::{Change, Deed, Doors, Target};
 use std::alloc::Global;
 
-// The names between the first two quotes, and what stands behind them.
+// The names between the first two quotes, and what stands after them.
 fn quoted(alloc: Global, text: &str) -> Result<(Names, &str), Unread>
     ensures { (front : List ℕ) (names : List (List ℕ)) (rest : List ℕ) → Lacks 34 front → AreNames names
         → text.now ≡ front ++ quoted names ++ rest → Finds (λ p. (p.0 ≡ names) × (p.1.now ≡ rest)) result }
@@ -202,7 +202,7 @@ fn emote(alloc: Global, text: &str) -> Result<Deed, Unread>
     Ok(Deed::Emote(speech(alloc, text)?))
 }
 
-// The deed that stands behind a verb.
+// The deed that stands after a verb.
 fn deed_of(alloc: Global, verb: Verb, text: &str) -> Result<Deed, Unread>
     ensures found { FindsDeed verb text.now result }
     ensures range { IfOk result (λ d. IsInRange d) }

@@ -1,6 +1,12 @@
-//! What is known of the definitions alone: each contract is a law, and its function does nothing.
+//! What is known of the definitions: each contract is a law, and its function does nothing.
 
-ghost use Rattle.mud_chron.specs.Laws.{SpellsOne, HasOneFault, HasNoReturns, FaultsAreNoTexts, IsWrittenAgain};
+ghost use Rattle.mud_chron.specs.Laws.{LegalIsSpellable, SpellsOne, HasOneFault, HasNoReturns, FaultsAreNoTexts};
+ghost use Rattle.mud_chron.specs.Laws.{IsWrittenAgain, RecoversWhole, FaultsAreNoFronts, NothingIsLost};
+
+/// A change that is legal in a sound world can be spelled, whichever desk made it.
+pub fn legal_is_spellable()
+    ensures { LegalIsSpellable }
+{}
 
 /// Bytes are the text of one list of entries at most, whatever the format.
 pub fn one_history()
@@ -17,7 +23,7 @@ pub fn no_text_with_a_fault()
     ensures { FaultsAreNoTexts }
 {}
 
-/// No text of a history has a return: its lines end in a line feed alone.
+/// No text of a history has a return: each of its lines ends in a line feed only.
 pub fn no_returns()
     ensures { HasNoReturns }
 {}
@@ -25,4 +31,19 @@ pub fn no_returns()
 /// What is written spells the same entries again, and no others.
 pub fn again()
     ensures { IsWrittenAgain }
+{}
+
+/// Whatever byte a journal is cut at, all entries whose lines are whole are found, and no others.
+pub fn recovers_whole()
+    ensures { RecoversWhole }
+{}
+
+/// Bytes with a fault are no journal that was cut at a byte.
+pub fn no_front_with_a_fault()
+    ensures { FaultsAreNoFronts }
+{}
+
+/// Of a journal that was cut after the text of what was synced all that was synced is found.
+pub fn nothing_is_lost()
+    ensures { NothingIsLost }
 {}

@@ -7,6 +7,7 @@
 //! |---|---|
 //! | `write_entry`, `write_history` | append the line of an entry, or the text of a history |
 //! | `read_history` | the entries of a text, or the fault of bytes that are none |
+//! | `read_front` | the entries whose lines are whole in a journal that was cut at any byte |
 //! | `replay` | the world of the entries, or the first whose change isn't legal |
 //!
 //! ```text
@@ -14,9 +15,9 @@
 //! let world = replay(alloc, &entries)?;
 //! ```
 //!
-//! Proved is that what is written is the text, that exactly the texts are read, that the fault
-//! answered is that of the bytes, and that the world is that of the history. That bytes have one
-//! reading alone, or one fault, are the contracts of [`laws`].
+//! Proved is that what is written is the text, that exactly the texts are read, that the fault answered is that of the
+//! bytes, and that the world is that of the history. That bytes have one reading at most, or one fault, and that a
+//! journal loses nothing that was synced, are the contracts of [`laws`].
 #![tactic(auto)]
 
 mod copying;
@@ -24,6 +25,7 @@ mod entry;
 mod fault;
 mod fields;
 mod format;
+mod front;
 mod guess;
 pub mod laws;
 mod line;
@@ -35,6 +37,8 @@ mod writing;
 
 pub use entry::Entry;
 pub use fault::ChronFault;
-pub use reading::read_history;
+pub use format::Format;
+pub use front::{Front, read_front};
+pub use reading::{MOST_ENTRIES, read_history};
 pub use replaying::replay;
 pub use writing::{write_entry, write_history};

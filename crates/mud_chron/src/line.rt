@@ -5,7 +5,8 @@ ghost use Rattle.mud_chron.specs.Text.{entry_line, end_line};
 ghost use Rattle.mud_chron.specs.Entry.{Accepted, IsEntry};
 ghost use Rattle.mud_chron.specs.Fields.{Finds};
 ghost use Rattle.mud_chron.specs.History.{HasLine, IsEntryOf};
-ghost use Rattle.mud_chron.specs.Lines.{IsNoEntryLine, IsLine};
+ghost use Rattle.mud_chron.specs.Faults.{IsNoEntryLine};
+ghost use Rattle.mud_chron.specs.Lines.{IsLine};
 
 use crate::entry::Entry;
 use crate::fields::Unread;
@@ -15,7 +16,7 @@ use crate::writing::{push_end, push_line};
 use mud_world::Deed;
 use std::alloc::{AllocError, Global};
 
-/// What a line is behind some entries.
+/// What a line is after the lines of some entries.
 #[derive(Drop)]
 pub(crate) enum Line {
     /// That of the next entry.
@@ -92,7 +93,7 @@ fn entry_of(
     }
 }
 
-// Whether it is the last line behind so many entries.
+// Whether it is the last line after this many entries.
 fn is_end(alloc: Global, count: usize, line: &[u8]) -> Result<bool, AllocError>
     requires { count ≤ 65536 }
     ensures { IfOk result (λ b. (b ≡ true) ↔ (line.now ≡ end_line count)) }
@@ -102,7 +103,7 @@ fn is_end(alloc: Global, count: usize, line: &[u8]) -> Result<bool, AllocError>
     Ok(text.as_bytes() == line)
 }
 
-// What the line is behind so many entries.
+// What the line is after this many entries.
 pub(crate) fn line_of(
     alloc: Global,
     format: Format,

@@ -12,11 +12,11 @@ use crate::line::{Line, line_of};
 use memchr::memchr;
 use std::alloc::Global;
 
-// The most entries of a history.
-const MOST_ENTRIES: usize = 65_536;
+/// The most entries of a history.
+pub const MOST_ENTRIES: usize = 65_536;
 
-// The first line without its end, and what stands behind it.
-fn cut_line(bytes: &[u8]) -> Option<(&[u8], &[u8])>
+// The first line without its end, and what stands after it.
+pub(crate) fn cut_line(bytes: &[u8]) -> Option<(&[u8], &[u8])>
     ensures { MatchOption result (HasNoLineFeed bytes.now)
         (λ p. HasNoLineFeed p.0.now × (bytes.now ≡ p.0.now ++ line_feed ++ p.1.now)) }
 {
@@ -27,23 +27,23 @@ fn cut_line(bytes: &[u8]) -> Option<(&[u8], &[u8])>
     Some((line, &ended[1..]))
 }
 
-// The format by the first line, and what stands behind it.
-fn format_of(bytes: &[u8]) -> Option<(Format, &[u8])>
+// The format by the first line, and what stands after it.
+pub(crate) fn format_of(bytes: &[u8]) -> Option<(Format, &[u8])>
     ensures { MatchOption result (IsNoHistory bytes.now)
         (λ p. bytes.now ≡ head_line p.0 ++ line_feed ++ p.1.now) }
 {
-    if let Some(rest) = bytes.strip_prefix(b"mud history 2\n".as_slice()) {
+    if let Some(rest) = bytes.strip_prefix(Format::Two.first_line().as_bytes()) {
         return Some((Format::Two, rest));
     }
-    match bytes.strip_prefix(b"mud history 1\n".as_slice()) {
+    match bytes.strip_prefix(Format::One.first_line().as_bytes()) {
         Some(rest) => Some((Format::One, rest)),
         None => None,
     }
 }
 
-/// The entries of a history's text, in either format (docs/HISTORY.md). Exactly the texts of
-/// histories are read. Any other bytes have one fault, which is answered; only want of memory
-/// comes beside it. Its time is linear in the bytes.
+/// The entries of a history's text, in either format (docs/HISTORY.md). Exactly the texts of histories are read. Any
+/// other bytes have one fault, which is answered. Else the only error is out of memory. Its time is linear in the
+/// bytes.
 pub fn read_history(alloc: Global, bytes: &[u8]) -> Result<Vec<Entry>, ChronFault>
     ensures ok { IfOk result (λ entries. SpellsHistory bytes.now entries.items) }
     ensures err { IfErr result (λ fault. fault ≢ ChronFault.OutOfMemory → HasFault bytes.now fault) }

@@ -11,7 +11,7 @@ use std::alloc::Global;
 
 /// The world that the entries' changes make of the opening, one after the other. Where one of them
 /// isn't legal where it stands, the first such is `BadChange`, and there is no world
-/// (docs/HISTORY.md, "Replay"). Else only want of memory is an error.
+/// (docs/HISTORY.md, "Replay"). Else the only error is out of memory.
 pub fn replay(alloc: Global, entries: &[Entry]) -> Result<World, ChronFault>
     ensures legal { IfOk result (λ w. AreLegal (changes_of entries.now)) }
     ensures world { IfOk result (λ w. w ≡ world_of (changes_of entries.now)) }

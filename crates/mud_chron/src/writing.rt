@@ -10,6 +10,7 @@ ghost use Rattle.mud_chron.specs.Text.{listed, quoted, target_text, back_text, d
 ghost use Rattle.mud_chron.specs.Text.{entry_line, entry_text, entries_text, end_line, history_text};
 
 use crate::entry::Entry;
+use crate::format::Format;
 use itoa::Buffer;
 use mud_key::{Key, Name, Names, print};
 use mud_world::{Change, Deed, Doors, Speech, Target};
@@ -213,8 +214,8 @@ pub(crate) fn push_line(
 }
 
 /// Appends the line of the entry, with its end: the version that its change makes, 1 to 65,536,
-/// the desk, and the change (docs/HISTORY.md, "Entries"). Only want of memory is an error, and
-/// then the text is the one that was.
+/// the desk, and the change (docs/HISTORY.md, "Entries"). The only error is out of memory, and then the text is as it
+/// was.
 pub fn write_entry(
     alloc: Global,
     version: u32,
@@ -246,7 +247,7 @@ fn push_entries(alloc: Global, entries: &[Entry], out: &mut String) -> Result<()
     Ok(())
 }
 
-// The last line behind so many entries, without its end.
+// The last line after this many entries, without its end.
 #[tactic(auto, unfolding(crate::specs::Text::end_line))]
 pub(crate) fn push_end(out: &mut String, count: usize) -> Result<(), AllocError>
     requires { count ≤ 65536 }
@@ -257,13 +258,13 @@ pub(crate) fn push_end(out: &mut String, count: usize) -> Result<(), AllocError>
 }
 
 /// Appends the text of the history of these entries, at most 65,536, in format 2
-/// (docs/HISTORY.md). Only want of memory is an error, and then the text is the one that was.
+/// (docs/HISTORY.md). The only error is out of memory, and then the text is as it was.
 pub fn write_history(alloc: Global, entries: &[Entry], out: &mut String) -> Result<(), AllocError>
     requires { length entries.now ≤ 65536 }
     ensures ok { OnOk result (string_bytes out.new ≡ string_bytes out.old ++ history_text Two entries.now) }
     ensures err { OnErr result (string_bytes out.new ≡ string_bytes out.old) }
 {
-    let mut text = String::from_str(alloc, "mud history 2\n")?;
+    let mut text = String::from_str(alloc, Format::Two.first_line())?;
     push_entries(alloc, entries, &mut text)?;
     push_end(&mut text, entries.len())?;
     text.push_str("\n")?;

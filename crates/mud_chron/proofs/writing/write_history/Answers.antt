@@ -15,5 +15,6 @@ returns-clause-ok c =
     ∙ ap (λ (x : List ℕ). x ++ line_feed)
     (c.in_ok-push_end.ensures
     ∙ ap (λ (x : List ℕ). x ++ end)
-    (c.in_ok-push_entries.ensures ∙ ap (λ (x : List ℕ). x ++ text) c.in_ok-text.ensures.ok))
+    (c.in_ok-push_entries.ensures
+    ∙ ap (λ (x : List ℕ). x ++ text) (c.in_ok-text.ensures.ok ∙ c.first_line.ensures)))
     ∙ append_assoc (head ++ text) end line_feed)

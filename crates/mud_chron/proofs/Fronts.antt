@@ -8,7 +8,6 @@ use Rattle.std.specs.List.{AllByRecursion}
 use Rattle.std.proofs.lemmas.List.{append-nil, length-append, length-take}
 use Rattle.std.proofs.lemmas.List.Elements.{recursion_from_All}
 use mathlib.Core.List.{IsPrefix}
-use Rattle.mud_chron.specs.declared.fault.ChronFault.{ChronFault}
 use Rattle.mud_chron.specs.declared.fault.ChronFault.TheVariants as fault
 use Rattle.mud_chron.specs.declared.format.Format.{Format}
 use Rattle.mud_chron.specs.declared.format.Format.TheVariants.{One, Two}
@@ -16,7 +15,7 @@ use Rattle.mud_chron.specs.Entry.{Accepted, IsEntry}
 use Rattle.mud_chron.specs.Text.{line_feed, head_line, entry_line, entry_text, entries_text, end_line, journal_text}
 use Rattle.mud_chron.specs.History.{IsEntryOf, AreEntriesOf}
 use Rattle.mud_chron.specs.Faults.{HasNoLineFeed, IsNoHistory, Begins, IsNoEntryLine}
-use Rattle.mud_chron.specs.Fronts.{BeginsHead, EndsInHead, EndsInLine, Recovers, HasOtherLine, HasFrontFault}
+use Rattle.mud_chron.specs.Fronts.{BeginsHead, EndsInHead, EndsInLine, Recovers, HasOtherLine}
 use Rattle.mud_chron.specs.Laws.{AreWhole, RecoversWhole, FaultsAreNoFronts, NothingIsLost}
 use Rattle.mud_chron.proofs.Reader.{entry_in}
 use Rattle.mud_chron.proofs.Cutting.{lacks_all}

@@ -3,7 +3,6 @@ use Rattle.std.specs.Prelude.{◌≡◌, ℕ, ◌+◌, List}
 use Rattle.mud_chron.specs.declared.format.Format.{Format}
 use Rattle.mud_chron.specs.declared.line.Line.{Line}
 use Rattle.mud_chron.specs.declared.line.Line.TheVariants.{Entry, End, Bad}
-use Rattle.mud_chron.specs.Entry.{Accepted}
 use Rattle.mud_chron.specs.Text.{entry_line, end_line}
 use Rattle.mud_chron.specs.History.{IsEntryOf}
 use Rattle.mud_chron.specs.Faults.{IsBad}

@@ -16,6 +16,12 @@ use mud_key::{Key, KeyFault, Miss, Name, Namer, Names, NamesFault, read, resolve
 use mud_world::Speech;
 use std::alloc::{AllocError, Global};
 
+// The last number that an object may have.
+const LAST_OBJECT: u32 = 8_191;
+
+// A number below this may take one more digit: it has nine then at most.
+const ROOM_FOR_A_DIGIT: u32 = 100_000_000;
+
 /// Why there is no entry.
 #[derive(Clone, Copy)]
 pub(crate) enum Unread {
@@ -54,11 +60,11 @@ fn digits(text: &[u8]) -> Result<u32, Unread>
 {
     let mut number = 0;
     for byte in text {
-        let is_digit = 48 <= *byte && *byte <= 57;
-        if !is_digit || number >= 100_000_000 {
+        let is_digit = b'0' <= *byte && *byte <= b'9';
+        if !is_digit || number >= ROOM_FOR_A_DIGIT {
             return Err(Unread::NoEntry);
         }
-        number = number * 10 + u32::from(*byte - 48);
+        number = number * 10 + u32::from(*byte - b'0');
     }
     Ok(number)
 }
@@ -91,7 +97,7 @@ pub(crate) fn object(text: &str) -> Result<u32, Unread>
     ensures number { IfOk result IsNumber }
 {
     match text.as_bytes() {
-        [b'#', digits @ ..] => number_up_to(digits, 8191),
+        [b'#', digits @ ..] => number_up_to(digits, LAST_OBJECT),
         _ => Err(Unread::NoEntry),
     }
 }

@@ -19,6 +19,12 @@ use mud_key::{Name, Names};
 use mud_world::{Change, Deed, Doors, Target};
 use std::alloc::Global;
 
+// The most that an exit costs.
+const MOST_COST: u32 = 10_000;
+
+// The number of the last desk.
+const LAST_DESK: u32 = 64;
+
 // The names between the first two quotes, and what stands after them.
 fn quoted(alloc: Global, text: &str) -> Result<(Names, &str), Unread>
     ensures { (front : List ℕ) (names : List (List ℕ)) (rest : List ℕ) → Lacks 34 front → AreNames names
@@ -163,7 +169,7 @@ fn cost(text: &str) -> Result<Deed, Unread>
     ensures range { IfOk result (λ d. IsInRange d) }
 {
     let (exit, rest) = object_before(text)?;
-    let cost = number(rest, 10_000)?;
+    let cost = number(rest, MOST_COST)?;
     Ok(Deed::Cost { exit, cost })
 }
 
@@ -243,7 +249,7 @@ fn desk_of(text: &str) -> Result<u32, Unread>
     ensures from { IfOk result (λ n. 1 ≤ n) }
     ensures to { IfOk result (λ n. n ≤ 64) }
 {
-    let desk = number(text, 64)?;
+    let desk = number(text, LAST_DESK)?;
     if 1 <= desk {
         Ok(desk)
     } else {

@@ -11,7 +11,7 @@ use clap::{Arg, ArgMatches, Command, value_parser};
 use std::alloc::{AllocError, Global};
 
 /// The toolchain with which the programs were proved and built.
-pub const KIT: &str = "rattle-kit-13b logic dac8208d650f15bf";
+pub const KIT: &str = "rattle-kit-13f logic dac8208d650f15bf";
 
 /// What `mud_serve` is asked for.
 #[derive(Clone, Copy, Debug)]

@@ -11,6 +11,7 @@ from dataclasses import dataclass
 from typing import Callable
 
 PARTS = {}
+SHOWN_LENGTH = 2000
 
 
 class Skipped(Exception):
@@ -44,7 +45,7 @@ class Count:
             self.passed += 1
         else:
             self.failed += 1
-            print(f"FAILED: {name}: {why}" if why else f"FAILED: {name}", flush=True)
+            print(f"FAILED: {name}{f': {why}' if why else ''}"[:SHOWN_LENGTH], flush=True)
 
     def __str__(self):
         return f"{self.passed} passed, {self.failed} failed"

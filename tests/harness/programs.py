@@ -10,12 +10,17 @@ class NotBuilt(Exception):
 
 def program(name):
     """The path of a built program: `program("mud_serve")`."""
-    return built(name, name)
+    return built(name, name, f"`rt ci` or `./run {name}`")
 
 
-def built(crate, name):
+def tests_of(name):
+    """The path of the built tests of a crate: `tests_of("mud_tests")`."""
+    return built(name, f"{name}_tests", "`rt ci`")
+
+
+def built(crate, name, builder):
     """The path of what was built of a crate."""
-    path = f"{TOP}/crates/{crate}/out/{name}"
-    if not os.access(path, os.X_OK):
-        raise NotBuilt(f"crates/{crate}/out/{name} is not built: `rt ci` builds all, `./run {crate}` builds {crate}")
-    return path
+    path = f"crates/{crate}/out/{name}"
+    if not os.access(f"{TOP}/{path}", os.X_OK):
+        raise NotBuilt(f"{path} is not there: {builder} builds it")
+    return f"{TOP}/{path}"

@@ -20,7 +20,7 @@ from harness.trial import Trial, tell
 TOKEN = re.compile(rb"\xff[\xfb-\xfe].|\xff\xfa(?:[^\xff]|\xff[^\xf0])*\xff\xf0|\xff.|\r[\n\0]?|.", re.DOTALL)
 # Where a desk's world takes in some of the entries that the desk has seen, and another desk learns from it, this trial
 # does not know what is right.
-UNKNOWN = ("told-in-order", "hall-told-in-order")
+UNKNOWN = ("hall told-in-order",)
 
 
 def telnet_lines(text):
@@ -119,5 +119,5 @@ def refused_memory(count):
 @part("refused-memory-everywhere", "refused-memory over all small inputs", on_demand=True)
 def refused_memory_everywhere(count):
     for run in runs.small_runs():
-        if run.name.split(" ")[-1] not in UNKNOWN:
+        if run.name not in UNKNOWN:
             refused_in_turn(count, run)

@@ -2,7 +2,7 @@
 import os
 
 from harness.parts import Skipped, part
-from harness.programs import NotBuilt, built
+from harness.programs import NotBuilt, tests_of
 from harness.runs import Run
 from harness.trial import Trial, tell
 
@@ -10,9 +10,9 @@ TESTS = ("sessions::each_line_is_told_once",)
 
 
 def tests_program():
-    """The built tests of mud_tests, which the gate builds, and nothing else does."""
+    """The built tests of mud_tests. Only the gate builds them, so elsewhere they may be missing."""
     try:
-        return built("mud_tests", "mud_tests_tests")
+        return tests_of("mud_tests")
     except NotBuilt as error:
         if "IN_GATE" in os.environ:
             raise

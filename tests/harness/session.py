@@ -1,4 +1,4 @@
-"""A session with a server: what one connection sent and read, and what can be told of it without a history."""
+"""A session with a server: what one connection sent and read, and what can be said of it without a history."""
 import re
 
 FULL, LACKING = "(history full)", "(out of memory)"

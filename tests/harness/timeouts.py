@@ -50,10 +50,10 @@ def count_silent(count):
     with Server(program("mud_serve"), ["--idle", str(IDLE)]) as server:
         silent, slow = Watched(server), Watched(server)
         took = silent.after(3 * IDLE, lambda: slow.client.give(b"\xff\xf1"))
-        is_alone = not slow.has_ended()
+        goes_on = not slow.has_ended()
     is_right = took is not None and IDLE - 0.5 < took < IDLE + 2
     count("timeouts: with --idle the silent session ends", is_right, f"after {took} s")
-    count("timeouts: with --idle one that sends a byte now and then goes on", is_alone)
+    count("timeouts: with --idle one that sends a byte now and then goes on", goes_on)
 
 
 class Stuck:
@@ -86,10 +86,10 @@ def count_stuck(count):
         stuck = Stuck(server)
         stuck.fill()
         took = stuck.deaf.after(LATEST, stuck.talk)
-        is_alone = not stuck.slow.has_ended()
+        goes_on = not stuck.slow.has_ended()
     print(f"timeouts: the longest wait of others was {max(stuck.waits)} s", flush=True)
     count("timeouts: the session that takes nothing ends", took is not None and MINUTE - 5 < took, f"after {took} s")
-    count("timeouts: the one that reads now and then goes on", is_alone)
+    count("timeouts: the one that reads now and then goes on", goes_on)
 
 
 @part("timeouts", "a session that is silent ends, and one that takes nothing of what is answered, and no other", True)

@@ -1,0 +1,122 @@
+-- What calls of a disk leave of a journal.
+use Rattle.std.proofs.Common.{◌≡◌, ℕ, ◌+◌, inl, inr, List, [], ◌++◌, length, take}
+use Rattle.std.proofs.Common.{Option, Some, None, sym, ◌∙◌, ap, arith}
+use Rattle.std.proofs.Math.Seq.{take-append-add, take-length, take-append_seam}
+use Rattle.std.proofs.lemmas.List.{append-nil, length-append}
+use Rattle.mud_chron.specs.declared.format.Format.TheVariants.{Two}
+use Rattle.mud_chron.specs.Entry.{Accepted}
+use Rattle.mud_chron.specs.Text.{line_feed, head_line, entries_text, journal_text}
+use Rattle.mud_journal.specs.Disk.{Kept, Grows, Syncs, Cuts, Stays, Begins, Holds, Adds, AddsInPart}
+use Rattle.mud_journal.proofs.Grown.{journal_text-append}
+
+-- ---- the opening
+
+-- a file that is cut where its text ends
+pub resumed : (a b : Option Kept) (keep : ℕ) → (keep ≡ 0 → ⊥) → Cuts a b keep → (entries : List Accepted)
+    → Begins a keep entries → Holds b entries
+resumed None None keep some c entries is = tt
+resumed None (Some m) keep some c entries is = absurd c
+resumed (Some k) None keep some c entries is = absurd c
+resumed (Some k) (Some m) keep some c entries (inl is) = (c.0 ∙ is, c.1 ∙ is)
+resumed (Some k) (Some m) keep some c entries (inr none) = absurd (some none.0)
+
+-- a file of which nothing is left, and then the first line
+pub begun : (a b c d : Option Kept) (keep : ℕ) (text : List ℕ) → keep ≡ 0 → text ≡ head_line Two ++ line_feed
+    → Cuts a b keep → Grows b c text → Syncs c d
+    → (entries : List Accepted) → Begins a keep entries → Holds d entries
+begun None None None None keep text zero is c g s entries h = tt
+begun None (Some m) y z keep text zero is c g s entries h = absurd c
+begun None None (Some m) z keep text zero is c g s entries h = absurd g
+begun None None None (Some m) keep text zero is c g s entries h = absurd s
+begun (Some k) None y z keep text zero is c g s entries h = absurd c
+begun (Some k) (Some m) None z keep text zero is c g s entries h = absurd g
+begun (Some k) (Some m) (Some l) None keep text zero is c g s entries h = absurd s
+begun (Some k) (Some m) (Some l) (Some j) keep text zero is c g s entries (inl h) =
+    let short : take keep k.appended ≡ [] = ap (λ n. take n k.appended) zero in
+    absurd (omega (
+      arith,
+      ap length (sym short ∙ h),
+      length-append (head_line Two ++ line_feed) (entries_text 1 entries),
+    ))
+begun (Some k) (Some m) (Some l) (Some j) keep text zero is c g s entries (inr h) =
+    let empty : m.appended ≡ [] = c.0 ∙ ap (λ n. take n k.appended) zero in
+    let whole : l.appended ≡ journal_text Two entries =
+    g.0 ∙ ap (λ t. t ++ text) empty ∙ is ∙ sym (append-nil (head_line Two ++ line_feed))
+    ∙ ap (journal_text Two) (sym h.1) in
+    (s.0 ∙ whole, s.1 ∙ whole)
+
+-- ---- more entries
+
+-- the text of more entries goes on where that of the first ends
+counted : (es news : List Accepted) (count : ℕ) → length es ≡ count
+    → journal_text Two (es ++ news) ≡ journal_text Two es ++ entries_text (count + 1) news
+counted es news count is =
+    let v : 1 + length es ≡ count + 1 = omega arith in
+    journal_text-append Two es news ∙ ap (λ w. journal_text Two es ++ entries_text w news) v
+
+-- what is there once the lines of more entries are appended
+grown : (k m : Kept) (es news : List Accepted) (count : ℕ) (text : List ℕ) → text ≡ entries_text (count + 1) news
+    → length es ≡ count → Grows (Some k) (Some m) text → Holds (Some k) es
+    → m.appended ≡ journal_text Two (es ++ news)
+grown k m es news count text is n g h =
+    g.0 ∙ ap (λ t. t ++ text) h.0 ∙ ap (λ t. journal_text Two es ++ t) is ∙ sym (counted es news count n)
+
+-- an append and a sync
+pub added : (a b c : Option Kept) (count : ℕ) (news : List Accepted) (text : List ℕ)
+    → text ≡ entries_text (count + 1) news → Grows a b text → Syncs b c → Adds a c count news
+added None None None count news text is g s = λ es n h. tt
+added None None (Some m) count news text is g s = absurd s
+added None (Some m) c count news text is g s = absurd g
+added (Some k) None c count news text is g s = absurd g
+added (Some k) (Some m) None count news text is g s = absurd s
+added (Some k) (Some m) (Some l) count news text is g s = λ es n h.
+    let whole : m.appended ≡ journal_text Two (es ++ news) = grown k m es news count text is n g h in
+    (s.0 ∙ whole, s.1 ∙ whole)
+
+-- no call
+pub unchanged : (a : Option Kept) (count : ℕ) (news : List Accepted) → AddsInPart a a count news
+unchanged None count news = λ es n h. tt
+unchanged (Some k) count news = λ es n h.
+    let long : ℕ = length (journal_text Two es) in (
+      long,
+      omega arith,
+      h.0 ∙ sym (take-append_seam (journal_text Two es) (entries_text (count + 1) news))
+          ∙ ap (take long) (sym (counted es news count n)),
+      h.1,
+    )
+
+-- an append that failed
+pub appended : (a b : Option Kept) (count n : ℕ) (news : List Accepted) (text : List ℕ)
+    → text ≡ entries_text (count + 1) news → Grows a b (take n text) → AddsInPart a b count news
+appended None None count n news text is g = λ es m h. tt
+appended None (Some m) count n news text is g = absurd g
+appended (Some k) None count n news text is g = absurd g
+appended (Some k) (Some m) count n news text is g = λ es c h.
+    let long : ℕ = length (journal_text Two es) in (
+      long + n,
+      omega arith,
+      g.0 ∙ ap (λ t. t ++ take n text) h.0 ∙ sym (take-append-add (journal_text Two es) text n)
+          ∙ ap (λ t. take (long + n) (journal_text Two es ++ t)) is
+          ∙ ap (take (long + n)) (sym (counted es news count c)),
+      g.1 ∙ h.1,
+    )
+
+-- an append, and a sync that failed
+pub unsynced : (a b c : Option Kept) (count : ℕ) (news : List Accepted) (text : List ℕ)
+    → text ≡ entries_text (count + 1) news → Grows a b text → Stays b c → AddsInPart a c count news
+unsynced None None None count news text is g s = λ es n h. tt
+unsynced None None (Some m) count news text is g s = absurd s
+unsynced None (Some m) c count news text is g s = absurd g
+unsynced (Some k) None c count news text is g s = absurd g
+unsynced (Some k) (Some m) None count news text is g s = absurd s
+unsynced (Some k) (Some m) (Some l) count news text is g s = λ es n h.
+    let all : ℕ = length (journal_text Two (es ++ news)) in (
+      all,
+      omega (
+        arith,
+        ap length (counted es news count n),
+        length-append (journal_text Two es) (entries_text (count + 1) news),
+      ),
+      s.0 ∙ grown k m es news count text is n g h ∙ sym (take-length (journal_text Two (es ++ news))),
+      s.1 ∙ g.1 ∙ h.1,
+    )

@@ -1,0 +1,3 @@
+mod Grown
+pub mod Disks
+mod Crashes

@@ -1,0 +1,12 @@
+use Rattle.std.proofs.Common.{◌≡◌, ◌+◌, ◌++◌, drop}
+use Rattle.std.specs.Prelude.{string_bytes}
+use Rattle.mud_chron.specs.Text.{entries_text}
+use Rattle.mud_journal.proofs.journal.push_entries.Given as goal
+
+-- what is there and what is left are the whole
+abbrev pub invariant-loop-entry : goal.invariant-loop-entry
+invariant-loop-entry l = record {
+  next : l.next ≡ l.version + l.entry-index;
+  text : string_bytes l.text ++ entries_text l.next (drop l.entry-index l.entries) ≡ string_bytes l.fn.text
+      ++ entries_text l.version l.entries;
+}

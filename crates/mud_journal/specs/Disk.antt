@@ -1,0 +1,72 @@
+-- What a disk keeps of a file that grows, what a crash leaves of it, and which journal it holds.
+use Rattle.std.specs.Prelude.{◌≡◌, ◌≤◌, ◌⊎◌, ℕ, List, [], ◌++◌, length, take, Option, Some, None, IfSome}
+use Rattle.mud_chron.specs.declared.format.Format.TheVariants.{Two}
+use Rattle.mud_chron.specs.Entry.{Accepted}
+use Rattle.mud_chron.specs.Text.{journal_text}
+
+-- what was appended to the file, and what of it is synced
+pub record Kept : Type 0 where
+  pub appended : List ℕ
+  pub synced : List ℕ
+
+-- what is kept changes so; where nothing is known, nothing is claimed, before or after
+abbrev pub Becomes : (Kept → Kept → Type 0) → Option Kept → Option Kept → Type 0
+Becomes IsSo (Some old) (Some new) = IsSo old new
+Becomes IsSo None None = Unit {0}
+Becomes IsSo old new = ⊥
+
+-- the bytes are appended, and nothing more is synced
+abbrev pub Grows : Option Kept → Option Kept → List ℕ → Type 0
+Grows old new bytes =
+    Becomes (λ before after. (after.appended ≡ before.appended ++ bytes) × (after.synced ≡ before.synced)) old new
+
+-- all that was appended is synced
+abbrev pub Syncs : Option Kept → Option Kept → Type 0
+Syncs old new =
+    Becomes (λ before after. (after.appended ≡ before.appended) × (after.synced ≡ before.appended)) old new
+
+-- the first bytes, this many, are left, and synced
+abbrev pub Cuts : Option Kept → Option Kept → ℕ → Type 0
+Cuts old new keep =
+    Becomes (λ before after. (after.appended ≡ take keep before.appended) × (after.synced ≡ take keep before.appended))
+    old new
+
+-- the first bytes, this many, are as they were
+abbrev pub KeepsFront : Option Kept → Option Kept → ℕ → Type 0
+KeepsFront old new keep = Becomes (λ before after. take keep after.appended ≡ take keep before.appended) old new
+
+-- nothing has changed
+abbrev pub Stays : Option Kept → Option Kept → Type 0
+Stays old new = Becomes (λ before after. (after.appended ≡ before.appended) × (after.synced ≡ before.synced)) old new
+
+-- a crash leaves a front of what was appended, and at least what was synced
+abbrev pub IsLeft : Option Kept → List ℕ → Type 0
+IsLeft kept bytes =
+    IfSome kept (λ disk. (n : ℕ) × (length disk.synced ≤ n) × (bytes ≡ take n disk.appended))
+
+-- the file is the text of a journal of these entries, all of it synced
+abbrev pub Holds : Option Kept → List Accepted → Type 0
+Holds kept entries =
+    IfSome kept (λ disk. (disk.appended ≡ journal_text Two entries) × (disk.synced ≡ journal_text Two entries))
+
+-- the first bytes of the file, this many, are the text of a journal of these entries; or there are none of either
+abbrev pub Begins : Option Kept → ℕ → List Accepted → Type 0
+Begins kept keep entries =
+    IfSome kept (λ disk. (take keep disk.appended ≡ journal_text Two entries) ⊎ (keep ≡ 0) × (entries ≡ []))
+
+-- the text of a journal of the first entries is synced, and a front of the text of all that were written is there
+abbrev pub HoldsFront : Option Kept → List Accepted → List Accepted → Type 0
+HoldsFront kept synced written =
+    IfSome kept (λ disk.
+    (n : ℕ) × (length (journal_text Two synced) ≤ n) × (disk.appended ≡ take n (journal_text Two written))
+    × (disk.synced ≡ journal_text Two synced))
+
+-- a file that held a journal of this many entries holds that of these too
+abbrev pub Adds : Option Kept → Option Kept → ℕ → List Accepted → Type 0
+Adds old new count added =
+    (entries : List Accepted) → length entries ≡ count → Holds old entries → Holds new (entries ++ added)
+
+-- a file that held a journal of this many entries still has it synced, and of these a part
+abbrev pub AddsInPart : Option Kept → Option Kept → ℕ → List Accepted → Type 0
+AddsInPart old new count added =
+    (entries : List Accepted) → length entries ≡ count → Holds old entries → HoldsFront new entries (entries ++ added)

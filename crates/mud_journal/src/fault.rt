@@ -1,0 +1,106 @@
+//! Why there is no journal, and why a journal takes no more.
+
+use crate::disk::DiskFault;
+use std::alloc::{AllocError, AllocFailed};
+use std::io::{self, ErrorKind};
+use thiserror::Error;
+
+/// Why there is no journal to go on from in a file. No byte of the file has changed; it may be new.
+#[derive(Clone, Copy, Debug, PartialEq, Eq, Error)]
+pub enum OpenFault {
+    /// Memory ran out.
+    #[error("out of memory")]
+    OutOfMemory,
+    /// The file can't be opened, locked or read, or its directory can't be synced.
+    #[error("file")]
+    File,
+    /// Another program has the file.
+    #[error("in use")]
+    InUse,
+    /// The text does not begin as a history.
+    #[error("not a history")]
+    NotHistory,
+    /// It is the text of a whole history: a journal has no last line.
+    #[error("a whole history, which is a journal without its last line")]
+    Whole,
+    /// It is a journal of format 1, which is not written any more.
+    #[error("old format")]
+    Old,
+    /// This line of the text, counted from 1, is not that of the next entry.
+    #[error("journal line {0}")]
+    Line(usize),
+    /// The text has more than 65,536 entries.
+    #[error("too long")]
+    TooLong,
+}
+
+impl OpenFault {
+    // The fault of a call of the system.
+    pub(crate) fn of_file(error: &io::Error) -> OpenFault {
+        match error.kind() {
+            ErrorKind::OutOfMemory => OpenFault::OutOfMemory,
+            _ => OpenFault::File,
+        }
+    }
+}
+
+impl From<AllocError> for OpenFault {
+    ghost use Rattle.std.specs.Prelude.{◌≡◌};
+    ghost use Rattle.mud_journal.specs.declared.fault.OpenFault.TheVariants.{OutOfMemory};
+
+    ghost from_gives = { λ _ e. e ≡ OutOfMemory };
+
+    fn from(_e: AllocError) -> OpenFault {
+        OpenFault::OutOfMemory
+    }
+}
+
+/// Why a journal takes no more.
+#[derive(Clone, Copy, Debug, PartialEq, Eq, Error)]
+pub enum JournalFault {
+    /// Memory ran out for the text that is to be written.
+    #[error("out of memory")]
+    OutOfMemory,
+    /// The disk did not take it.
+    #[error("disk")]
+    Disk,
+    /// It would have more than 65,536 entries.
+    #[error("full")]
+    Full,
+    /// Its entries are not those that the desks made. No call of this crate answers it.
+    #[error("mismatch")]
+    Mismatch,
+}
+
+impl From<AllocError> for JournalFault {
+    ghost use Rattle.std.specs.Prelude.{◌≡◌};
+    ghost use Rattle.mud_journal.specs.declared.fault.JournalFault.TheVariants.{OutOfMemory};
+
+    ghost from_gives = { λ _ e. e ≡ OutOfMemory };
+
+    fn from(_e: AllocError) -> JournalFault {
+        JournalFault::OutOfMemory
+    }
+}
+
+impl<T: Drop> From<AllocFailed<T>> for JournalFault {
+    ghost use Rattle.std.specs.Prelude.{◌≡◌};
+    ghost use Rattle.mud_journal.specs.declared.fault.JournalFault.TheVariants.{OutOfMemory};
+
+    ghost from_gives = { λ _ e. e ≡ OutOfMemory };
+
+    fn from(_e: AllocFailed<T>) -> JournalFault {
+        JournalFault::OutOfMemory
+    }
+}
+
+impl From<DiskFault> for JournalFault {
+    ghost use Rattle.std.specs.Prelude.{◌≡◌};
+    ghost use Rattle.mud_journal.specs.declared.fault.JournalFault.TheVariants.{Disk};
+
+    ghost from_gives = { λ _ e. e ≡ Disk };
+
+    fn from(_e: DiskFault) -> JournalFault {
+        JournalFault::Disk
+    }
+}

@@ -1,0 +1,18 @@
+//! What is known of the definitions: each contract is a law, and its function does nothing.
+
+ghost use Rattle.mud_journal.specs.Laws.{IsAlwaysRead, NothingIsLost, GoesOn};
+
+/// What a crash leaves of a journal can be read.
+pub fn always_read()
+    ensures { IsAlwaysRead }
+{}
+
+/// In what a crash leaves of a journal all that was synced is found, and only what was written.
+pub fn nothing_is_lost()
+    ensures { NothingIsLost }
+{}
+
+/// What is found in a file can be gone on from.
+pub fn goes_on()
+    ensures { GoesOn }
+{}

@@ -1,0 +1,27 @@
+//! A journal: a history's text, without its last line, that grows on a disk.
+//!
+//! [`found`] opens the file of a journal and reads what is there, without a change to it; [`recovered`] does the same
+//! for the bytes of any disk. [`Found::begin`] cuts off what is torn, and goes on. [`Journal::commit`] adds entries by
+//! one append and one sync, and answers a [`Receipt`]. A [`Gate`] is told of receipts, and lets go those who wait for
+//! them: the bytes of a [`Held`] text come out only by a receipt for its version.
+//!
+//! Proved, over every [`Disk`]: what it holds after each call, and by [`laws`] that nothing that was synced is lost,
+//! whatever a crash leaves. That a file is such a disk is believed.
+#![tactic(auto)]
+
+mod disk;
+mod fault;
+mod file;
+mod gate;
+mod held;
+mod journal;
+pub mod laws;
+mod recovery;
+
+pub use disk::{Disk, DiskFault, NoDisk};
+pub use fault::{JournalFault, OpenFault};
+pub use file::found;
+pub use gate::Gate;
+pub use held::{Anything, Held, Telling};
+pub use journal::{Found, Journal, Receipt};
+pub use recovery::recovered;

@@ -60,27 +60,3 @@ impl Disk for File {
         self.sync_all().map_err(|_| DiskFault)
     }
 }
-
-/// No disk: what is written there is gone. A server without a journal has it.
-#[derive(Drop)]
-pub struct NoDisk;
-
-impl Disk for NoDisk {
-    ghost kept = { λ _. None };
-
-    ghost may_leave = { λ _ _. Unit {0} };
-
-    ghost left = { λ _ _ _. tt };
-
-    fn append(&mut self, _bytes: &[u8]) -> Result<(), DiskFault> {
-        Ok(())
-    }
-
-    fn sync(&mut self) -> Result<(), DiskFault> {
-        Ok(())
-    }
-
-    fn cut(&mut self, _keep: usize) -> Result<(), DiskFault> {
-        Ok(())
-    }
-}

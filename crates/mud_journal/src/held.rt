@@ -1,6 +1,6 @@
 //! Texts that wait for what they tell.
 
-ghost use Rattle.std.specs.Prelude.{◌≡◌, ◌≤◌};
+ghost use Rattle.std.specs.Prelude.{◌≡◌, ◌≤◌, ◌==◌, vec_len};
 
 use crate::journal::Receipt;
 use std::marker::PhantomData;
@@ -43,7 +43,9 @@ impl<T: Telling> Held<T> {
     }
 
     /// Whether there is nothing to be sent.
-    pub fn is_empty(&self) -> bool {
+    pub fn is_empty(&self) -> bool
+        ensures { result ≡ (vec_len self.now.text == 0) }
+    {
         self.text.is_empty()
     }
 

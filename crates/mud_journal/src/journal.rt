@@ -138,7 +138,7 @@ impl<D: Disk + Drop> Journal<D> {
         ensures same_count { OnErr result (self.new.count ≡ self.old.count) }
         ensures closed { self.old.has_failed ≡ true → (result ≡ Err JournalFault.Disk) × (self.new ≡ self.old) }
         ensures full { result ≡ Err JournalFault.Full → 65536 < self.old.count + length entries.now }
-        ensures matching { result ≡ Err JournalFault.Mismatch → ⊥ }
+        ensures no_mismatch { result ≡ Err JournalFault.Mismatch → ⊥ }
     {
         if self.has_failed {
             return Err(JournalFault::Disk);

@@ -18,7 +18,7 @@ mod journal;
 pub mod laws;
 mod recovery;
 
-pub use disk::{Disk, DiskFault, NoDisk};
+pub use disk::{Disk, DiskFault};
 pub use fault::{JournalFault, OpenFault};
 pub use file::found;
 pub use gate::Gate;

@@ -142,6 +142,7 @@ def count_dialogue(count, path, *more):
 
 @part("dialogues", "two people play at one server, and another server goes on from the history that it printed")
 def dialogues(count):
+    count_dialogue(count, f"{TOP}/examples/two-players.talk")
     history = count_dialogue(count, tests_file("dialogues/two-players.talk"))
     with tempfile.TemporaryDirectory() as folder:
         path = os.path.join(folder, "history")

@@ -144,7 +144,7 @@ def count_crowd(count, clients, seconds, pace):
     judge_crowd(count, crowd.sessions, printed.decode())
 
 
-@part("crowd", "clients play at once, and what each reads is judged", words="[CLIENTS [SECONDS [LINES_A_SECOND]]]")
+@part("crowd", "clients play at once, and what each reads is judged", words="[CLIENTS [SECONDS [PACE]]]")
 def small_crowd(count, clients="16", seconds="5", pace="20"):
     count_crowd(count, int(clients), float(seconds), float(pace))
 

@@ -9,20 +9,22 @@ from harness.trial import Trial, tell
 WORKERS = ("--workers", "8")
 
 
-def kept_in_turn(count, one):
-    """Each thread of a session with eight workers."""
+def kept_in_turn(count, one, least):
+    """Each thread of a session with eight workers, which asks for this many at least."""
     trial = Trial(script(one, *WORKERS), "fail_threads")
     felt, faults = trial.in_turn(lambda given, _: given == trial.whole, ("FAILED_FROM", "FAILED_CALL"))
+    if trial.calls < least:
+        faults.append(f"it asks for {trial.calls} threads")
     tell(count, "few threads", trial, felt, faults)
 
 
 @part("few-threads", "workers that can't be started change no answer")
 def few_threads(count):
     for name in ("meetings-by-eight", "lowest-exit-backward-by-eight"):
-        kept_in_turn(count, session(name))
+        kept_in_turn(count, session(name), 1)
 
 
 @part("few-threads-everywhere", "few-threads over all small sessions", on_demand=True)
 def few_threads_everywhere(count):
     for one in small_sessions():
-        kept_in_turn(count, one)
+        kept_in_turn(count, one, 0)

@@ -31,4 +31,6 @@ def refused_tests(count):
         felt, faults = trial.in_turn(passes)
         if not passes(trial.whole):
             faults.append("it fails with ample memory")
+        if not trial.calls:
+            faults.append("it makes no request for memory")
         tell(count, "refused tests", trial, felt, faults)

@@ -92,7 +92,7 @@ def count_stuck(count):
     count("timeouts: the one that reads now and then goes on", goes_on)
 
 
-@part("timeouts", "a session that is silent ends, and one that takes nothing of what is answered, and no other", True)
+@part("timeouts", "a session ends that is silent, or takes nothing of what is answered", True)
 def timeouts(count):
     count_silent(count)
     count_stuck(count)

@@ -52,14 +52,14 @@ def copy(folder):
         shutil.copy2(edit, must_fail)
 
 
-@part("plantable", "each wrong body of tests/wrong-bodies can be planted: what it takes away stands once in its file")
+@part("plantable", "each wrong body can be planted: what it takes away stands once in its file")
 def plantable(count):
     for edit in edits():
         faults = unplantable(edit)
         count(f"plantable: {os.path.relpath(edit, FOLDER)}", not faults, "; ".join(faults))
 
 
-@part("wrong-bodies", "the prover refuses each wrong body of the crates; without names, of all", True, "[CRATE..]")
+@part("wrong-bodies", "the prover refuses each wrong body of these crates, or of all", True, "[CRATE..]")
 def wrong_bodies(count, *crates):
     with tempfile.TemporaryDirectory(prefix="wrong-bodies-") as folder:
         copy(folder)

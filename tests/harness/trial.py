@@ -31,13 +31,18 @@ class Trial:
         environment = {**os.environ, "LD_PRELOAD": self.library, "CALLS_FILE": self.counted.name, **chosen}
         text = self.run.text if text is None else text
         how = {"input": text, "capture_output": True, "timeout": SECONDS, "env": environment, "cwd": TOP}
-        try:
-            ran = subprocess.run(self.command, check=False, **how)
-        except subprocess.TimeoutExpired:
-            return NO_END
+        ran = subprocess.run(self.command, check=False, **how)
         return ran.returncode, ran.stdout, ran.stderr
 
+    def given_if_it_ends(self, **chosen):
+        """What `given` answers, or `NO_END` where the program goes on for too long."""
+        try:
+            return self.given(**chosen)
+        except subprocess.TimeoutExpired:
+            return NO_END
+
     def counted_words(self):
+        """What the library wrote at the end of the last run."""
         with open(self.counted.name, encoding="ascii") as file:
             return file.read().split()
 
@@ -54,7 +59,7 @@ class Trial:
         what is wrong, as texts. `is_right` judges what was given, and gets the number of the call too."""
         felt, faults = 0, []
         for call, way in itertools.product(range(1, self.calls + 1), ways):
-            given = self.given(**{way: call})
+            given = self.given_if_it_ends(**{way: call})
             felt += given != self.whole
             if not is_right(given, call):
                 faults.append(shown(f"{way}={call}", given))

@@ -17,7 +17,7 @@ from harness.preload import library
 from harness.programs import program
 from harness.trial import Trial, shown, tell
 
-ENDLESS_SECONDS = 300
+ENDLESS_SECONDS = 600
 
 
 class FailedCalls(Trial):

@@ -6,7 +6,11 @@ from harness.programs import NotBuilt, tests_of
 from harness.runs import Run
 from harness.trial import Trial, tell
 
-TESTS = ("sessions::each_line_is_told_once",)
+TESTS = (
+    "sessions::each_line_is_told_once",
+    "shared::says_are_taken_in_without_memory",
+    "workers::eight_workers_may_run_out_of_memory",
+)
 
 
 def tests_program():

@@ -4,10 +4,10 @@ ghost use Rattle.std.specs.Prelude.{◌≡◌, ◌≤◌};
 
 use crate::search::{CROSSING, check_labels};
 use crate::village::world;
-use mud_chron::read_history;
+use mud_chron::{ChronFault, read_history, replay};
 use mud_hall::{Desk, Hall, HallName, NewHall};
 use mud_roads::Traveller;
-use mud_search::{Gate, OpenGate, labels};
+use mud_search::{Gate, Labels, OpenGate, labels};
 use std::alloc::Global;
 use std::marker::Brand;
 use std::process::Abort;
@@ -17,8 +17,8 @@ use std::sync::atomic::{AtomicU64, Ordering};
 use std::test::Fail;
 use std::thread::Threads;
 
-// Holds the first room after #0 until another room has passed, or for ten million turns. Refused are
-// work on the caller's thread alone, and workers that take turns at the gate.
+// Holds the first room after #0 until another room has passed, or for ten million turns. Refused are work on the
+// caller's thread only, workers that take turns at the gate, and a search that passes no gate.
 #[derive(Drop)]
 struct Barrier {
     passed: AtomicU64,
@@ -33,9 +33,9 @@ impl Barrier {
         }
     }
 
-    // Whether the turns have run out.
-    fn is_late(&self) -> bool {
-        self.late.load(Ordering::SeqCst) > 0
+    // Whether at least two rooms passed, and none before the turns had run out.
+    fn is_met(&self) -> bool {
+        self.passed.load(Ordering::SeqCst) >= 2 && self.late.load(Ordering::SeqCst) == 0
     }
 }
 
@@ -82,8 +82,30 @@ fn workers_work_at_once(rt: HostRuntime) -> Result<(), Fail> {
     for workers in [2, 8] {
         let gate = Barrier::new();
         check_crossing(&rt, rt.alloc(), workers, &gate)?;
-        assert!(rt; !gate.is_late());
+        assert!(rt; gate.is_met());
     }
+    Ok(())
+}
+
+// The labels that eight workers find.
+fn by_eight<R: Threads + Wait + Sync>(rt: &R, alloc: Global) -> Result<Labels, ChronFault> {
+    let world = replay(alloc, &read_history(alloc, CROSSING.as_bytes())?)?;
+    if !world.is_player(1) {
+        return Err(ChronFault::NotHistory);
+    }
+    let wizard = Traveller::of(alloc, &world, 1)?;
+    Ok(labels(rt, alloc, &world, slice::from_ref(&wizard), 8, &OpenGate)?)
+}
+
+// Eight workers find the labels, or run out of memory. The gate runs this once for each request for memory, and refuses
+// that one.
+#[test]
+fn eight_workers_may_run_out_of_memory(rt: HostRuntime) -> Result<(), Fail> {
+    let labels = match by_eight(&rt, rt.alloc()) {
+        Ok(labels) => labels,
+        Err(_) => by_eight(&rt, rt.alloc())?,
+    };
+    check_labels(&rt, &labels);
     Ok(())
 }
 
@@ -153,7 +175,7 @@ fn desks_ask_workers(rt: HostRuntime) -> Result<(), Fail> {
     for workers in [2, 8] {
         let gate = Barrier::new();
         check_hall(&rt, rt.alloc(), &CROSSED, workers, &gate)?;
-        assert!(rt; !gate.is_late());
+        assert!(rt; gate.is_met());
     }
     Ok(())
 }

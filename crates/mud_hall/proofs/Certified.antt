@@ -18,10 +18,9 @@ use Rattle.mud_cert.specs.Laws.{ValidIsOptimal}
 use Rattle.mud_cert.specs.Finding.{IsHistory, without_returns}
 use Rattle.mud_cert.specs.FindingLaws.{DropsNothing}
 use Rattle.mud_hall.specs.Told.{world_after}
-use Rattle.mud_hall.specs.Steps.{Hall}
+use Rattle.mud_hall.specs.Steps.{AreLoadable}
 use Rattle.mud_hall.specs.Right.{IsAcceptedWith, IsCertified}
 use Rattle.mud_hall.proofs.Worlds.{world-sound}
-use Rattle.mud_hall.proofs.Keeping.{IsKept}
 
 -- the laws below on which this stands
 pub record Below : Type 0 where
@@ -44,30 +43,29 @@ first_stay f later on = ap (λ (x : List Entry). take (length f) x) (sym on.1) �
 longer : (f later : List Entry) → IsPrefix f later → length f ≤ length later
 longer f later on = omega (arith, ap length on.1, length-append f on.0)
 
-accepted : Below → (f : List Entry) (later : Hall) (c : Certificate) → IsKept later → IsPrefix f later.history
-    → IsGood (world_after f) (length f) c → IsAcceptedWith later.history c
-accepted below f later c kept on good =
-    let same : take c.version later.history ≡ f =
-    ap (λ (n : ℕ). take n later.history) good.version ∙ first_stay f later.history on in
+accepted : Below → (f g : List Entry) (c : Certificate) → IsPrefix f g → AreLoadable 65536 g
+    → IsGood (world_after f) (length f) c → IsAcceptedWith g c
+accepted below f g c on are good =
+    let same : take c.version g ≡ f = ap (λ (n : ℕ). take n g) good.version ∙ first_stay f g on in
     let best : Optimal (world_after f) c =
     below.optimal (world_after f) (world-sound f) c good.limits good.valid in
     record {
-      written = (below.again later.history later.history kept.each (omega (arith, kept.few, kept.fits))).0;
+      written = (below.again g g are.each are.few).0;
       accepted = λ text spells.
-          let history : IsHistory (without_returns text) later.history = record {
-            spells = subst (λ (t : List ℕ). SpellsHistory t later.history)
+          let history : IsHistory (without_returns text) g = record {
+            spells = subst (λ (t : List ℕ). SpellsHistory t g)
                 (sym (below.drops_nothing text
-                (All-from_recursion (λ b. b ≢ 13) text (below.no_returns text later.history spells)))) spells;
-            legal = kept.legal;
+                (All-from_recursion (λ b. b ≢ 13) text (below.no_returns text g spells)))) spells;
+            legal = are.legal;
           } in (
-            later.history,
+            g,
             history,
             (
               c,
               good.limits,
               below.drops_nothing (cert_text c) (below.no_return c good.limits),
               (
-                omega (arith, good.version, longer f later.history on),
+                omega (arith, good.version, longer f g on),
                 subst (λ (x : List Entry). IsValid (world_after x) c) (sym same) good.valid,
                 subst (λ (x : List Entry). Optimal (world_after x) c) (sym same) best,
               ),
@@ -75,8 +73,7 @@ accepted below f later c kept on good =
           );
     }
 
-pub certified : Below → (f : List Entry) (later : Hall) (cert : Option Certificate) → IsKept later
-    → IsPrefix f later.history → IsSomeAnd cert (IsGood (world_after f) (length f))
-    → IsCertified later.history (length f) cert
-certified below f later None kept on good = absurd good
-certified below f later (Some c) kept on good = (good.version, accepted below f later c kept on good)
+pub certified : Below → (f : List Entry) (cert : Option Certificate)
+    → IsSomeAnd cert (IsGood (world_after f) (length f)) → IsCertified f cert
+certified below f None good = absurd good
+certified below f (Some c) good = (good.version, λ g on are. accepted below f g c on are good)

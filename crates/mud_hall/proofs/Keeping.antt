@@ -15,16 +15,18 @@ use Rattle.mud_chron.specs.Replay.{changes_of, AreLegalFrom, AreLegal}
 use Rattle.mud_chron.proofs.Spellable.{legal_is_spellable}
 use Rattle.mud_words.specs.Parse.{parsed}
 use Rattle.mud_hall.specs.Told.{world_after}
-use Rattle.mud_hall.specs.Desk.{DeskState, new_desk}
+use Rattle.mud_hall.specs.Desk.{DeskState}
 use Rattle.mud_hall.specs.Replies.{Reply, Accepted, Became, Refused, Question, Failed}
-use Rattle.mud_hall.specs.Replies.{Stores, Changes, Replies}
-use Rattle.mud_hall.specs.declared.fault.Fault.TheVariants.{OutOfMemory, HistoryFull, Unpublished, DesksFull}
-use Rattle.mud_hall.specs.Steps.{Hall, AreLoadable, opened, lone_desk, opened_alone, Begins, Gives, Turns, Grows}
-use Rattle.mud_hall.specs.Steps.{Step, Desks, See, Learn, Act, Ask, Guest, Makes, IsRun}
+use Rattle.mud_hall.specs.Replies.{Replies, verdict_on}
+use Rattle.mud_hall.specs.Steps.{See, Act, Ask, Guest, Told}
+use Rattle.mud_hall.specs.Steps.{Hall, AreLoadable, opened, lone_desk, opened_alone, Begins, Turns, Grows}
+use Rattle.mud_hall.specs.Steps.{Step, Desk, Learn, At, Makes, IsRun}
 use Rattle.mud_world.proofs.Worlds.{stepped-legal}
 use Rattle.mud_rules.specs.Laws.{IsMade}
 use Rattle.mud_rules.proofs.Decided.{are_made}
+use Rattle.mud_hall.specs.Laws.{HistoryGoesOn}
 use Rattle.mud_hall.proofs.Worlds.{world-sound}
+use Rattle.mud_hall.proofs.Coming.{WasChange, accepted_is, stored_number, same_number}
 
 -- a desk of a hall with this history
 pub record IsDesk (h : List Entry) (s : ℕ) (d : DeskState) : Type 0 where
@@ -37,16 +39,15 @@ abbrev AreDesks : List Entry → Hall → Type 0
 AreDesks h hall = (s : ℕ) (d : DeskState) → hall.desks s ≡ Some d → IsDesk h s d
 
 -- what is true of a hall in every run
-pub record IsKept (hall : Hall) : Type 0 where
+pub record IsKept (capacity : ℕ) (hall : Hall) : Type 0 where
   pub each : AllByRecursion IsEntry hall.history
   pub legal : AreLegal (changes_of hall.history)
-  pub few : length hall.history ≤ hall.capacity
-  pub fits : hall.capacity ≤ 65536
+  pub few : length hall.history ≤ capacity
   pub desks : (s : ℕ) (d : DeskState) → hall.desks s ≡ Some d → IsDesk hall.history s d
 
 -- and the history goes on
-pub record Keeps (old new : Hall) : Type 0 where
-  pub kept : IsKept new
+pub record Keeps (capacity : ℕ) (old new : Hall) : Type 0 where
+  pub kept : IsKept capacity new
   pub on : IsPrefix old.history new.history
 
 some-inj : {A : Type 0} (x y : A) → Some x ≡ Some y → x ≡ y
@@ -59,7 +60,7 @@ goes-same old new e = ([], append-nil old ∙ sym e)
 pub goes_trans : (a b c : List Entry) → IsPrefix a b → IsPrefix b c → IsPrefix a c
 goes_trans a b c x y = (x.0 ++ y.0, sym (append_assoc a x.0 y.0) ∙ (ap (λ (h : List Entry). h ++ y.0) x.1 ∙ y.1))
 
-each-push : (es : List Entry) (e : Entry) → AllByRecursion IsEntry es → IsEntry e
+pub each-push : (es : List Entry) (e : Entry) → AllByRecursion IsEntry es → IsEntry e
     → AllByRecursion IsEntry (es ++ e ∷ [])
 each-push [] e is last = (last, tt)
 each-push (x ∷ es) e is last = (is.0, each-push es e is.1 last)
@@ -93,63 +94,71 @@ last-one (z ∷ zs) (u ∷ us) x y e =
 
 -- ---- one desk
 
+-- who is at number t, once this desk is at s
+at-seat : (desks : ℕ → Option DeskState) (s : ℕ) (is : DeskState) (t : ℕ) (d : DeskState)
+    → cond (eqb t s) (Some is) (desks t) ≡ Some d → ((t ≡ s) × (is ≡ d)) ⊎ (desks t ≡ Some d)
+at-seat desks s is t d at = go (cases_eq t s)
+  where
+    go : (t ≡ s) ⊎ (t ≢ s) → ((t ≡ s) × (is ≡ d)) ⊎ (desks t ≡ Some d)
+    go (inl same) = inl (
+      same,
+      some-inj is d (sym (ap (λ b. cond b (Some is) (desks t)) (eq-eqb t s same)) ∙ at),
+    )
+    go (inr apart) = inr (sym (ap (λ b. cond b (Some is) (desks t)) (ne_eqb t s apart)) ∙ at)
+
+goes-on : (old new : List Entry) (s : ℕ) (d : DeskState) → IsDesk old s d → IsPrefix old new → IsDesk new s d
+goes-on old new s d good on = record {
+  from = good.from;
+  to = good.to;
+  number = good.number;
+  known = goes_trans d.seen old new good.known on;
+}
+
 turned : (old new : Hall) (s : ℕ) (was is : DeskState) → Turns old s was is new → AreDesks old.history old
     → is.number ≡ was.number → IsPrefix old.history new.history → AreDesks new.history new
-turned old new s was is turns desks number on t d at = go (cases_eq t s)
+turned old new s was is turns desks number on t d at =
+    go (at-seat old.desks s is t d (sym (ap (λ (h : Hall). h.desks t) turns.after) ∙ at))
   where
-    go : (t ≡ s) ⊎ (t ≢ s) → IsDesk new.history t d
-    go (inl same) =
-        let here : is ≡ d = some-inj is d (sym turns.after ∙ ap new.desks (sym same) ∙ at) in
+    go : ((t ≡ s) × (is ≡ d)) ⊎ (old.desks t ≡ Some d) → IsDesk new.history t d
+    go (inl p) =
         let good : IsDesk old.history s was = desks s was turns.before in
-        record {
+        let same : t ≡ s = p.0 in
+        subst (IsDesk new.history t) p.1 (record {
           from = omega (arith, same, good.from);
           to = omega (arith, same, good.to);
-          number = sym (ap (λ (x : DeskState). x.number) here) ∙ number ∙ good.number ∙ sym same;
-          known = subst (λ (x : DeskState). IsPrefix x.seen new.history) here turns.known;
-        }
-    go (inr apart) =
-        let good : IsDesk old.history t d = desks t d (sym (turns.others t apart) ∙ at) in
-        record {
-          from = good.from;
-          to = good.to;
-          number = good.number;
-          known = goes_trans d.seen old.history new.history good.known on;
-        }
+          number = number ∙ good.number ∙ sym same;
+          known = turns.known;
+        })
+    go (inr there) = goes-on old.history new.history t d (desks t d there) on
 
 -- where the history stays
-rests : (old new : Hall) (s : ℕ) (was is : DeskState) → IsKept old → Turns old s was is new → is.number ≡ was.number
-    → new.history ≡ old.history → Keeps old new
-rests old new s was is kept turns number same =
+stays : (capacity : ℕ) (old new : Hall) → IsKept capacity old → new.history ≡ old.history → AreDesks new.history new
+    → Keeps capacity old new
+stays capacity old new kept same desks =
     let long : length new.history ≡ length old.history = ap length same in
     record {
       kept = record {
         each = subst (AllByRecursion IsEntry) (sym same) kept.each;
         legal = subst (λ (h : List Entry). AreLegal (changes_of h)) (sym same) kept.legal;
-        few = omega (arith, long, turns.capacity, kept.few);
-        fits = omega (arith, turns.capacity, kept.fits);
-        desks = turned old new s was is turns kept.desks number (goes-same old.history new.history same);
+        few = omega (arith, long, kept.few);
+        desks = desks;
       };
       on = goes-same old.history new.history same;
     }
 
--- no step changes a desk's number
-stored-number : (capacity : ℕ) (s : DeskState) (e : Change) (reply : Reply) (new : DeskState)
-    → Stores capacity s e reply new → new.number ≡ s.number
-stored-number capacity s e (Accepted v text) new x = ap (λ (d : DeskState). d.number) x.3
-stored-number capacity s e (Failed HistoryFull) new x = ap (λ (d : DeskState). d.number) x.1
-stored-number capacity s e (Failed Unpublished) new x = ap (λ (d : DeskState). d.number) x.1
-stored-number capacity s e (Failed OutOfMemory) new x = ap (λ (d : DeskState). d.number) x
-stored-number capacity s e (Failed DesksFull) new x = absurd x
-stored-number capacity s e (Became v text) new x = absurd x
-stored-number capacity s e (Refused v f text) new x = absurd x
-stored-number capacity s e (Question v) new x = absurd x
+rests : (capacity : ℕ) (old new : Hall) (s : ℕ) (was is : DeskState) → IsKept capacity old → Turns old s was is new
+    → is.number ≡ was.number → new.history ≡ old.history → Keeps capacity old new
+rests capacity old new s was is kept turns number same =
+    stays capacity old new kept same
+    (turned old new s was is turns kept.desks number (goes-same old.history new.history same))
 
 -- ---- acting
 
-accepts : (old new : Hall) (s n : ℕ) (was is : DeskState) (e : Change) → IsKept old → Turns old s was is new → n ≡ s
-    → is.number ≡ was.number → IsMade (world_after old.history) e → length old.history < old.capacity
-    → new.history ≡ old.history ++ record { desk = n; change = e } ∷ [] → Keeps old new
-accepts old new s n was is e kept turns mine number made room grown =
+accepts : (capacity : ℕ) (old new : Hall) (s n : ℕ) (was is : DeskState) (e : Change) → IsKept capacity old
+    → Turns old s was is new → n ≡ s
+    → is.number ≡ was.number → IsMade (world_after old.history) e → length old.history < capacity
+    → new.history ≡ old.history ++ record { desk = n; change = e } ∷ [] → Keeps capacity old new
+accepts capacity old new s n was is e kept turns mine number made room grown =
     let entry : Entry = record { desk = n; change = e } in
     let good : IsDesk old.history s was = kept.desks s was turns.before in
     let one : IsEntry entry = record {
@@ -164,19 +173,18 @@ accepts old new s n was is e kept turns mine number made room grown =
         each = subst (AllByRecursion IsEntry) (sym grown) (each-push old.history entry kept.each one);
         legal = subst (λ (h : List Entry). AreLegal (changes_of h)) (sym grown)
             (legal-more old.history entry kept.legal made.legal);
-        few = omega (arith, long, turns.capacity, kept.few, room);
-        fits = omega (arith, turns.capacity, kept.fits);
+        few = omega (arith, long, kept.few, room);
         desks = turned old new s was is turns kept.desks number on;
       };
       on = on;
     }
 
 -- what is stored is the change that was accepted
-stored : (old new : Hall) (s v : ℕ) (text line : List ℕ) (was ready is : DeskState) → IsKept old
-    → Turns old s was is new
-    → ready.number ≡ was.number → Changes old.capacity ready line (Accepted v text) is
-    → Grows (Accepted v text) old.history is new.history → Keeps old new
-stored old new s v text line was ready is kept turns number c grows =
+stored : (capacity : ℕ) (old new : Hall) (s v : ℕ) (text line : List ℕ) (was ready is : DeskState)
+    → IsKept capacity old → Turns old s was is new
+    → ready.number ≡ was.number → WasChange capacity ready line (Accepted v text) is
+    → Grows (Act line (Accepted v text)) old.history is new.history → Keeps capacity old new
+stored capacity old new s v text line was ready is kept turns number c grows =
     let e = c.change in
     let n = ready.number in
     let entry : Entry = record { desk = n; change = e } in
@@ -186,124 +194,121 @@ stored old new s v text line was ready is kept turns number c grows =
     let made : IsMade (world_after ready.seen) e =
     are_made (world_after ready.seen) (world-sound ready.seen) ready.player (parsed line) e c.decides in
     let good : IsDesk old.history s was = kept.desks s was turns.before in
-    accepts old new s n was is e kept turns (number ∙ good.number)
-    (stored-number old.capacity ready e (Accepted v text) is c.stores ∙ number)
+    accepts capacity old new s n was is e kept turns (number ∙ good.number)
+    (stored_number capacity ready e (Accepted v text) is c.stores ∙ number)
     (subst (λ (x : List Entry). IsMade (world_after x) e) whole made)
-    (subst (λ (x : List Entry). length x < old.capacity) whole c.stores.0)
+    (subst (λ (x : List Entry). length x < capacity) whole c.stores.0)
     (grown ∙ ap (λ (x : List Entry). x ++ entry ∷ []) whole)
 
-replies : (old new : Hall) (s : ℕ) (line : List ℕ) (was ready is : DeskState) (reply : Reply) → IsKept old
-    → Turns old s was is new → ready.number ≡ was.number → Grows reply old.history is new.history
-    → Replies old.capacity ready line reply is → Keeps old new
-replies old new s line was ready is (Accepted v text) kept turns number grows r =
-    stored old new s v text line was ready is kept turns number r grows
-replies old new s line was ready is (Became v text) kept turns number grows r =
-    rests old new s was is kept turns (ap (λ (d : DeskState). d.number) r.4 ∙ number) grows
-replies old new s line was ready is (Refused v f text) kept turns number grows r =
-    rests old new s was is kept turns (ap (λ (d : DeskState). d.number) r.3 ∙ number) grows
-replies old new s line was ready is (Question v) kept turns number grows r =
-    rests old new s was is kept turns (ap (λ (d : DeskState). d.number) r.3 ∙ number) grows
-replies old new s line was ready is (Failed HistoryFull) kept turns number grows r =
-    rests old new s was is kept turns (ap (λ (d : DeskState). d.number) r.stores.1 ∙ number) grows
-replies old new s line was ready is (Failed Unpublished) kept turns number grows r =
-    rests old new s was is kept turns (ap (λ (d : DeskState). d.number) r.stores.1 ∙ number) grows
-replies old new s line was ready is (Failed OutOfMemory) kept turns number grows r =
-    rests old new s was is kept turns (ap (λ (d : DeskState). d.number) r ∙ number) grows
-replies old new s line was ready is (Failed DesksFull) kept turns number grows r = absurd r
+-- where the reply is no change that was accepted, the history stays
+replies : (capacity : ℕ) (old new : Hall) (s : ℕ) (line : List ℕ) (was ready is : DeskState) (reply : Reply)
+    → IsKept capacity old
+    → Turns old s was is new → ready.number ≡ was.number → Grows (Act line reply) old.history is new.history
+    → Replies capacity ready line reply is → Keeps capacity old new
+replies capacity old new s line was ready is reply kept turns number grows r =
+    let mine : is.number ≡ was.number =
+    same_number capacity ready (verdict_on ready.seen ready.player line) reply is r ∙ number in
+    go reply grows r mine
+  where
+    go : (reply : Reply) → Grows (Act line reply) old.history is new.history → Replies capacity ready line reply is
+        → is.number ≡ was.number → Keeps capacity old new
+    go (Accepted v text) grows r mine =
+        stored capacity old new s v text line was ready is kept turns number
+        (accepted_is capacity ready line v text is r) grows
+    go (Became v text) grows r mine = rests capacity old new s was is kept turns mine grows
+    go (Refused v f text) grows r mine = rests capacity old new s was is kept turns mine grows
+    go (Question v) grows r mine = rests capacity old new s was is kept turns mine grows
+    go (Failed fault) grows r mine = rests capacity old new s was is kept turns mine grows
 
 -- ---- the steps
-gives : (old new : Hall) (s : ℕ) → IsKept old → Gives old s new → Keeps old new
-gives old new s kept g =
-    let long : length new.history ≡ length old.history = ap length g.history in
-    record {
-      kept = record {
-        each = subst (AllByRecursion IsEntry) (sym g.history) kept.each;
-        legal = subst (λ (h : List Entry). AreLegal (changes_of h)) (sym g.history) kept.legal;
-        few = omega (arith, long, g.capacity, kept.few);
-        fits = omega (arith, g.capacity, kept.fits);
-        desks = λ t d at. subst (λ (h : List Entry). IsDesk h t d) (sym g.history) (desk t d at);
-      };
-      on = goes-same old.history new.history g.history;
-    }
+
+gives : (capacity : ℕ) (loaded : List Entry) (old new : Hall) (s : ℕ) → IsKept capacity old
+    → Makes capacity loaded old (Desk s) new → Keeps capacity old new
+gives capacity loaded old new s kept (is, fresh, number, next, known, after) =
+    let same : new.history ≡ old.history = ap (λ (h : Hall). h.history) after in
+    stays capacity old new kept same (λ t d at.
+    subst (λ (h : List Entry). IsDesk h t d) (sym same)
+    (go t d (at-seat old.desks s is t d (sym (ap (λ (h : Hall). h.desks t) after) ∙ at))))
   where
-    desk : (t : ℕ) (d : DeskState) → new.desks t ≡ Some d → IsDesk old.history t d
-    desk t d at = go (cases_eq t s)
-      where
-        go : (t ≡ s) ⊎ (t ≢ s) → IsDesk old.history t d
-        go (inl same) =
-            let here : new_desk s g.seen ≡ d = some-inj (new_desk s g.seen) d
-            (sym g.desk ∙ ap new.desks (sym same) ∙ at) in
-            record {
-              from = omega (arith, same, g.next);
-              to = omega (arith, same, g.few);
-              number = sym (ap (λ (x : DeskState). x.number) here) ∙ sym same;
-              known = subst (λ (x : DeskState). IsPrefix x.seen old.history) here g.known;
-            }
-        go (inr apart) = kept.desks t d (sym (g.others t apart) ∙ at)
+    go : (t : ℕ) (d : DeskState) → ((t ≡ s) × (is ≡ d)) ⊎ (old.desks t ≡ Some d) → IsDesk old.history t d
+    go t d (inl p) =
+        let here : t ≡ s = p.0 in
+        subst (IsDesk old.history t) p.1 (record {
+          from = omega (arith, here, number, fresh.from);
+          to = omega (arith, here, number, fresh.to);
+          number = number ∙ sym here;
+          known = known;
+        })
+    go t d (inr there) = kept.desks t d there
 
-pub makes_kept : (old : Hall) (step : Step) (new : Hall) → IsKept old → Makes old step new → Keeps old new
-makes_kept old (Desks s) new kept m = gives old new s kept m
-makes_kept old (See s) new kept (was, is, turns, same, t) =
-    rests old new s was is kept turns (ap (λ (d : DeskState). d.number) t.is) same
-makes_kept old (Learn s t) new kept (was, is, other, turns, same, at, l) =
-    rests old new s was is kept turns (ap (λ (d : DeskState). d.number) l.takes_in.is) same
-makes_kept old (Act s line reply) new kept (was, is, turns, grows, a) =
-    replies old new s line was a.ready is reply kept turns (ap
+pub makes_kept : (capacity : ℕ) (loaded : List Entry) (old : Hall) (step : Step) (new : Hall) → IsKept capacity old
+    → Makes capacity loaded old step new → Keeps capacity old new
+makes_kept capacity loaded old (Desk s) new kept m = gives capacity loaded old new s kept m
+makes_kept capacity loaded old (Learn s t) new kept (was, is, other, turns, same, at, l) =
+    rests capacity old new s was is kept turns (ap (λ (d : DeskState). d.number) l.takes_in.is) same
+makes_kept capacity loaded old (At s See) new kept (was, is, turns, same, t) =
+    rests capacity old new s was is kept turns (ap (λ (d : DeskState). d.number) t.is) same
+makes_kept capacity loaded old (At s (Act line reply)) new kept (was, is, turns, grows, a) =
+    replies capacity old new s line was a.ready is reply kept turns (ap
     (λ (d : DeskState). d.number) a.takes_in.is) grows a.replies
-makes_kept old (Ask s line answer) new kept (d, at, same, a) =
-    record {
-      kept = subst IsKept (sym same) kept;
-      on = goes-same old.history new.history
-          (ap (λ (h : Hall). h.history) same);
-    }
-makes_kept old (Guest s) new kept (was, is, turns, same, becomes) =
-    rests old new s was is kept turns (ap (λ (d : DeskState). d.number) becomes) same
+makes_kept capacity loaded old (At s (Ask line None)) new kept (was, is, turns, same, stands) =
+    rests capacity old new s was is kept turns (ap (λ (d : DeskState). d.number) stands) same
+makes_kept capacity loaded old (At s (Ask line (Some a))) new kept (was, is, turns, same, asked) =
+    rests capacity old new s was is kept turns (ap (λ (d : DeskState). d.number) asked.1) same
+makes_kept capacity loaded old (At s Guest) new kept (was, is, turns, same, becomes) =
+    rests capacity old new s was is kept turns (ap (λ (d : DeskState). d.number) becomes) same
+makes_kept capacity loaded old (At s (Told lines)) new kept (was, is, turns, same, hands) =
+    rests capacity old new s was is kept turns (ap (λ (d : DeskState). d.number) hands.is) same
 
-pub run_kept : (old : Hall) (steps : List Step) (new : Hall) → IsKept old → IsRun old steps new → Keeps old new
-run_kept old [] new kept same = record {
-  kept = subst IsKept same kept;
-  on =
-      goes-same old.history new.history (ap (λ (h : Hall). h.history) (sym same));
+pub run_kept : (capacity : ℕ) (loaded : List Entry) (old : Hall) (steps : List Step) (new : Hall) → IsKept capacity old
+    → IsRun capacity loaded old steps new → Keeps capacity old new
+run_kept capacity loaded old [] new kept same = record {
+  kept = subst (IsKept capacity) same kept;
+  on = goes-same old.history new.history (ap (λ (h : Hall). h.history) (sym same));
 }
-run_kept old (step ∷ steps) new kept (hall, made, run) =
-    let one : Keeps old hall = makes_kept old step hall kept made in
-    let rest : Keeps hall new = run_kept hall steps new one.kept run in
+run_kept capacity loaded old (step ∷ steps) new kept (hall, made, run) =
+    let one : Keeps capacity old hall = makes_kept capacity loaded old step hall kept made in
+    let rest : Keeps capacity hall new = run_kept capacity loaded hall steps new one.kept run in
     record { kept = rest.kept; on = goes_trans old.history hall.history new.history one.on rest.on }
 
-opened_kept : (capacity : ℕ) (loaded : List Entry) → capacity ≤ 65536 → AreLoadable capacity loaded
-    → IsKept (opened capacity loaded)
-opened_kept capacity loaded fits are = record {
+no-desk : (h : List Entry) (s : ℕ) (d : DeskState) → None ≡ Some d → IsDesk h s d
+no-desk h s d none = let bad : ◌≡◌ {A = Option DeskState} None (Some d) = none in absurd (cc)
+
+opened_kept : (capacity : ℕ) (loaded : List Entry) → AreLoadable capacity loaded → IsKept capacity (opened loaded)
+opened_kept capacity loaded are = record {
   each = are.each;
   legal = are.legal;
   few = are.few;
-  fits = fits;
-  desks = λ s d none. let bad : ◌≡◌ {A = Option DeskState} None (Some d) = none in absurd (cc);
+  desks = λ s d none. no-desk loaded s d none;
 }
 
-alone_kept : (capacity : ℕ) → capacity ≤ 65536 → IsKept (opened_alone capacity)
-alone_kept capacity fits = record {
+alone_kept : (capacity : ℕ) → IsKept capacity opened_alone
+alone_kept capacity = record {
   each = tt;
   legal = tt;
   few = omega arith;
-  fits = fits;
-  desks = λ s d at. go s d at (cases_eq s 1);
+  desks = λ s d at. go s d (at-seat (λ t. None) 1 lone_desk s d at);
 }
   where
-    go : (s : ℕ) (d : DeskState) → cond (eqb s 1) (Some lone_desk) None ≡ Some d → (s ≡ 1) ⊎ (s ≢ 1) → IsDesk [] s d
-    go s d at (inl same) =
-        let here : lone_desk ≡ d = some-inj lone_desk d (sym (ap (λ b. cond b (Some lone_desk) None) (eq-eqb s 1 same))
-        ∙ at) in
-        record {
-          from = omega (arith, same);
-          to = omega (arith, same);
-          number = sym (ap (λ (x : DeskState). x.number) here) ∙ sym same;
-          known = subst (λ (x : DeskState). IsPrefix x.seen []) here ([], refl);
-        }
-    go s d at (inr apart) =
-        let bad : ◌≡◌ {A = Option DeskState} None (Some d) =
-        sym (ap (λ b. cond b (Some lone_desk) None) (ne_eqb s 1 apart)) ∙ at in
-        absurd (cc)
+    go : (s : ℕ) (d : DeskState) → ((s ≡ 1) × (lone_desk ≡ d)) ⊎ (None ≡ Some d) → IsDesk [] s d
+    go s d (inl p) =
+        let here : s ≡ 1 = p.0 in
+        subst (IsDesk [] s) p.1 (record {
+          from = omega (arith, here);
+          to = omega (arith, here);
+          number = sym here;
+          known = ([], refl);
+        })
+    go s d (inr none) = no-desk [] s d none
 
-pub begun_kept : (capacity : ℕ) (begin : Hall) → capacity ≤ 65536 → Begins capacity begin → IsKept begin
-begun_kept capacity begin fits (inl b) = subst IsKept (sym b.2) (opened_kept capacity b.0 fits b.1)
-begun_kept capacity begin fits (inr b) = subst IsKept (sym b) (alone_kept capacity fits)
+pub begun_kept : (capacity : ℕ) (loaded : List Entry) (begin : Hall) → Begins capacity loaded begin
+    → IsKept capacity begin
+begun_kept capacity loaded begin (inl b) = subst (IsKept capacity) (sym b.1) (opened_kept capacity loaded b.0)
+begun_kept capacity loaded begin (inr b) = subst (IsKept capacity) (sym b.1) (alone_kept capacity)
+
+pub history_goes_on : HistoryGoesOn
+history_goes_on capacity loaded begin begins steps hall run more later goes =
+    let first : Keeps capacity begin hall =
+    run_kept capacity loaded begin steps hall (begun_kept capacity loaded begin begins) run in
+    let rest : Keeps capacity hall later = run_kept capacity loaded hall more later first.kept goes in
+    (record { each = rest.kept.each; legal = rest.kept.legal; few = rest.kept.few }, rest.on)

@@ -17,3 +17,4 @@ pub mod Certified
 pub mod Journeys
 pub mod Guiding
 pub mod Sample
+pub mod Coming

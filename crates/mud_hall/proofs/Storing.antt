@@ -28,6 +28,7 @@ use Rattle.mud_hall.specs.Told.{world_after, notice_of, notice, notices}
 use Rattle.mud_hall.specs.Desk.{DeskState, state_of, IsSeated, IsHeld, as_player, as_accepted}
 use Rattle.mud_hall.specs.Replies.{Failed, shown, Replies, Stores}
 use Rattle.mud_hall.proofs.Notices.{state_eq}
+use Rattle.mud_hall.proofs.Coming.{comes_memory}
 use Rattle.mud_hall.proofs.Seats.{world-sound}
 
 -- a replica that has taken all in stands in the world of all
@@ -38,8 +39,9 @@ all_in list at is = ap (λ n. world_after (take n list)) is ∙ ap world_after (
 pub replies_refused : (capacity : ℕ) (s t : DeskState) (line : List ℕ) (r : Result Returned Fault) → t ≡ s
     → IsErrAnd r (λ e. e ≡ OutOfMemory) → Replies capacity s line (shown r) t
 replies_refused capacity s t line (Ok r) same h = absurd h
-replies_refused capacity s t line (Err e) same h = let P : Fault
-    → Type 0 = λ f. Replies capacity s line (Failed f) t in subst P (sym h) same
+replies_refused capacity s t line (Err e) same h =
+    let P : Fault → Type 0 = λ f. Replies capacity s line (Failed f) t in
+    subst P (sym h) (comes_memory capacity s line t same)
 
 pub stores_refused : (capacity : ℕ) (s t : DeskState) (e : Change) (r : Result Returned Fault) → t ≡ s
     → IsErrAnd r (λ f. f ≡ OutOfMemory) → Stores capacity s e (shown r) t

@@ -31,7 +31,7 @@ pub record Answered : Type 0 where
 abbrev pub answered : Answer → Answered
 answered a = record { version = a.version; text = string_bytes a.text; cert = a.cert }
 
--- the guide's answer about a journey, which a player alone gets
+-- the guide's answer about a journey, which only a player gets
 abbrev pub IsGuided : State → ℕ → Option ℕ → Journey → Answer → Type 0
 IsGuided w v None journey g = ⊥
 IsGuided w v (Some p) (Route to) g = IsRouteAnswer w v p to g
@@ -56,7 +56,7 @@ IsShown h player (query.Proof journey) a =
 IsShown h player query.History a =
     (a.text ++ codes "\n" ≡ codes "history\n" ++ written_text h) × (a.cert ≡ None)
 
--- the answer to what a line comes to: what asks nothing is not understood
+-- the answer to a line by what it is decided to be: what asks nothing is not understood
 abbrev pub Shows : List Accepted → Option ℕ → Verdict → Answered → Type 0
 Shows h player (verdict.Ask q) a = IsShown h player q a
 Shows h player (verdict.Refused f) a = (a.text ≡ refusal_text f) × (a.cert ≡ None)
@@ -68,7 +68,7 @@ pub record Answers (s : DeskState) (line : List ℕ) (a : Answered) : Type 0 whe
   pub version : a.version ≡ length s.seen
   pub shows : Shows s.seen s.player (verdict_on s.seen s.player line) a
 
--- a guest asks for no journey. Cited by private clauses alone.
+-- a guest asks for no journey. Only private clauses cite it.
 abbrev pub CanAsk : Option ℕ → Query → Type 0
 CanAsk player (query.View view) = Unit {0}
 CanAsk player (query.Journey journey) = IsSome player

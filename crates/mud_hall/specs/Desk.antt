@@ -33,11 +33,11 @@ as_player s p = record s { player = Some p }
 abbrev pub with_told : DeskState → List (List ℕ) → DeskState
 with_told s told = record s { told = told }
 
--- the desk once it took these entries in: it is told of them
+-- the desk after it took these entries in: it hears of them
 abbrev pub took_in : DeskState → List Accepted → DeskState
 took_in s entries = record s { seen = s.seen ++ entries; told = s.told ++ notices s.player s.seen entries }
 
--- the desk after its own change, of which it is told nothing: a new player sits down where he came
+-- the desk after its own change, of which it hears nothing: a new player sits down where he came
 abbrev pub as_accepted : DeskState → Change → DeskState
 as_accepted s e = record s {
   player = if is_arrival e.deed then Some e.actor else s.player;
@@ -54,6 +54,11 @@ pub record TakesIn (old new : DeskState) : Type 0 where
 pub record Learns (old other new : DeskState) : Type 0 where
   pub takes_in : TakesIn old new
   pub longer : new.seen ≡ (if nat_lt (length old.seen) (length other.seen) then other.seen else old.seen)
+
+-- it handed out these lines that it was told, in order, and the others are left
+pub record HandsOut (old : DeskState) (lines : List (List ℕ)) (new : DeskState) : Type 0 where
+  pub told : old.told ≡ lines ++ new.told
+  pub is : new ≡ with_told old new.told
 
 -- a new guest's desk, which has seen at least what was loaded
 pub record IsNew (loaded : List Accepted) (new : DeskState) : Type 0 where
@@ -73,7 +78,7 @@ pub record View : Type 0 where
 abbrev pub untold : View → List (List ℕ)
 untold v = notices v.state.player (take v.at v.state.seen) (drop v.at v.state.seen)
 
--- the state of a desk of this replica; of what its world has not taken in yet it is told all the same
+-- the state of a desk of this replica; it hears also of what its world has not taken in yet
 abbrev pub state_of : ℕ → Option ℕ → Standing → List ℕ → List (List ℕ) → DeskState
 state_of number player r calls stored = record {
   number = number;
@@ -99,7 +104,7 @@ pub record IsHeld (cells : List ℕ) (loaded : List Accepted) (number : ℕ) (pl
   pub seated : IsSeated (world_after r.list) player
 
 -- what is true of what lies under the lock of that hall: at most 64 desks were given, it knows what was loaded, and
--- the start that it keeps is that alone. A reader need not look into this: contracts only hand it on
+-- the start that it keeps is only that. A reader need not look into this: contracts only hand it on
 pub record IsKept (cells : List ℕ) (loaded : List Accepted) (given : ℕ) (r : Standing) (start : Known) : Type 0 where
   pub few : given ≤ 64
   pub row : r.row ≡ cells

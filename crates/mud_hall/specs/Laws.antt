@@ -1,5 +1,6 @@
 -- Laws of the definitions: what they say together.
-use Rattle.std.specs.Prelude.{◌≡◌, ℕ, ◌≤◌, List, length, take, Option, Some, IsTrue}
+use Rattle.std.specs.Prelude.{◌≡◌, ℕ, List, length, take, Option, Some, IsTrue}
+use mathlib.Core.List.{IsPrefix}
 use Rattle.mud_world.specs.State.{State, is_player, place_of}
 use Rattle.mud_roads.specs.declared.label.Step.{Step as Exit}
 use Rattle.mud_roads.specs.Walks.{Walk}
@@ -13,31 +14,36 @@ use Rattle.mud_hall.specs.Told.{world_after}
 use Rattle.mud_hall.specs.Desk.{DeskState}
 use Rattle.mud_hall.specs.Replies.{verdict_on}
 use Rattle.mud_hall.specs.Answers.{Answered}
-use Rattle.mud_hall.specs.Steps.{Hall, Begins, Step, Ask, Makes, IsRun}
+use Rattle.mud_hall.specs.Steps.{Ask, Hall, AreLoadable, Begins, Step, At, Makes, IsRun}
 use Rattle.mud_hall.specs.Right.{TellsJourney, TellsProof, IsCertified}
 
--- what is true of an answer about a journey: it names its version and tells the journey as it is, and the checker
--- accepts its certificate with the text of the history
-abbrev pub IsRight : State → ℕ → Option ℕ → Verdict → Answered → List Entry → Type 0
-IsRight w v (Some p) (verdict.Ask (query.Journey journey)) a later =
-    (a.version ≡ v) × TellsJourney w p journey a.text a.cert × IsCertified later v a.cert
-IsRight w v (Some p) (verdict.Ask (query.Proof journey)) a later =
-    (text : List ℕ) × (a.version ≡ v) × TellsJourney w p journey text a.cert × TellsProof a.cert a.text
-    × IsCertified later v a.cert
-IsRight w v player other a later = Unit {0}
+-- what is true of an answer about a journey after these entries: it names their version and tells the journey as it is
+-- in their world, and the checker accepts its certificate with every history that begins with them
+abbrev pub IsRight : List Entry → Option ℕ → Verdict → Answered → Type 0
+IsRight h (Some p) (verdict.Ask (query.Journey journey)) a =
+    (a.version ≡ length h) × TellsJourney (world_after h) p journey a.text a.cert × IsCertified h a.cert
+IsRight h (Some p) (verdict.Ask (query.Proof journey)) a =
+    (text : List ℕ) × (a.version ≡ length h) × TellsJourney (world_after h) p journey text a.cert
+    × TellsProof a.cert a.text × IsCertified h a.cert
+IsRight h player other a = Unit {0}
 
--- In every run, whatever the desks did before, and at every later moment: an answer about a journey at a desk that has
--- seen v entries is right in the world after the first v entries of the history, and its certificate is accepted with
--- the history of that moment.
+-- In every run, whatever the desks did before: the entries that a desk has seen are the first of the history, and its
+-- answer about a journey is right after them.
 abbrev pub GuideIsRight : Type 0
 GuideIsRight =
-    (capacity : ℕ) (begin : Hall) → capacity ≤ 65536 → Begins capacity begin
-    → (before : List Step) (hall : Hall) → IsRun begin before hall
-    → (s : ℕ) (line : List ℕ) (a : Answered) (next : Hall) → Makes hall (Ask s line (Some a)) next
-    → (behind : List Step) (later : Hall) → IsRun next behind later
-    → (d : DeskState) (v : ℕ) → hall.desks s ≡ Some d → length d.seen ≡ v
-    → let h : List Entry = take v hall.history in
-    IsRight (world_after h) v d.player (verdict_on h d.player line) a later.history
+    (capacity : ℕ) (loaded : List Entry) (begin : Hall) → Begins capacity loaded begin
+    → (steps : List Step) (hall : Hall) → IsRun capacity loaded begin steps hall
+    → (s : ℕ) (line : List ℕ) (a : Answered) (next : Hall) → Makes capacity loaded hall (At s (Ask line (Some a))) next
+    → (d : DeskState) → hall.desks s ≡ Some d
+    → IsPrefix d.seen hall.history × IsRight d.seen d.player (verdict_on d.seen d.player line) a
+
+-- In every run the history is one that a hall can begin with, and every later history of the run begins with it.
+abbrev pub HistoryGoesOn : Type 0
+HistoryGoesOn =
+    (capacity : ℕ) (loaded : List Entry) (begin : Hall) → Begins capacity loaded begin
+    → (steps : List Step) (hall : Hall) → IsRun capacity loaded begin steps hall
+    → (more : List Step) (later : Hall) → IsRun capacity loaded hall more later
+    → AreLoadable capacity later.history × IsPrefix hall.history later.history
 
 -- from the world after the first entries of a history the changes by the exits of a player's walk are each legal, and
 -- end where the walk leads

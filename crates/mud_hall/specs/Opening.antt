@@ -10,7 +10,7 @@ pub record Begun : Type 0 where
   pub cells : List ℕ
   pub loaded : List Accepted
 
--- why a hall of a history of at most so many does not go on from these entries
+-- why a hall whose history can have `capacity` entries does not go on from these
 abbrev pub IsLoadFault : ℕ → List Accepted → LoadFault → Type 0
 IsLoadFault capacity entries OutOfMemory = Unit {0}
 IsLoadFault capacity entries (BadChange n) = IsFirstIllegal (changes_of entries) n

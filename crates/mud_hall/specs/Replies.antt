@@ -3,7 +3,6 @@ use Rattle.std.specs.Prelude.{◌≡◌, ℕ, ◌+◌, ◌<◌, List, length, Op
 use Rattle.mud_words.specs.Parse.{parsed}
 use Rattle.mud_world.specs.declared.change.Change.{Change}
 use Rattle.mud_world.specs.declared.refusal.Refusal.{Refusal}
-use Rattle.mud_rules.specs.declared.verdict.Query.{Query}
 use Rattle.mud_rules.specs.declared.verdict.Verdict.{Verdict}
 use Rattle.mud_rules.specs.declared.verdict.Verdict.TheVariants as verdict
 use Rattle.mud_rules.specs.Table.{decision}
@@ -12,7 +11,7 @@ use Rattle.mud_chron.specs.Entry.{Accepted as Entry}
 use Rattle.mud_hall.specs.declared.reply.Reply.{Reply as Returned}
 use Rattle.mud_hall.specs.declared.reply.Reply.TheVariants as returned
 use Rattle.mud_hall.specs.declared.fault.Fault.{Fault}
-use Rattle.mud_hall.specs.declared.fault.Fault.TheVariants.{OutOfMemory, HistoryFull, Unpublished, DesksFull}
+use Rattle.mud_hall.specs.declared.fault.Fault.TheVariants.{OutOfMemory, HistoryFull, Unpublished}
 use Rattle.mud_hall.specs.Told.{world_after}
 use Rattle.mud_hall.specs.Desk.{DeskState, TakesIn, as_player, as_accepted}
 
@@ -32,11 +31,11 @@ shown (Ok (returned.Refused v f text)) = Refused v f (string_bytes text)
 shown (Ok (returned.Question v)) = Question v
 shown (Err fault) = Failed fault
 
--- what a line comes to for a player, after a history
+-- what a line is decided to be for a player, after a history
 abbrev pub verdict_on : List Entry → Option ℕ → List ℕ → Verdict
 verdict_on h player line = decision (world_after h) player (parsed line)
 
--- a change is the next entry of a history of at most so many, or is not stored
+-- a change is the next entry of a history that can have `capacity` entries, or is not stored
 abbrev pub Stores : ℕ → DeskState → Change → Reply → DeskState → Type 0
 Stores capacity s e (Accepted v text) new =
     (length s.seen < capacity) × (v ≡ length s.seen + 1) × (text ≡ reply_text (world_after s.seen) e)
@@ -46,26 +45,18 @@ Stores capacity s e (Failed Unpublished) new = (length s.seen < capacity) × (ne
 Stores capacity s e (Failed OutOfMemory) new = new ≡ s
 Stores capacity s e other new = ⊥
 
--- the line comes to a change, which is stored or is not
-pub record Changes (capacity : ℕ) (s : DeskState) (line : List ℕ) (reply : Reply) (new : DeskState) : Type 0 where
-  pub change : Change
-  pub decides : verdict_on s.seen s.player line ≡ verdict.Change change
-  pub stores : Stores capacity s change reply new
+-- the reply by what a line is decided to be, and the desk then; where memory is refused it stays as it was
+abbrev pub Comes : ℕ → DeskState → Verdict → Reply → DeskState → Type 0
+Comes capacity s (verdict.Change e) reply new = Stores capacity s e reply new
+Comes capacity s other (Failed OutOfMemory) new = new ≡ s
+Comes capacity s (verdict.Become p) reply new =
+    (reply ≡ Became (length s.seen) (welcome_text p)) × (new ≡ as_player s p)
+Comes capacity s (verdict.Refused f) reply new = (reply ≡ Refused (length s.seen) f (refusal_text f)) × (new ≡ s)
+Comes capacity s (verdict.Ask q) reply new = (reply ≡ Question (length s.seen)) × (new ≡ s)
 
 -- a desk replies to the line by all that it has seen
 abbrev pub Replies : ℕ → DeskState → List ℕ → Reply → DeskState → Type 0
-Replies capacity s line (Accepted v text) new = Changes capacity s line (Accepted v text) new
-Replies capacity s line (Became v text) new =
-    (p : ℕ) × (verdict_on s.seen s.player line ≡ verdict.Become p) × (v ≡ length s.seen) × (text ≡ welcome_text p)
-    × (new ≡ as_player s p)
-Replies capacity s line (Refused v f text) new =
-    (verdict_on s.seen s.player line ≡ verdict.Refused f) × (v ≡ length s.seen) × (text ≡ refusal_text f) × (new ≡ s)
-Replies capacity s line (Question v) new =
-    (q : Query) × (verdict_on s.seen s.player line ≡ verdict.Ask q) × (v ≡ length s.seen) × (new ≡ s)
-Replies capacity s line (Failed HistoryFull) new = Changes capacity s line (Failed HistoryFull) new
-Replies capacity s line (Failed Unpublished) new = Changes capacity s line (Failed Unpublished) new
-Replies capacity s line (Failed OutOfMemory) new = new ≡ s
-Replies capacity s line (Failed DesksFull) new = ⊥
+Replies capacity s line reply new = Comes capacity s (verdict_on s.seen s.player line) reply new
 
 -- the desk takes entries in, and then replies to the line
 pub record Acts (capacity : ℕ) (old : DeskState) (line : List ℕ) (reply : Reply) (new : DeskState) : Type 0 where

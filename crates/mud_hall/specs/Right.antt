@@ -2,6 +2,7 @@
 use Rattle.std.specs.Prelude.{◌≡◌, ℕ, ◌≤◌, List, [], ◌∷◌, ◌++◌, length, Option, Some, None, codes}
 use Rattle.std.specs.Option.{IsSomeAnd, option_map}
 use Rattle.std.specs.List.{AllZip}
+use mathlib.Core.List.{IsPrefix}
 use Rattle.mud_world.specs.State.{State, place_of}
 use Rattle.mud_roads.specs.declared.label.Step.{Step}
 use Rattle.mud_roads.specs.Walks.{Walk, NoWalk, HasLeast, exits_of}
@@ -22,6 +23,7 @@ use Rattle.mud_cert.specs.Valid.{IsPlace}
 use Rattle.mud_guide.specs.Ways.{cost_of}
 use Rattle.mud_guide.specs.Journeys.{Journey, goers_of}
 use Rattle.mud_guide.specs.Texts.{route_text, meet_text}
+use Rattle.mud_hall.specs.Steps.{AreLoadable}
 
 -- a walk open to p from one room to another; none costs less, or as much with fewer exits
 pub record IsBestWalk (w : State) (p from to : ℕ) (ss : List Step) : Type 0 where
@@ -59,7 +61,7 @@ pub record TellsRoute (w : State) (p to : ℕ) (text : List ℕ) (cert : Option 
   pub text_is : text ≡ route_text to journey
   pub certified : IsSomeAnd cert (Certifies (journey ∷ []) (Route to (option_map cost_of journey.way)))
 
--- the text tells where the party meets by costs alone, and the best way of each, or that there is no meeting, and the
+-- the text tells where the party meets by costs only, and the best way of each, or that there is no meeting, and the
 -- certificate is of those ways
 pub record TellsMeeting (w : State) (party : List ℕ) (text : List ℕ) (cert : Option Certificate) : Type 0 where
   pub place : Option Meeting
@@ -80,9 +82,13 @@ pub record IsAcceptedWith (h : List Entry) (c : Certificate) : Type 0 where
   pub written : SpellsHistory (written_text h) h
   pub accepted : (text : List ℕ) → SpellsHistory text h → IsFinding text (cert_text c) finding.Accepted
 
--- there is a certificate, of that version, and the checker accepts it with the text of the history
-abbrev pub IsCertified : List Entry → ℕ → Option Certificate → Type 0
-IsCertified h v cert = IsSomeAnd cert (λ c. (c.version ≡ v) × IsAcceptedWith h c)
+-- the checker accepts it with the text of every history that begins with these entries and that a hall can begin with
+abbrev pub IsAcceptedFrom : List Entry → Certificate → Type 0
+IsAcceptedFrom h c = (g : List Entry) → IsPrefix h g → AreLoadable 65536 g → IsAcceptedWith g c
+
+-- there is a certificate of the version of these entries, which the checker accepts with every history from them on
+abbrev pub IsCertified : List Entry → Option Certificate → Type 0
+IsCertified h cert = IsSomeAnd cert (λ c. (c.version ≡ length h) × IsAcceptedFrom h c)
 
 -- the text is that of the certificate; its last line has no end
 abbrev pub TellsProof : Option Certificate → List ℕ → Type 0

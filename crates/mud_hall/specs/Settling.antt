@@ -13,7 +13,7 @@ abbrev pub versions_by : ℕ → ℕ → List Accepted → List ℕ
 versions_by n v [] = []
 versions_by n v (e ∷ es) = (if e.desk == n then v ∷ [] else []) ++ versions_by n (v + 1) es
 
--- the entries of a history behind those that were loaded
+-- the entries of a history after those that were loaded
 abbrev pub made : List Accepted → List Accepted → List Accepted
 made loaded history = drop (length loaded) history
 
@@ -31,7 +31,7 @@ pub record IsGathered (loaded : List Accepted) (desks : List View) (history : Li
   pub known : All (λ d. IsPrefix d.state.seen history) desks
   pub some : (history ≡ loaded) ⊎ Any (λ d. history ≡ d.state.seen) desks
 
--- the history that these desks made: behind what was loaded each entry is a call of the desk whose number it bears, and
+-- the history that these desks made: after what was loaded each entry is a call of the desk whose number it bears, and
 -- each desk's calls are there once, in their order
 pub record IsSettled (loaded : List Accepted) (desks : List View) (history : List Accepted) : Type 0 where
   pub gathered : IsGathered loaded desks history

@@ -1,25 +1,46 @@
 -- A hall: one history, many desks, and the steps that they take.
-use Rattle.std.specs.Prelude.{◌≡◌, ◌≢◌, ℕ, ◌+◌, ◌≤◌, ◌⊎◌, nat_eq, if◌then◌else◌}
+use Rattle.std.specs.Prelude.{◌≡◌, ℕ, ◌+◌, ◌≤◌, ◌⊎◌, nat_eq, if◌then◌else◌}
 use Rattle.std.specs.Prelude.{List, [], ◌∷◌, ◌++◌, length, Option, Some, None}
 use Rattle.std.specs.List.{AllByRecursion}
 use mathlib.Core.List.{IsPrefix}
 use Rattle.mud_chron.specs.Entry.{Accepted as Entry, IsEntry}
 use Rattle.mud_chron.specs.Replay.{changes_of, AreLegal}
-use Rattle.mud_hall.specs.Desk.{DeskState, new_desk, as_guest, as_player, TakesIn, Learns}
-use Rattle.mud_hall.specs.Replies.{Reply, Acts}
-use Rattle.mud_hall.specs.Replies.{Accepted}
+use Rattle.mud_hall.specs.Desk.{DeskState, new_desk, as_guest, as_player, TakesIn, Learns, HandsOut, IsNew}
+use Rattle.mud_hall.specs.Replies.{Reply, Accepted, Acts}
 use Rattle.mud_hall.specs.Answers.{Answered, Answers}
 
--- a hall: how many entries its history can have, how many were loaded, its history, how many desks were given, and
--- each desk by its number
+-- ---- the calls of a desk
+
+-- a call of a desk, with what it is answered
+pub data Call : Type 0 where
+  See : Call
+  Act : (line : List ℕ) → (reply : Reply) → Call
+  Ask : (line : List ℕ) → (answer : Option Answered) → Call
+  Guest : Call
+  Told : (lines : List (List ℕ)) → Call
+
+-- what a call does to its desk; an answer is by what the desk has seen, and there is none where memory is refused
+abbrev pub Performs : ℕ → DeskState → Call → DeskState → Type 0
+Performs capacity was See is = TakesIn was is
+Performs capacity was (Act line reply) is = Acts capacity was line reply is
+Performs capacity was (Ask line None) is = is ≡ was
+Performs capacity was (Ask line (Some a)) is = Answers was line a × (is ≡ was)
+Performs capacity was Guest is = is ≡ as_guest was
+Performs capacity was (Told lines) is = HandsOut was lines is
+
+-- calls one after the other
+abbrev pub PerformsAll : ℕ → DeskState → List Call → DeskState → Type 0
+PerformsAll capacity was [] is = is ≡ was
+PerformsAll capacity was (call ∷ calls) is =
+    (now : DeskState) × Performs capacity was call now × PerformsAll capacity now calls is
+
+-- ---- how a hall begins
+
+-- a hall: its history, how many desks were given, and each desk by its number
 pub record Hall : Type 0 where
-  pub capacity : ℕ
-  pub loaded : ℕ
   pub history : List Entry
   pub given : ℕ
   pub desks : ℕ → Option DeskState
-
--- ---- how a hall begins
 
 -- what a hall can begin with: entries that are each legal in turn, no more than the history can have
 pub record AreLoadable (capacity : ℕ) (entries : List Entry) : Type 0 where
@@ -28,91 +49,60 @@ pub record AreLoadable (capacity : ℕ) (entries : List Entry) : Type 0 where
   pub few : length entries ≤ capacity
 
 -- at first the history is what was loaded, and there is no desk
-abbrev pub opened : ℕ → List Entry → Hall
-opened capacity entries =
-    record { capacity = capacity; loaded = length entries; history = entries; given = 0; desks = λ s. None }
+abbrev pub opened : List Entry → Hall
+opened loaded = record { history = loaded; given = 0; desks = λ s. None }
+
+-- the hall with this history and with this desk at number s
+abbrev pub seats : Hall → List Entry → ℕ → DeskState → Hall
+seats hall history s d =
+    record { history = history; given = hall.given; desks = λ t. if nat_eq t s then Some d else hall.desks t }
 
 -- the wizard is at desk 1, which has seen nothing
 abbrev pub lone_desk : DeskState
 lone_desk = as_player (new_desk 1 []) 1
 
--- the hall of one caller alone
-abbrev pub opened_alone : ℕ → Hall
-opened_alone capacity = record {
-  capacity = capacity;
-  loaded = 0;
-  history = [];
-  given = 1;
-  desks = λ s. if nat_eq s 1 then Some lone_desk else None;
-}
+-- the hall of one caller
+abbrev pub opened_alone : Hall
+opened_alone = record (seats (opened []) [] 1 lone_desk) { given = 1 }
 
-abbrev pub Begins : ℕ → Hall → Type 0
-Begins capacity hall =
-    ((loaded : List Entry) × AreLoadable capacity loaded × (hall ≡ opened capacity loaded))
-    ⊎ (hall ≡ opened_alone capacity)
+-- a hall begins with what was loaded and no desk, or with one desk and nothing loaded
+abbrev pub Begins : ℕ → List Entry → Hall → Type 0
+Begins capacity loaded hall =
+    (AreLoadable capacity loaded × (hall ≡ opened loaded)) ⊎ ((loaded ≡ []) × (hall ≡ opened_alone))
 
 -- ---- its steps
 
--- the steps of desks by their numbers, with what they are answered
+-- a desk is given, a desk learns from another, or something is called at a desk; desks are named by their numbers
 pub data Step : Type 0 where
-  Desks : (s : ℕ) → Step
-  See : (s : ℕ) → Step
+  Desk : (s : ℕ) → Step
   Learn : (s : ℕ) → (t : ℕ) → Step
-  Act : (s : ℕ) → (line : List ℕ) → (reply : Reply) → Step
-  Ask : (s : ℕ) → (line : List ℕ) → (answer : Option Answered) → Step
-  Guest : (s : ℕ) → Step
+  At : (s : ℕ) → (call : Call) → Step
 
--- a new guest's desk of the next number has seen a beginning of the history, at least what was loaded
-pub record Gives (old : Hall) (s : ℕ) (new : Hall) : Type 0 where
-  pub next : s ≡ old.given + 1
-  pub few : s ≤ 64
-  pub seen : List Entry
-  pub loads : old.loaded ≤ length seen
-  pub known : IsPrefix seen old.history
-  pub given : new.given ≡ s
-  pub desk : new.desks s ≡ Some (new_desk s seen)
-  pub others : (t : ℕ) → t ≢ s → new.desks t ≡ old.desks t
-  pub history : new.history ≡ old.history
-  pub capacity : new.capacity ≡ old.capacity
-  pub loaded : new.loaded ≡ old.loaded
-
--- desk s alone changes, and what it has seen is a beginning of the history
+-- desk s was so before and is so after, and what it has seen is a beginning of the history; no other desk changes
 pub record Turns (old : Hall) (s : ℕ) (was is : DeskState) (new : Hall) : Type 0 where
   pub before : old.desks s ≡ Some was
-  pub after : new.desks s ≡ Some is
   pub known : IsPrefix is.seen new.history
-  pub others : (t : ℕ) → t ≢ s → new.desks t ≡ old.desks t
-  pub given : new.given ≡ old.given
-  pub capacity : new.capacity ≡ old.capacity
-  pub loaded : new.loaded ≡ old.loaded
+  pub after : new ≡ seats old new.history s is
 
--- the history after a reply: an accepted change ends it, and then the desk has seen all of it; else it stays
-abbrev pub Grows : Reply → List Entry → DeskState → List Entry → Type 0
-Grows (Accepted version text) old is new = (e : Entry) × (new ≡ old ++ e ∷ []) × (is.seen ≡ new)
+-- the history after a call: an accepted change ends it, and then the desk has seen all of it; else it stays
+abbrev pub Grows : Call → List Entry → DeskState → List Entry → Type 0
+Grows (Act line (Accepted version text)) old is new = (e : Entry) × (new ≡ old ++ e ∷ []) × (is.seen ≡ new)
 Grows other old is new = new ≡ old
 
--- an answer is by what the desk has seen; where memory is refused there is none
-abbrev pub AnswersIfAny : DeskState → List ℕ → Option Answered → Type 0
-AnswersIfAny d line None = Unit {0}
-AnswersIfAny d line (Some a) = Answers d line a
-
--- what a step does to a hall
-abbrev pub Makes : Hall → Step → Hall → Type 0
-Makes old (Desks s) new = Gives old s new
-Makes old (See s) new =
-    (was : DeskState) × (is : DeskState) × Turns old s was is new × (new.history ≡ old.history) × TakesIn was is
-Makes old (Learn s t) new =
-    (was : DeskState) × (is : DeskState) × (other : DeskState) × Turns old s was is new
-    × (new.history ≡ old.history) × (old.desks t ≡ Some other) × Learns was other is
-Makes old (Act s line reply) new =
-    (was : DeskState) × (is : DeskState) × Turns old s was is new
-    × Grows reply old.history is new.history × Acts old.capacity was line reply is
-Makes old (Ask s line answer) new =
-    (d : DeskState) × (old.desks s ≡ Some d) × (new ≡ old) × AnswersIfAny d line answer
-Makes old (Guest s) new =
-    (was : DeskState) × (is : DeskState) × Turns old s was is new × (new.history ≡ old.history) × (is ≡ as_guest was)
+-- what a step does to a hall; a new desk has the next number, and has seen a beginning of the history
+abbrev pub Makes : ℕ → List Entry → Hall → Step → Hall → Type 0
+Makes capacity loaded old (Desk s) new =
+    (is : DeskState) × IsNew loaded is × (is.number ≡ s) × (s ≡ old.given + 1) × IsPrefix is.seen old.history
+    × (new ≡ record (seats old old.history s is) { given = s })
+Makes capacity loaded old (Learn s t) new =
+    (was : DeskState) × (is : DeskState) × (other : DeskState) × Turns old s was is new × (new.history ≡ old.history)
+    × (old.desks t ≡ Some other) × Learns was other is
+Makes capacity loaded old (At s call) new =
+    (was : DeskState) × (is : DeskState) × Turns old s was is new × Grows call old.history is new.history
+    × Performs capacity was call is
 
 -- steps one after the other
-abbrev pub IsRun : Hall → List Step → Hall → Type 0
-IsRun old [] new = old ≡ new
-IsRun old (step ∷ steps) new = (hall : Hall) × Makes old step hall × IsRun hall steps new
+abbrev pub IsRun : ℕ → List Entry → Hall → List Step → Hall → Type 0
+IsRun capacity loaded old [] new = old ≡ new
+IsRun capacity loaded old (step ∷ steps) new =
+    (hall : Hall) × Makes capacity loaded old step hall × IsRun capacity loaded hall steps new

@@ -69,7 +69,7 @@ impl<J: HallName> Desk<J> {
         self.player = Some(player);
     }
 
-    // Adds a change to the history. What could lack memory is made before the cell is set.
+    // Adds a change to the history. All that takes memory is made before the cell is set.
     fn store(&mut self, alloc: Global, row: &Row, change: Change) -> Result<Reply, Fault>
         requires row { row.now ≡ J.cells }
         requires all { self.old.at ≡ length self.old.state.seen }

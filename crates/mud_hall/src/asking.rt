@@ -1,6 +1,6 @@
 //! Lines that ask.
 
-ghost use Rattle.std.specs.Prelude.{◌≡◌, ◌++◌, length, codes, string_bytes, None, IfOk};
+ghost use Rattle.std.specs.Prelude.{◌≡◌, ◌++◌, length, codes, string_bytes, None, IfOk, OnOk};
 ghost use Rattle.mud_rules.specs.Outcome.{IsQuestion, IsLawful};
 ghost use Rattle.mud_chron.specs.Text.{written_text};
 ghost use Rattle.mud_hall.specs.Told.{world_after};
@@ -34,6 +34,7 @@ impl<J: HallName> Desk<J> {
     ) -> Result<Answer, AllocError>
         requires { row.now ≡ J.cells }
         ensures same { self.new.state ≡ self.old.state }
+        ensures all { OnOk result (self.new.at ≡ length self.new.state.seen) }
         ensures ok { IfOk result (λ a. Answers self.old.state line.now (answered a)) }
     {
         self.catch_up(alloc, row)?;
@@ -45,6 +46,7 @@ impl<J: HallName> Desk<J> {
         requires row { row.now ≡ J.cells }
         requires all { self.old.at ≡ length self.old.state.seen }
         ensures same { self.new.state ≡ self.old.state }
+        ensures all { self.new.at ≡ length self.new.state.seen }
         ensures ok { IfOk result (λ a. Answers self.old.state line.now (answered a)) }
     {
         match self.verdict(alloc, line)? {
@@ -73,7 +75,7 @@ impl<J: HallName> Desk<J> {
         self.player
     }
 
-    // What a line comes to in the world of all that it has seen.
+    // What a line is decided to be in the world of all that it has seen.
     pub(crate) fn verdict(&self, alloc: Global, line: &str) -> Result<Verdict, AllocError>
         requires all { self.now.at ≡ length self.now.state.seen }
         ensures decision { IfOk result (λ v. v ≡ verdict_on self.now.state.seen self.now.state.player line.now) }
@@ -90,6 +92,7 @@ impl<J: HallName> Desk<J> {
         requires question { IsQuestion (world_after self.old.state.seen) query.now }
         requires player { CanAsk self.old.state.player query.now }
         ensures same { self.new.state ≡ self.old.state }
+        ensures all { self.new.at ≡ length self.new.state.seen }
         ensures version { IfOk result (λ a. a.version ≡ length self.old.state.seen) }
         ensures shown { IfOk result (λ a. IsShown self.old.state.seen self.old.state.player query.now (answered a)) }
     {
@@ -109,6 +112,7 @@ impl<J: HallName> Desk<J> {
     fn history(&mut self, alloc: Global, row: &Row) -> Result<Answer, AllocError>
         requires { row.now ≡ J.cells }
         ensures same { self.new.state ≡ self.old.state }
+        ensures at { self.new.at ≡ self.old.at }
         ensures version { IfOk result (λ a. a.version ≡ length self.old.state.seen) }
         ensures text { IfOk result
             (λ a. string_bytes a.text ++ codes "\n" ≡ codes "history\n" ++ written_text self.old.state.seen) }
@@ -133,6 +137,7 @@ impl<J: HallName> Desk<J> {
     ) -> Result<Answer, AllocError>
         requires { row.now ≡ J.cells }
         ensures same { self.new.state ≡ self.old.state }
+        ensures all { OnOk result (self.new.at ≡ length self.new.state.seen) }
         ensures ok { IfOk result (λ a. Answers self.old.state line.now (answered a)) }
     {
         self.catch_up(alloc, row)?;
@@ -150,6 +155,7 @@ impl<J: HallName> Desk<J> {
         requires row { row.now ≡ J.cells }
         requires all { self.old.at ≡ length self.old.state.seen }
         ensures same { self.new.state ≡ self.old.state }
+        ensures all { self.new.at ≡ length self.new.state.seen }
         ensures ok { IfOk result (λ a. Answers self.old.state line.now (answered a)) }
     {
         match self.verdict(alloc, line)? {
@@ -175,6 +181,7 @@ impl<J: HallName> Desk<J> {
         requires question { IsQuestion (world_after self.old.state.seen) query.now }
         requires player { CanAsk self.old.state.player query.now }
         ensures same { self.new.state ≡ self.old.state }
+        ensures all { self.new.at ≡ length self.new.state.seen }
         ensures version { IfOk result (λ a. a.version ≡ length self.old.state.seen) }
         ensures shown { IfOk result (λ a. IsShown self.old.state.seen self.old.state.player query.now (answered a)) }
     {

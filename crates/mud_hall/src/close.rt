@@ -116,8 +116,8 @@ impl<J: HallName> Kept<J> {
     }
 }
 
-// The pass comes to know all that any desk knows.
-fn gather<J: HallName>(desks: &mut Vec<Desk<J>>, whole: &mut Pass)
+// The pass learns all that any desk knows.
+pub(crate) fn gather<J: HallName>(desks: &mut Vec<Desk<J>>, whole: &mut Pass)
     requires { whole.old.row ≡ J.cells }
     ensures same { desks.new.items ≡ desks.old.items }
     ensures row { whole.new.row ≡ whole.old.row }
@@ -236,7 +236,7 @@ fn differing<J: HallName>(desks: &[Desk<J>], new: &[Entry], first: u32) -> Optio
 }
 
 impl<J: HallName> Desk<J> {
-    // The pass comes to know what the desk knows.
+    // The pass learns what the desk knows.
     fn tell(&mut self, whole: &mut Pass)
         requires { whole.old.row ≡ J.cells }
         ensures same { self.new ≡ self.old }

@@ -1,11 +1,13 @@
 //! Many desks over one history.
 
 ghost use Rattle.std.specs.Prelude.{◌≡◌, ◌≢◌, ◌≤◌, ◌<◌, ◌⊎◌, [], length, IfOk, IfErr, OnErr, OnOk};
-ghost use Rattle.mud_chron.specs.Replay.{changes_of, AreLegal};
+ghost use Rattle.std.specs.List.{AllByRecursion};
+ghost use Rattle.mud_chron.specs.Entry.{IsEntry};
 ghost use Rattle.mud_hall.specs.Desk.{IsNew, TakesIn, untold};
 ghost use Rattle.mud_hall.specs.Replies.{Failed, shown, Acts};
 ghost use Rattle.mud_hall.specs.Answers.{answered, Answers};
 ghost use Rattle.mud_hall.specs.Opening.{Begun, IsLoadFault};
+ghost use Rattle.mud_hall.specs.Steps.{AreLoadable};
 
 use crate::crew::Crew;
 use crate::desk::Desk;
@@ -50,8 +52,8 @@ impl Model for NewHall {
 }
 
 impl NewHall {
-    /// A hall whose history is empty and can have so many entries, 1 to 65,536. Only want of memory
-    /// is an error.
+    /// A hall whose history is empty and can have `capacity` entries, 1 to 65,536. The only error is
+    /// out of memory.
     pub fn open(alloc: Global, capacity: u32) -> Result<NewHall, AllocError>
         requires from { 1 ≤ capacity }
         requires to { capacity ≤ 65536 }
@@ -77,7 +79,7 @@ impl NewHall {
         requires to { capacity ≤ 65536 }
         ensures capacity { IfOk result (λ h. length h.cells ≡ capacity) }
         ensures loaded { IfOk result (λ h. h.loaded ≡ entries.items) }
-        ensures legal { OnOk result (AreLegal (changes_of entries.items)) }
+        ensures loadable { OnOk result (AreLoadable capacity entries.items) }
         ensures fault { IfErr result (IsLoadFault capacity entries.items) }
     {
         if let Err(fault) = is_loadable(alloc, capacity, &entries) {
@@ -125,8 +127,7 @@ impl NewHall {
 
 // Whether each change is legal where it stands, and the history can have them all.
 fn is_loadable(alloc: Global, capacity: u32, entries: &[Entry]) -> Result<(), LoadFault>
-    ensures legal { OnOk result (AreLegal (changes_of entries.now)) }
-    ensures few { OnOk result (length entries.now ≤ capacity) }
+    ensures loadable { OnOk result (AreLoadable capacity entries.now) }
     ensures fault { IfErr result (IsLoadFault capacity entries.now) }
 {
     match replay(alloc, entries) {
@@ -138,7 +139,17 @@ fn is_loadable(alloc: Global, capacity: u32, entries: &[Entry]) -> Result<(), Lo
     if entries.len() > capacity as usize {
         return Err(LoadFault::OverCapacity);
     }
+    are_entries(entries);
     Ok(())
+}
+
+// What is true of every entry is true of each of these.
+fn are_entries(entries: &[Entry])
+    ensures { AllByRecursion IsEntry entries.now }
+{
+    for entry in entries {
+        let _ = entry.desk();
+    }
 }
 
 /// One history, and the desks of those who make it. The lock keeps how many desks were given and what
@@ -207,6 +218,7 @@ impl<J: HallName> Desk<J> {
     /// waits for nobody.
     pub fn ask(&mut self, hall: &Hall<J>, line: &str) -> Result<Answer, Fault>
         ensures same { self.new.state ≡ self.old.state }
+        ensures told { OnOk result (untold self.new ≡ []) }
         ensures ok { IfOk result (λ a. Answers self.old.state line.now (answered a)) }
         ensures fault { IfErr result (λ f. f ≡ Fault.OutOfMemory) }
     {
@@ -214,9 +226,9 @@ impl<J: HallName> Desk<J> {
         Ok(answer)
     }
 
-    /// Answers as [`Desk::ask`], where the guide is asked by so many workers, who pass the gate with
-    /// each room; the caller's thread is the first (see [`mud_search::labels`]). It waits for those
-    /// workers alone, and ends if the gate lets all pass.
+    /// Answers as [`Desk::ask`], where the guide searches by `workers` threads, which pass the gate with
+    /// each room; the caller's thread is the first (see [`mud_search::labels`]). It waits only for
+    /// those, and ends if the gate lets all pass.
     pub fn ask_with<R: Threads + Wait + Sync, G: Gate + Sync>(
         &mut self,
         rt: &R,
@@ -226,6 +238,7 @@ impl<J: HallName> Desk<J> {
         gate: &G,
     ) -> Result<Answer, Fault>
         ensures same { self.new.state ≡ self.old.state }
+        ensures told { OnOk result (untold self.new ≡ []) }
         ensures ok { IfOk result (λ a. Answers self.old.state line.now (answered a)) }
         ensures fault { IfErr result (λ f. f ≡ Fault.OutOfMemory) }
     {

@@ -7,15 +7,16 @@ ghost use Rattle.mud_hall.specs.Desk.{IsNew};
 use crate::desk::Desk;
 use crate::fault::Fault;
 use crate::name::HallName;
+use crate::reader::Reader;
 use mud_row::{Pass, Replica, Row};
-use std::alloc::Global;
+use std::alloc::{AllocError, Global};
 use std::marker::{Model, PhantomData};
 
 /// The most desks of a hall.
 pub const MOST_DESKS: u32 = 64;
 
-/// How many desks were given, what the hall knows, which begins with what was loaded, and what was
-/// loaded alone. A contract sees the number.
+/// How many desks were given, what the hall knows, which begins with what was loaded, and only what
+/// was loaded. A contract sees the number.
 #[derive(Drop)]
 pub struct Kept<J: HallName> {
     given: u32,
@@ -58,6 +59,17 @@ impl<J: HallName> Kept<J> {
         ensures few { result ≤ 64 }
     {
         self.given
+    }
+
+    // A reader that has read what was loaded.
+    pub(crate) fn reader(&mut self, alloc: Global) -> Result<Reader<J>, AllocError>
+        ensures { IfOk result (λ r. r ≡ J.loaded) }
+    {
+        let pass = self.start.again(alloc)?;
+        Ok(Reader {
+            pass,
+            of: PhantomData,
+        })
     }
 
     // The desk of the next number, which has seen all that is found.

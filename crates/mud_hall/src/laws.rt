@@ -1,6 +1,6 @@
-//! What is known of the definitions alone: each contract is a law, and its function does nothing.
+//! Laws of the definitions: each contract is a law, and its function does nothing.
 
-ghost use Rattle.mud_hall.specs.Laws.{GuideIsRight, WalksGo};
+ghost use Rattle.mud_hall.specs.Laws.{GuideIsRight, HistoryGoesOn, WalksGo};
 
 use mud_cert::laws::{drops_nothing, valid_is_optimal};
 use mud_cert::text_laws::no_return;
@@ -21,6 +21,11 @@ pub fn guide()
     routes();
     meeting_cost();
 }
+
+/// In every run the history is a legal one, and goes on.
+pub fn going_on()
+    ensures { HistoryGoesOn }
+{}
 
 /// From the world of a version a player's changes by the exits of his walk are each legal, and end
 /// where the walk leads.

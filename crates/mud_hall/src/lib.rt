@@ -1,4 +1,42 @@
-//! Many desks over one history.
+//! Many desks over one history: who acts, asks and hears, and what is settled at the end.
+//!
+//! A [`Hall`] has one history of accepted changes. Each caller has a [`Desk`] of it: a number, a player or none, the
+//! entries that it has seen, and a world of its own to which they lead. A desk acts under the lock of the hall; it sees
+//! and asks without it. A [`Solo`] is a desk that nobody else shares, without a lock.
+//!
+//! | Calls | Answer |
+//! |---|---|
+//! | `NewHall::open`, `resume` | a hall with no entry, or one that goes on from entries: [`LoadFault`] |
+//! | `NewHall::named` | the same hall by its [`HallName`], which its type and those of its desks carry |
+//! | `Hall::capacity`, `loaded` | how many entries the history can have, and how many it began with |
+//! | `Hall::desk` | a guest's desk of the next number: [`Fault`] |
+//! | `Hall::act` | takes all entries in, and replies to a line in that world: [`Reply`], [`Fault`] |
+//! | `Desk::see` | takes in all entries that are found |
+//! | `Desk::ask`, `ask_with` | the answer to a line by exactly what the desk has seen; the guide by several workers |
+//! | `Desk::take_told` | the lines that tell what others did, each once |
+//! | `Desk::learn`, `guest` | knows what another desk knows; is a guest's desk again |
+//! | `Desk::number`, `seen`, `accepted` | its number, and how many entries it has seen and made |
+//! | `Hall::reader` | a [`Reader`], which reads the entries in order and makes none |
+//! | `Hall::close` | the one history that the desks made, [`Settled`], or all of it back: [`CloseFault`] |
+//! | `Solo::open`, `act`, `ask`, .. | the same for one caller, who begins as the wizard |
+//!
+//! ```text
+//! let hall = NewHall::open(alloc, 65536)?.named::<J>();
+//! let mut desk = hall.desk(&rt)?;
+//! let reply = hall.act(&rt, &mut desk, "connect wizard")?; // Became { version: 0, text: "welcome #1" }
+//! let answer = desk.ask(&hall, "route to #0")?; // its text is "route #0 to #0 cost 0 by nothing"
+//! ```
+//!
+//! A desk and its hall fit by their types: a function that opens a hall picks the name where it calls the one that goes
+//! on with it. After a fault the history has no entry of the call, and the desk has seen no less than before.
+//!
+//! Proved is that each call does to its desk what specs/Steps.antt says: a line is decided in the world of all that its
+//! desk has seen, an accepted change is the next entry, an answer is by exactly what the desk has seen, and what others
+//! did is told once and in order. A settlement has each call of its desks once, in order, or a fault says why.
+//! [`laws::guide`] speaks of every list of such steps by any desks of one hall: an answer about a journey is best in
+//! the world of the version that it names, and the checker accepts its certificate with each history that begins so.
+//! That a desk finds at once what another has added, and that the calls of all desks stand in one order, no contract
+//! claims: the definition of a run supposes the second.
 #![tactic(auto)]
 
 mod acting;
@@ -13,6 +51,7 @@ mod hall;
 mod kept;
 pub mod laws;
 mod name;
+mod reader;
 mod reply;
 mod solo;
 mod texts;
@@ -22,5 +61,6 @@ pub use desk::Desk;
 pub use fault::{CloseFault, Fault, LoadFault};
 pub use hall::{Hall, NewHall};
 pub use name::HallName;
+pub use reader::Reader;
 pub use reply::Reply;
 pub use solo::Solo;

@@ -53,7 +53,7 @@ impl Model for Solo {
 
 impl Solo {
     /// The desk at first: the opening world, no entry, and the wizard, #1. The history holds at most
-    /// `capacity` entries, up to 65,536. Only want of memory is an error.
+    /// `capacity` entries, up to 65,536. The only error is out of memory.
     pub fn open(alloc: Global, capacity: u32) -> Result<Solo, AllocError>
         requires { capacity ≤ 65536 }
         ensures { IfOk result (λ solo. solo ≡ alone capacity 1 []) }
@@ -69,8 +69,8 @@ impl Solo {
         })
     }
 
-    /// From now on so many workers search for what the guide is asked; at first there are none, and
-    /// the caller's thread searches alone. The answers are the same.
+    /// From now on the guide searches by this many workers; at first there are none, and only the
+    /// caller's thread searches. The answers are the same.
     pub fn set_workers(&mut self, workers: u32)
         ensures { self.new ≡ self.old }
     {
@@ -108,7 +108,7 @@ impl Solo {
         }
     }
 
-    // What a line comes to.
+    // What a line is decided to be.
     fn verdict(&self, line: &str) -> Result<Verdict, AllocError>
         ensures decision { IfOk result (λ v. v ≡ verdict_on self.now.state.seen self.now.state.player line.now) }
         ensures lawful { IfOk result (IsLawful (world_after self.now.state.seen) self.now.state.player) }

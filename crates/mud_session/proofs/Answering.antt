@@ -1,6 +1,6 @@
 -- What a session does with a line.
 use Rattle.std.proofs.Common.{◌≡◌, ◌≢◌, ℕ, Bool, true, false, List, [], ◌++◌, Option, Some, None, Result, Ok, Err, refl}
-use Rattle.std.proofs.Common.{sym, ap, subst, ◌∙◌, append_assoc}
+use Rattle.std.proofs.Common.{sym, ap, subst, ◌∙◌, append_assoc, ◌⊎◌, inl, inr}
 use Rattle.std.specs.Prelude.{MatchBool, OnOk, codes, if◌then◌else◌}
 use Rattle.std.specs.List.{flat_map}
 use Rattle.std.specs.Option.{option_map}
@@ -9,15 +9,19 @@ use Rattle.std.proofs.lemmas.List.{append-nil}
 use Rattle.mud_words.specs.Words.{is_blank}
 use Rattle.mud_words.specs.Parse.{parsed}
 use Rattle.mud_nvt.specs.Units.{Given, Text}
+use Rattle.mud_world.specs.declared.change.Change.{Change}
+use Rattle.mud_rules.specs.declared.verdict.Verdict.{Verdict}
+use Rattle.mud_rules.specs.declared.verdict.Verdict.TheVariants as verdict
 use Rattle.mud_rules.specs.Table.{is_question, is_quit}
 use Rattle.mud_rules.specs.Laws.{AreQuestions}
 use Rattle.mud_hall.specs.declared.fault.Fault.TheVariants.{OutOfMemory, HistoryFull, Unpublished, DesksFull}
 use Rattle.mud_hall.specs.Told.{world_after}
-use Rattle.mud_hall.specs.Desk.{DeskState, with_told}
-use Rattle.mud_hall.specs.Replies.{Reply, Accepted, Became, Refused, Question, Failed, Replies}
+use Rattle.mud_hall.specs.Desk.{DeskState, HandsOut, with_told}
+use Rattle.mud_hall.specs.Replies.{Reply, Accepted, Became, Refused, Question, Failed, Stores, Replies, verdict_on}
+use Rattle.mud_hall.proofs.Coming.{Plain, plainly, stays_in_memory}
 use Rattle.mud_hall.specs.Answers.{Answered, Answers}
 use Rattle.mud_session.specs.State.{State, DoorState, talk_of}
-use Rattle.mud_session.specs.Session.{TakingIn, IsShared, Said, Turn, Does, Rests, Tells, Looks, IsActed, IsAsked}
+use Rattle.mud_session.specs.Session.{TakingIn, IsShared, Said, Turn, Does, Rests, Looks, IsActed, IsAsked}
 use Rattle.mud_session.specs.Session.{IsAnswered, numbered, reply_line, sent, answer_to}
 use Rattle.mud_session.specs.Feeding.{Nudges}
 use Rattle.mud_session.specs.Turning.{sends, sent_for, Told, Looked, IsSaid, Replied, HasTurn}
@@ -29,19 +33,34 @@ on_ok (Err e) f h = tt
 
 -- ---- the reply
 
+-- what is replied to a change
+stored : (capacity : ℕ) (ready : DeskState) (e : Change) (reply : Reply) (new : DeskState)
+    → Stores capacity ready e reply new → IsSaid reply
+stored capacity ready e (Accepted v text) new h = tt
+stored capacity ready e (Failed HistoryFull) new h = tt
+stored capacity ready e (Failed Unpublished) new h = tt
+stored capacity ready e (Failed OutOfMemory) new h = tt
+stored capacity ready e (Failed DesksFull) new h = absurd h
+stored capacity ready e (Became v text) new h = absurd h
+stored capacity ready e (Refused v refusal text) new h = absurd h
+stored capacity ready e (Question v) new h = absurd h
+
 -- a line that is no question gets a reply of one that acts
 pub sayable : AreQuestions → (capacity : ℕ) (ready : DeskState) (line : List ℕ) (reply : Reply) (new : DeskState)
     → is_question (parsed line) ≡ false
     → Replies capacity ready line reply new → IsSaid reply
-sayable law capacity ready line (Accepted v text) new other h = tt
-sayable law capacity ready line (Became v text) new other h = tt
-sayable law capacity ready line (Refused v refusal text) new other h = tt
-sayable law capacity ready line (Question v) new other (q, asks, version, same) =
-    absurd (true≢false (sym (law (world_after ready.seen) ready.player (parsed line) q asks) ∙ other))
-sayable law capacity ready line (Failed OutOfMemory) new other h = tt
-sayable law capacity ready line (Failed HistoryFull) new other h = tt
-sayable law capacity ready line (Failed Unpublished) new other h = tt
-sayable law capacity ready line (Failed DesksFull) new other h = absurd h
+sayable law capacity ready line reply new other h =
+    let v : Verdict = verdict_on ready.seen ready.player line in
+    go v refl (plainly capacity ready v reply new h)
+  where
+    go : (v : Verdict) → verdict_on ready.seen ready.player line ≡ v
+        → ((reply ≡ Failed OutOfMemory) × (new ≡ ready)) ⊎ Plain capacity ready v reply new → IsSaid reply
+    go v is (inl c) = subst IsSaid (sym c.0) tt
+    go (verdict.Change e) is (inr c) = stored capacity ready e reply new c
+    go (verdict.Become p) is (inr c) = subst IsSaid (sym c.0) tt
+    go (verdict.Refused f) is (inr c) = subst IsSaid (sym c.0) tt
+    go (verdict.Ask q) is (inr c) =
+        absurd (true≢false (sym (law (world_after ready.seen) ready.player (parsed line) q is) ∙ other))
 
 out_twice : (s0 s1 s2 : State) (a b : List ℕ) → s1 ≡ sends s0 a → s2 ≡ sends s1 b → s2 ≡ sends s0 (a ++ b)
 out_twice s0 s1 s2 a b p q = q ∙ ap (λ (s : State). sends s b) p ∙ sends_twice s0 a b
@@ -147,8 +166,9 @@ acted T line s0 s1 s2 d0 d1 d2 reply goes plain (ready, takes, replies) stored t
         (λ e. let bad : ◌≡◌ {A = Reply} (Refused v f text) (Failed OutOfMemory) = e in cc) rs kept all is
     go (Question v) rs kept all can is = absurd can
     go (Failed OutOfMemory) rs kept all can is =
-        let tells_ready : Tells ready tells.lines d2.desk =
-        subst (λ (d : DeskState). Tells d tells.lines d2.desk) rs tells.tells in
+        let tells_ready : HandsOut ready tells.lines d2.desk =
+        subst (λ (d : DeskState). HandsOut d tells.lines d2.desk)
+        (stays_in_memory d0.capacity ready (verdict_on ready.seen ready.player line) d1.desk rs) tells.tells in
         let looked : Looked T s0 s1 d0.desk d2.desk = record {
           lines = tells.lines;
           looks = record { ready = ready; takes = takes; tells = tells_ready };

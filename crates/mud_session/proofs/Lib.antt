@@ -4,6 +4,8 @@ pub mod Playing
 pub mod Taking
 pub mod Sharing
 pub mod Telling
+pub mod Calling
+pub mod Running
 pub mod Fresh
 pub mod ServeLemmas
 pub mod ScriptLemmas

@@ -1,6 +1,6 @@
 -- A script has one text.
 use Rattle.std.proofs.Common.{◌≡◌, ◌<◌, ◌≢◌, ◌+◌, ℕ, Bool, true, false, List, [], ◌∷◌, ◌++◌, Option, None, Some, length}
-use Rattle.std.proofs.Common.{map, codes, refl, sym, ◌∙◌, ap, subst, arith}
+use Rattle.std.proofs.Common.{map, codes, refl, sym, ◌∙◌, ap, subst, arith, ◌⊎◌, inl, inr}
 use Rattle.std.specs.Prelude.{is_some, MatchBool, nat_lt, if◌then◌else◌}
 use Rattle.std.specs.Option.{IsSomeAnd}
 use Rattle.std.proofs.lemmas.Bool.Decides.{nat_tests}
@@ -27,11 +27,12 @@ use Rattle.mud_guide.specs.Laws.{AreAlike}
 use Rattle.mud_guide.proofs.Single.{route_answer_is_one, meet_answer_is_one}
 use Rattle.mud_hall.specs.declared.fault.Fault.TheVariants.{OutOfMemory, HistoryFull, Unpublished, DesksFull}
 use Rattle.mud_hall.specs.Told.{world_after}
-use Rattle.mud_hall.specs.Desk.{DeskState, as_player, as_accepted, with_told}
-use Rattle.mud_hall.specs.Replies.{Reply, Accepted, Became, Refused, Question, Failed, Replies, verdict_on}
+use Rattle.mud_hall.specs.Desk.{DeskState, HandsOut, as_player, as_accepted, with_told}
+use Rattle.mud_hall.specs.Replies.{Reply, Accepted, Became, Refused, Question, Failed, Stores, Replies, verdict_on}
+use Rattle.mud_hall.proofs.Coming.{Plain, plainly}
 use Rattle.mud_hall.specs.Answers.{Answered, Answers, IsGuided, IsShown, Shows}
 use Rattle.mud_hall.proofs.Worlds.{world-sound}
-use Rattle.mud_session.specs.Session.{Said, Talk, TakesNone, IsShared, Turn, Tells, Looks, IsActed, IsAsked, IsAnswered}
+use Rattle.mud_session.specs.Session.{Said, Talk, TakesNone, IsShared, Turn, Looks, IsActed, IsAsked, IsAnswered}
 use Rattle.mud_session.specs.Session.{Rests, Does, Takes, Plays, is_last, numbered, reply_line, text_of}
 use Rattle.mud_session.specs.Script.{begins}
 use Rattle.mud_session.specs.Laws.{ScriptTextIsOne, replied}
@@ -111,37 +112,59 @@ full-then capacity s e full =
     let f : nat_lt (length s.seen) capacity ≡ false = grind (arith, nat_tests) in
     (sym (cond-false (nat_lt (length s.seen) capacity) _ _ f), sym (cond-false (nat_lt (length s.seen) capacity) _ _ f))
 
+said-is : (text said : List ℕ) → Some text ≡ Some said → said ≡ text
+said-is text said e = cc
+
+no-line : (said : List ℕ) → None ≡ Some said → ⊥
+no-line said e = let bad : ◌≡◌ {A = Option (List ℕ)} None (Some said) = e in cc
+
+stored-then : (capacity : ℕ) (s : DeskState) (e : Change) (said : List ℕ) (r : Reply) (new : DeskState)
+    → r ≢ Failed Unpublished → Stores capacity s e r new → reply_line r ≡ Some said
+    → IsThen capacity s (verdict.Change e) said new
+stored-then capacity s e said (Accepted v text) new free x line =
+    let is : IsThen capacity s (verdict.Change e)
+    (numbered (length s.seen + 1) (reply_text (world_after s.seen) e)) (as_accepted s e) =
+    accepted-then capacity s e x.0 in (
+      said-is (numbered v text) said line ∙ ap (λ (n : ℕ). numbered n text) x.1
+          ∙ ap (numbered (length s.seen + 1)) x.2 ∙ is.0,
+      x.3 ∙ is.1,
+    )
+stored-then capacity s e said (Failed HistoryFull) new free x line =
+    let is : IsThen capacity s (verdict.Change e) (codes "(history full)") s = full-then capacity s e x.0 in
+    (said-is (codes "(history full)") said line ∙ is.0, x.1 ∙ is.1)
+stored-then capacity s e said (Failed Unpublished) new free x line = absurd (free refl)
+stored-then capacity s e said (Failed OutOfMemory) new free x line = absurd (no-line said line)
+stored-then capacity s e said (Failed DesksFull) new free x line = absurd x
+stored-then capacity s e said (Became v text) new free x line = absurd x
+stored-then capacity s e said (Refused v f text) new free x line = absurd x
+stored-then capacity s e said (Question v) new free x line = absurd x
+
 reply-then : (capacity : ℕ) (s : DeskState) (line said : List ℕ) (r : Reply) (new : DeskState) → r ≢ Failed Unpublished
     → Replies capacity s line r new → reply_line r ≡ Some said
     → IsThen capacity s (verdict_on s.seen s.player line) said new
-reply-then capacity s line said (Accepted v text) new free x e =
-    let same : numbered v text ≡ said = cc in
-    let is : IsThen capacity s (verdict.Change x.change)
-    (numbered (length s.seen + 1) (reply_text (world_after s.seen) x.change)) (as_accepted s x.change) =
-    accepted-then capacity s x.change x.stores.0 in
-    subst (λ (w : Verdict). IsThen capacity s w said new) (sym x.decides) (
-      sym same ∙ ap (λ (n : ℕ). numbered n text) x.stores.1 ∙ ap (numbered (length s.seen + 1)) x.stores.2 ∙ is.0,
-      x.stores.3 ∙ is.1,
+reply-then capacity s line said r new free x e =
+    let v : Verdict = verdict_on s.seen s.player line in
+    go v (plainly capacity s v r new x)
+  where
+    -- what is said for this reply
+    said-by : (other : Reply) → r ≡ other → reply_line other ≡ Some said
+    said-by other is = ap reply_line (sym is) ∙ e
+
+    go : (v : Verdict) → ((r ≡ Failed OutOfMemory) × (new ≡ s)) ⊎ Plain capacity s v r new
+        → IsThen capacity s v said new
+    go v (inl h) = absurd (no-line said (said-by (Failed OutOfMemory) h.0))
+    go (verdict.Change c) (inr h) = stored-then capacity s c said r new free h e
+    go (verdict.Become p) (inr h) = (
+      said-is (numbered (length s.seen) (welcome_text p)) said
+          (said-by (Became (length s.seen) (welcome_text p)) h.0),
+      h.1,
     )
-reply-then capacity s line said (Became v text) new free x e =
-    let same : numbered v text ≡ said = cc in
-    subst (λ (w : Verdict). IsThen capacity s w said new) (sym x.1)
-    (sym same ∙ ap (λ (n : ℕ). numbered n text) x.2 ∙ ap (numbered (length s.seen)) x.3, x.4)
-reply-then capacity s line said (Refused v f text) new free x e =
-    let same : numbered v text ≡ said = cc in
-    subst (λ (w : Verdict). IsThen capacity s w said new) (sym x.0)
-    (sym same ∙ ap (λ (n : ℕ). numbered n text) x.1 ∙ ap (numbered (length s.seen)) x.2, x.3)
-reply-then capacity s line said (Question v) new free x e =
-    absurd (let bad : ◌≡◌ {A = Option (List ℕ)} None (Some said) = e in cc)
-reply-then capacity s line said (Failed HistoryFull) new free x e =
-    let same : codes "(history full)" ≡ said = cc in
-    let is : IsThen capacity s (verdict.Change x.change) (codes "(history full)") s =
-    full-then capacity s x.change x.stores.0 in
-    subst (λ (w : Verdict). IsThen capacity s w said new) (sym x.decides) (sym same ∙ is.0, x.stores.1 ∙ is.1)
-reply-then capacity s line said (Failed Unpublished) new free x e = absurd (free refl)
-reply-then capacity s line said (Failed OutOfMemory) new free x e =
-    absurd (let bad : ◌≡◌ {A = Option (List ℕ)} None (Some said) = e in cc)
-reply-then capacity s line said (Failed DesksFull) new free x e = absurd x
+    go (verdict.Refused f) (inr h) = (
+      said-is (numbered (length s.seen) (refusal_text f)) said
+          (said-by (Refused (length s.seen) f (refusal_text f)) h.0),
+      h.1,
+    )
+    go (verdict.Ask q) (inr h) = absurd (no-line said (said-by (Question (length s.seen)) h.0))
 
 -- it is told nothing
 told-then : (capacity : ℕ) (s : DeskState) (v : Verdict) → (desk_then capacity s v).told ≡ s.told
@@ -160,7 +183,7 @@ nothing [] ys e = (refl, e)
 nothing (x ∷ xs) ys e = absurd (cc)
 
 tells-none : (old : DeskState) (lines : List (List ℕ)) (new : DeskState) → old.told ≡ []
-    → Tells old lines new → (lines ≡ []) × (new ≡ old)
+    → HandsOut old lines new → (lines ≡ []) × (new ≡ old)
 tells-none old lines new none tells =
     let gone : (lines ≡ []) × (new.told ≡ []) = nothing lines new.told (sym tells.told ∙ none) in
     (gone.0, tells.is ∙ ap (with_told old) (gone.1 ∙ sym none))

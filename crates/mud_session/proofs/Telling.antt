@@ -6,12 +6,16 @@ use Rattle.std.proofs.lemmas.List.{append-nil}
 use Rattle.mud_words.specs.Parse.{parsed}
 use Rattle.mud_words.specs.Words.{is_blank}
 use Rattle.mud_nvt.specs.Units.{Given, Text, TooLong, Ayt, Answer}
+use Rattle.mud_world.specs.declared.change.Change.{Change}
+use Rattle.mud_rules.specs.declared.verdict.Verdict.{Verdict}
+use Rattle.mud_rules.specs.declared.verdict.Verdict.TheVariants as verdict
 use Rattle.mud_rules.specs.Table.{is_question}
 use Rattle.mud_chron.specs.Entry.{Accepted as Entry}
 use Rattle.mud_hall.specs.declared.fault.Fault.TheVariants.{OutOfMemory, HistoryFull, Unpublished, DesksFull}
-use Rattle.mud_hall.specs.Desk.{DeskState, TakesIn}
-use Rattle.mud_hall.specs.Replies.{Reply, Accepted, Became, Refused, Question, Failed, Replies}
-use Rattle.mud_session.specs.Session.{Talk, Said, Turn, Does, Rests, Tells, Looks, IsActed, IsAsked, IsAnswered}
+use Rattle.mud_hall.specs.Desk.{DeskState, TakesIn, HandsOut}
+use Rattle.mud_hall.specs.Replies.{Reply, Accepted, Became, Refused, Question, Failed, Stores, Replies, verdict_on}
+use Rattle.mud_hall.proofs.Coming.{Plain, plainly}
+use Rattle.mud_session.specs.Session.{Talk, Said, Turn, Does, Rests, Looks, IsActed, IsAsked, IsAnswered}
 use Rattle.mud_session.specs.Laws.{IsToldOnce, NoticesAreToldOnce}
 
 -- the desk made an entry itself, or none, and is told nothing of it
@@ -27,29 +31,41 @@ adds-none old new seen told = record { own = []; seen = seen ∙ sym (append-nil
 adds-same : (old new : DeskState) → new ≡ old → Adds old new
 adds-same old new same = adds-none old new (ap (λ (d : DeskState). d.seen) same) (ap (λ (d : DeskState). d.told) same)
 
-replies-add : (capacity : ℕ) (old : DeskState) (line : List ℕ) (reply : Reply) (new : DeskState)
-    → Replies capacity old line reply new → Adds old new
-replies-add capacity old line (Accepted v text) new h =
-    let entry : Entry = record { desk = old.number; change = h.change } in
-    let is = h.stores.3 in
+stores-add : (capacity : ℕ) (old : DeskState) (e : Change) (reply : Reply) (new : DeskState)
+    → Stores capacity old e reply new → Adds old new
+stores-add capacity old e (Accepted v text) new h =
+    let entry : Entry = record { desk = old.number; change = e } in
     record {
       own = entry ∷ [];
-      seen = ap (λ (d : DeskState). d.seen) is;
+      seen = ap (λ (d : DeskState). d.seen) h.3;
       mine = inr (entry, refl, refl);
-      told = ap (λ (d : DeskState). d.told) is;
+      told = ap (λ (d : DeskState). d.told) h.3;
     }
-replies-add capacity old line (Became v text) new h =
-    adds-none old new (ap (λ (d : DeskState). d.seen) h.4) (ap (λ (d : DeskState). d.told) h.4)
-replies-add capacity old line (Refused v refusal text) new h = adds-same old new h.3
-replies-add capacity old line (Question v) new h = adds-same old new h.3
-replies-add capacity old line (Failed HistoryFull) new h = adds-same old new h.stores.1
-replies-add capacity old line (Failed Unpublished) new h = adds-same old new h.stores.1
-replies-add capacity old line (Failed OutOfMemory) new h = adds-same old new h
-replies-add capacity old line (Failed DesksFull) new h = absurd h
+stores-add capacity old e (Failed HistoryFull) new h = adds-same old new h.1
+stores-add capacity old e (Failed Unpublished) new h = adds-same old new h.1
+stores-add capacity old e (Failed OutOfMemory) new h = adds-same old new h
+stores-add capacity old e (Failed DesksFull) new h = absurd h
+stores-add capacity old e (Became v text) new h = absurd h
+stores-add capacity old e (Refused v refusal text) new h = absurd h
+stores-add capacity old e (Question v) new h = absurd h
+
+replies-add : (capacity : ℕ) (old : DeskState) (line : List ℕ) (reply : Reply) (new : DeskState)
+    → Replies capacity old line reply new → Adds old new
+replies-add capacity old line reply new h =
+    let v : Verdict = verdict_on old.seen old.player line in
+    go v (plainly capacity old v reply new h)
+  where
+    go : (v : Verdict) → ((reply ≡ Failed OutOfMemory) × (new ≡ old)) ⊎ Plain capacity old v reply new → Adds old new
+    go v (inl c) = adds-same old new c.1
+    go (verdict.Change e) (inr c) = stores-add capacity old e reply new c
+    go (verdict.Become p) (inr c) =
+        adds-none old new (ap (λ (d : DeskState). d.seen) c.1) (ap (λ (d : DeskState). d.told) c.1)
+    go (verdict.Refused f) (inr c) = adds-same old new c.1
+    go (verdict.Ask q) (inr c) = adds-same old new c.1
 
 -- entries are taken in, perhaps one is made, and some of what the desk was told is sent
 told : (old ready acted new : DeskState) (lines : List (List ℕ)) → TakesIn old ready → Adds ready acted
-    → Tells acted lines new → IsToldOnce old lines new
+    → HandsOut acted lines new → IsToldOnce old lines new
 told old ready acted new lines takes adds tells = record {
   others = takes.entries;
   own = adds.own;

@@ -10,7 +10,7 @@ use Rattle.mud_session.specs.Session.{TakingIn, Talk, Play, text_of}
 abbrev pub begins : ℕ → Talk
 begins capacity = record { capacity = capacity; desk = lone_desk; has_ended = false }
 
--- the bytes that were read, and a line feed behind them where the reader's end was seen
+-- the bytes that were read, and a line feed after them where the reader's end was seen
 abbrev pub heard : Reader → List ℕ → List ℕ
 heard reader bytes = if reader.at_end then bytes ++ 10 ∷ [] else bytes
 

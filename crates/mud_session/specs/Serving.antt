@@ -1,4 +1,4 @@
--- What a script writes for some bytes. Cited by private clauses alone.
+-- What a script writes for some bytes. Only private clauses cite it.
 use Rattle.std.specs.Prelude.{◌≡◌, ℕ, false, List, [], ◌++◌, Option, take}
 use Rattle.std.specs.Io.KnownBytes.{Appends}
 use Rattle.mud_nvt.specs.Units.{Given, units}
@@ -6,7 +6,7 @@ use Rattle.mud_nvt.specs.History.{StandsAfter}
 use Rattle.mud_session.specs.State.{State, DoorState, talk_of}
 use Rattle.mud_session.specs.Session.{TakingIn, Talk, Play, text_of}
 
--- behind the earlier bytes these were taken, and what is sent for them was written
+-- after the earlier bytes these were taken, and what is sent for them was written
 pub record Serves (takes_in : TakingIn) (earlier bytes : List ℕ) (old new : State) (old_door new_door : DoorState)
     (held now_held : Option (List ℕ)) : Type 0 where
   pub stands : StandsAfter new.terminal (earlier ++ bytes)

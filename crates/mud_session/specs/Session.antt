@@ -7,7 +7,7 @@ use Rattle.mud_words.specs.Words.{is_blank}
 use Rattle.mud_nvt.specs.Units.{Given, Text, TooLong, Ayt, Answer}
 use Rattle.mud_rules.specs.Table.{is_question, is_quit}
 use Rattle.mud_hall.specs.declared.fault.Fault.TheVariants.{OutOfMemory, HistoryFull, Unpublished, DesksFull}
-use Rattle.mud_hall.specs.Desk.{DeskState, with_told}
+use Rattle.mud_hall.specs.Desk.{DeskState, HandsOut}
 use Rattle.mud_hall.specs.Replies.{Reply, Accepted, Became, Refused, Question, Failed, Replies}
 use Rattle.mud_hall.specs.Answers.{Answered, Answers}
 
@@ -48,7 +48,7 @@ pub record Turn : Type 0 where
 abbrev pub numbered : ℕ → List ℕ → List ℕ
 numbered v text = codes "[" ++ decimal v ++ codes "] " ++ text
 
--- what is said to a line that acts; to a question its answer is said, and want of memory is no reply
+-- what is said to a line that acts; to a question its answer is said, and where memory runs out nothing is
 abbrev pub reply_line : Reply → Option (List ℕ)
 reply_line (Accepted v text) = Some (numbered v text)
 reply_line (Became v text) = Some (numbered v text)
@@ -59,16 +59,11 @@ reply_line (Failed Unpublished) = Some (codes "(not stored)")
 reply_line (Failed OutOfMemory) = None
 reply_line (Failed DesksFull) = None
 
--- these lines that the desk was told are sent, in order, and the others are left
-pub record Tells (old : DeskState) (lines : List (List ℕ)) (new : DeskState) : Type 0 where
-  pub told : old.told ≡ lines ++ new.told
-  pub is : new ≡ with_told old new.told
-
 -- a desk takes entries in, and some of what it was told is sent: all that happens where memory is refused
 pub record Looks (takes_in : TakingIn) (old : DeskState) (lines : List (List ℕ)) (new : DeskState) : Type 0 where
   pub ready : DeskState
   pub takes : takes_in old ready
-  pub tells : Tells ready lines new
+  pub tells : HandsOut ready lines new
 
 -- a line acts: the desk takes entries in and replies; all that it was told is sent, and then the reply; only at a desk
 -- that is shared a change is not stored
@@ -80,7 +75,7 @@ pub record IsActed (takes_in : TakingIn) (old : Talk) (line : List ℕ) (lines :
   pub acted : DeskState
   pub replies : Replies old.capacity ready line reply acted
   pub stored : reply ≡ Failed Unpublished → IsShared takes_in
-  pub tells : Tells acted lines new.desk
+  pub tells : HandsOut acted lines new.desk
   pub all : new.desk.told ≡ []
   pub text : reply_line reply ≡ Some said.text
   pub goes_on : said.is_last ≡ false
@@ -127,7 +122,7 @@ pub record Takes (takes_in : TakingIn) (old : Talk) (turn : Turn) (new : Talk) :
   pub capacity : new.capacity ≡ old.capacity
   pub ended : new.has_ended ≡ is_last turn.reply
 
--- turns one after the other, none behind the last reply
+-- turns one after the other, none after the last reply
 abbrev pub Plays : TakingIn → Talk → List Turn → Talk → Type 0
 Plays takes_in old [] new = new ≡ old
 Plays takes_in old (turn ∷ turns) new =

@@ -1,13 +1,13 @@
--- A turn of a session. Cited by private clauses alone.
+-- A turn of a session. Only private clauses cite it.
 use Rattle.std.specs.Prelude.{◌≡◌, ℕ, List, ◌++◌, codes, Option, Some, None}
 use Rattle.std.specs.Option.{option_map}
 use Rattle.std.specs.List.{flat_map}
 use Rattle.mud_nvt.specs.Units.{Given}
 use Rattle.mud_hall.specs.declared.fault.Fault.TheVariants.{OutOfMemory, HistoryFull, Unpublished, DesksFull}
-use Rattle.mud_hall.specs.Desk.{DeskState}
+use Rattle.mud_hall.specs.Desk.{DeskState, HandsOut}
 use Rattle.mud_hall.specs.Replies.{Reply, Accepted, Became, Refused, Question, Failed}
 use Rattle.mud_session.specs.State.{State, DoorState, talk_of}
-use Rattle.mud_session.specs.Session.{TakingIn, Said, Turn, Takes, Tells, Looks, IsAnswered, is_last, sent}
+use Rattle.mud_session.specs.Session.{TakingIn, Said, Turn, Takes, Looks, IsAnswered, is_last, sent}
 use Rattle.mud_session.specs.Session.{text_of_turn}
 
 -- the session with more to be sent
@@ -17,7 +17,7 @@ sends s text = record { terminal = s.terminal; has_ended = s.has_ended; out = s.
 -- some of what the desk was told is to be sent
 pub record Told (old new : State) (old_desk new_desk : DeskState) : Type 0 where
   pub lines : List (List ℕ)
-  pub tells : Tells old_desk lines new_desk
+  pub tells : HandsOut old_desk lines new_desk
   pub is : new ≡ sends old (flat_map sent lines)
 
 -- the desk takes entries in first

@@ -13,7 +13,7 @@ use mud_hall::{Fault, Reply, Solo};
 use std::sync::Wait;
 use std::thread::Threads;
 
-/// Where the lines of a session are answered: a desk, alone or of a hall. A contract sees the desk, how many entries
+/// Where the lines of a session are answered: a desk, of its own or of a hall. A contract sees the desk, how many entries
 /// the history can have, and what the desk is not told yet; and what the desk may take in of others' entries.
 pub trait Door {
     ghost state: { Self → DoorState };
@@ -40,6 +40,7 @@ pub trait Door {
         requires { IsSync X.row }
         ensures capacity { (state self.new).capacity ≡ (state self.old).capacity }
         ensures same { (state self.new).desk ≡ (state self.old).desk }
+        ensures told { OnOk result ((state self.new).untold ≡ []) }
         ensures answers { IfOk result (λ a. Answers (state self.old).desk line.now (answered a)) }
         ensures fault { IfErr result (λ f. f ≡ Fault.OutOfMemory) };
 

@@ -1,6 +1,6 @@
-//! What is known of the definitions alone: each contract is a law, and its function does nothing.
+//! Laws of the definitions: each contract is a law, and its function does nothing.
 
-ghost use Rattle.mud_session.specs.Laws.{NoticesAreToldOnce, ScriptTextIsOne};
+ghost use Rattle.mud_session.specs.Laws.{NoticesAreToldOnce, ScriptIsRun, ScriptTextIsOne, TurnsAreCalls};
 
 /// In each turn at a desk of a hall what the desk had been told, and the notices of the others' entries that it came
 /// to see, are what was sent and what is left to be told, each once and in order.
@@ -9,7 +9,18 @@ pub fn notices()
 {}
 
 /// What a script sends depends on its bytes, on how many changes its history takes, and on which of its
-/// lines were refused for want of memory, and on nothing else.
+/// lines memory ran out for, and on nothing else.
 pub fn one_script_text()
     ensures { ScriptTextIsOne }
+{}
+
+/// The turns of a session at a desk of a hall are calls of that desk, of which the steps of the hall are made: so
+/// `mud_hall::laws::guide` speaks of all sessions. What a session sends is what its calls hand out and answer.
+pub fn turns()
+    ensures { TurnsAreCalls }
+{}
+
+/// The turns of a script are a run of the hall of one caller: so `mud_hall::laws::guide` speaks of every script.
+pub fn runs()
+    ensures { ScriptIsRun }
 {}

@@ -35,9 +35,9 @@ pub enum ScriptFault {
 const BUFFER_LEN: usize = 4096;
 
 /// Answers the lines of a reader at a desk of its own, whose history holds at most `capacity` entries,
-/// 1 to 65,536, up to the reader's end or to an answered `quit`. Behind the reader's end comes one more
-/// line feed. After a fault what was written is a front of the text of what was read. So many workers,
-/// 0 to 8, search for what the guide is asked; what is written is the same.
+/// 1 to 65,536, up to the reader's end or to an answered `quit`. After the reader's end comes one more
+/// line feed. After a fault what was written is a front of the text of what was read. The guide
+/// searches by `workers` threads, 0 to 8; what is written is the same.
 pub fn script<X: Threads + Wait + Sync, R: Read, W: Write>(
     rt: &X,
     alloc: Global,
@@ -69,7 +69,7 @@ pub fn script<X: Threads + Wait + Sync, R: Read, W: Write>(
     converse(rt, &mut session, &mut solo, source, sink)
 }
 
-// A desk of its own, at which so many workers search.
+// A desk of its own, at which `workers` threads search.
 fn lone_desk(alloc: Global, capacity: u32, workers: u32) -> Result<Solo, AllocError>
     requires { capacity ≤ 65536 }
     ensures { IfOk result (λ solo. solo ≡ alone capacity 1 []) }

@@ -38,8 +38,7 @@ impl<'h, J: HallName> Model for Seat<'h, J> {
 }
 
 impl<'h, J: HallName> Seat<'h, J> {
-    /// The desk at its hall. So many workers, 0 to 8, search for what the guide is asked; the answers
-    /// are the same.
+    /// The desk at its hall. The guide searches by `workers` threads, 0 to 8; the answers are the same.
     pub fn new(hall: &'h Hall<J>, desk: Desk<J>, workers: u32) -> Seat<'h, J>
         requires { workers ≤ 8 }
         ensures { result ≡ record { capacity = length J.cells; desk = desk.state; untold = untold desk } }
@@ -56,6 +55,13 @@ impl<'h, J: HallName> Seat<'h, J> {
         ensures { result ≡ self.now.desk.number }
     {
         self.desk.number()
+    }
+
+    /// How many entries the desk has seen.
+    pub fn seen(&self) -> u32
+        ensures { result ≡ length self.now.desk.seen }
+    {
+        self.desk.seen()
     }
 
     /// How many changes were accepted at the desk.

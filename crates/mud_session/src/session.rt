@@ -46,8 +46,8 @@ impl Session {
     ghost use Rattle.mud_session.specs.Turning.{sends, sent_for, Told, Looked, IsSaid, Replied, HasTurn};
     ghost use Rattle.mud_session.specs.Feeding.{Feeds, Nudges};
 
-    /// A session to which nothing came, and which sent nothing, or the greeting alone. The only
-    /// error is want of memory.
+    /// A session to which nothing came, and which sent nothing, or only the greeting. The only error
+    /// is out of memory.
     pub fn new(alloc: Global, greet: bool) -> Result<Session, AllocError>
         ensures terminal { IfOk result (λ session. StandsAfter session.terminal []) }
         ensures open_still { IfOk result (λ session. session.has_ended ≡ false) }
@@ -80,9 +80,9 @@ impl Session {
         std::mem::replace(&mut self.out, Vec::new(self.alloc))
     }
 
-    /// Takes bytes from the other side, and answers the lines that are whole now. Want of memory for a
-    /// line is answered `(out of memory)`; for what the session itself keeps or sends it ends the
-    /// session. A session that has ended answers `Ended`, and nothing changes.
+    /// Takes bytes from the other side, and answers the lines that are whole now. Where memory runs out
+    /// for a line, the line is answered `(out of memory)`; where it runs out for what the session itself
+    /// keeps or sends, the session ends. A session that has ended answers `Ended`, and nothing changes.
     pub fn feed<X: Threads + Wait + Sync, D: Door>(
         &mut self,
         rt: &X,
@@ -109,9 +109,10 @@ impl Session {
         }
     }
 
-    /// Looks for what others did, and sends the notices that the desk was told. Want of memory to look
-    /// is no error: what was not told is told by a later call. Want of memory for what the session
-    /// itself sends ends it. A session that has ended answers `Ended`, and nothing changes.
+    /// Looks for what others did, and sends the notices that the desk was told. It is no error where
+    /// memory runs out for a look: what was not told is told by a later call. Where it runs out for what
+    /// the session itself sends, the session ends. One that has ended answers `Ended`, and nothing
+    /// changes.
     pub fn nudge<D: Door>(&mut self, door: &mut D) -> Result<(), SessionFault>
         ensures ok { OnOk result (Nudges D.takes_in self.old self.new (D.state door.old) (D.state door.new)) }
         ensures over { self.old.has_ended ≡ true → (result ≡ Err SessionFault.Ended) × (self.new ≡ self.old)

@@ -1,0 +1,9 @@
+use Rattle.std.proofs.Common.{◌≡◌, ◌++◌}
+use Rattle.mud_hall.proofs.reader.Reader.read.Given as goal
+
+-- what is read now stands after what was read before
+abbrev pub invariant-loop : goal.invariant-loop
+invariant-loop g l = record {
+  row : l.self-inside.pass.row ≡ g.J.HallName.cells;
+  list : l.self-inside.pass.list ≡ l.fn.self ++ l.all.items;
+}

@@ -13,8 +13,8 @@ use mud_hall::{Fault, Reply, Solo};
 use std::sync::Wait;
 use std::thread::Threads;
 
-/// Where the lines of a session are answered: a desk, of its own or of a hall. A contract sees the desk, how many entries
-/// the history can have, and what the desk is not told yet; and what the desk may take in of others' entries.
+/// Where the lines of a session are answered: a desk, of its own or of a hall. A contract sees the desk, how many
+/// entries the history can have, and what the desk is not told yet; and what the desk may take in of others' entries.
 pub trait Door {
     ghost state: { Self → DoorState };
 

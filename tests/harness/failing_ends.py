@@ -2,6 +2,7 @@
 Each must end with its words and its status.
 """
 import os
+import socket
 import subprocess
 import tempfile
 
@@ -12,6 +13,8 @@ from harness.runs import LIBRARY, history_and_proof
 
 ANY = object()
 FULL_DISK = "/dev/full"
+# No command here takes this many seconds.
+LONGEST = 60
 BAD_WORDS = {
     "mud_serve": [
         "", "wait", "script --capacity 0", "script --capacity 65537", "script --workers 9", "script more", "--help",
@@ -40,7 +43,7 @@ class Ends:
         """What a program gives that reads from one file, and writes to another where there is one."""
         reading = os.open(source, os.O_RDONLY)
         writing = subprocess.PIPE if target is None else os.open(target, os.O_WRONLY)
-        how = {"stdin": reading, "stdout": writing, "stderr": subprocess.PIPE, "text": True}
+        how = {"stdin": reading, "stdout": writing, "stderr": subprocess.PIPE, "text": True, "timeout": LONGEST}
         ran = subprocess.run([program(name), *words], check=False, **how)
         os.close(reading)
         if target is not None:
@@ -59,9 +62,9 @@ class Ends:
         self.wants(3, "", f"{name}: {fault} fault\n", name, words, source, target)
 
     def cannot_load(self, fault, file, *words):
-        """A hall that does not go on from a file; it does not even read its steps."""
-        said = f"mud_explain: cannot load: {fault}\n"
-        self.wants(3, "", said, "mud_explain", ["hall", "--load", file, *words], source="/")
+        """A hall that does not go on from a file, nor reads its steps; and a server that does not even listen."""
+        for name, command in (("mud_explain", ["hall"]), ("mud_serve", ["listen", "--port", "0"])):
+            self.wants(3, "", f"{name}: cannot load: {fault}\n", name, [*command, "--load", file, *words], source="/")
 
 
 def ten():
@@ -122,6 +125,13 @@ def try_files_to_load(ends):
     ends.cannot_load("history change 4", ends.file("wrong", wrong_exit), "--capacity", "3")
 
 
+def try_taken_port(ends):
+    """A port at which another program listens."""
+    with socket.create_server(("127.0.0.1", 0)) as other:
+        port = str(other.getsockname()[1])
+        ends.wants(3, "", "mud_serve: cannot listen\n", "mud_serve", ["listen", "--port", port, "--total", "1"])
+
+
 @part("failing-ends", "unreadable input, a full disk, bad words and bad files end programs with their words")
 def failing_ends(count):
     with tempfile.TemporaryDirectory() as folder:
@@ -131,3 +141,4 @@ def failing_ends(count):
         try_bad_words(ends)
         try_files_to_check(ends)
         try_files_to_load(ends)
+        try_taken_port(ends)

@@ -1,4 +1,2 @@
 mod Parting
-mod Trials
-mod Pushing
 mod Telling

@@ -1,11 +1,11 @@
 -- What is judged of standard input, and what is said of it.
 use Rattle.std.specs.Prelude.{◌≡◌, ◌⊎◌, ℕ, Bool, true, false, List, [], ◌∷◌, ◌++◌, codes, Option}
 use Rattle.std.specs.Io.KnownBytes.{Appends}
-use Rattle.mud_check.specs.declared.outcome.Outcome.{Outcome}
+use Rattle.mud_verdict.specs.declared.outcome.Outcome.{Outcome}
 use Rattle.mud_check.specs.declared.judge.Unread.{Unread}
 use Rattle.mud_check.specs.declared.judge.Unread.TheVariants.{OutOfMemory, File}
 use Rattle.mud_check.specs.Input.{IsSplit}
-use Rattle.mud_check.specs.Verdict.{IsVerdict}
+use Rattle.mud_verdict.specs.Verdict.{IsVerdict}
 
 -- the outcome is the verdict on the two texts that the bytes hold
 pub record IsJudged (bytes : List ℕ) (outcome : Outcome) : Type 0 where

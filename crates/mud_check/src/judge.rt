@@ -6,8 +6,8 @@ ghost use Rattle.std.specs.IoError.{error_kind};
 ghost use Rattle.mud_check.specs.Said.{IsJudged, IsInputFault};
 
 use crate::input::split;
-use crate::outcome::{Outcome, verdict};
 use mud_ends::Source;
+use mud_verdict::{Outcome, verdict};
 use std::alloc::{AllocError, Global};
 use std::fs;
 use std::io::{self, ErrorKind, Read};

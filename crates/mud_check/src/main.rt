@@ -6,18 +6,15 @@
 //! lines.
 #![tactic(auto)]
 
-mod finding;
 mod input;
 mod judge;
-mod line_ends;
-mod outcome;
 mod said;
 
 use crate::judge::{Unread, judge_files, judge_input};
-use crate::outcome::Outcome;
 use crate::said::said;
 use mud_command::{CommandFault, Sources, show, sources_of, words_of};
 use mud_ends::{Sink, Source};
+use mud_verdict::Outcome;
 use std::io::{self, Write};
 use std::process::ExitCode;
 

@@ -3,6 +3,7 @@
 use crate::village::world;
 use mud_cert::{check, read};
 use mud_chron::{Entry, read_history, write_entry, write_history};
+use mud_verdict::verdict;
 use std::alloc::{AllocError, Global};
 use std::process::Abort;
 use std::test::Fail;
@@ -85,5 +86,42 @@ fn a_certificate_is_read_written_and_judged(rt: HostRuntime) -> Result<(), Fail>
     cert.write(alloc, &mut text)?;
     assert_eq!(rt; text.as_str(), PROOF);
     assert!(rt; check(&world(alloc, WAY_ROUND)?, &cert).is_ok());
+    Ok(())
+}
+
+// A history with one way, and the proof of the wizard's journey there.
+const LIBRARY: &str = "mud history 1
+1 1 dig #1 new \"Library\" out \"north\" back \"south\"
+end 1
+";
+
+const TO_LIBRARY: &str = "mud proof 1
+version 1
+member #1 from #0
+labels #0:0 #2:1
+walk #3
+route #2 cost 1
+end
+";
+
+// What stands in place of a part of that proof, and the verdict then.
+const VERDICTS: [(&str, &str, &str); 8] = [
+    ("end", "end", "accepted"),
+    ("#2:1", "#2:0", "refused: walk cost of #1"),
+    ("#2:1", "#2:2", "refused: arc #3 of #1"),
+    ("version 1", "version 2", "refused: version 2"),
+    ("cost 1", "cost 2", "refused: conclusion"),
+    ("end\n", "end", "unreadable: proof line 7"),
+    ("end\n", "end\nend\n", "unreadable: proof line 8"),
+    (TO_LIBRARY, "", "unreadable: proof line 1"),
+];
+
+#[test]
+fn verdicts_of_changed_proofs(rt: HostRuntime) -> Result<(), Fail> {
+    for (part, instead, wanted) in VERDICTS {
+        let proof = TO_LIBRARY.replace(rt.alloc(), part, instead)?;
+        let outcome = verdict(rt.alloc(), LIBRARY.as_bytes(), proof.as_bytes())?;
+        assert_eq!(rt; (instead, outcome.text.as_str()), (instead, wanted));
+    }
     Ok(())
 }

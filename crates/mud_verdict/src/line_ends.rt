@@ -6,17 +6,17 @@ ghost use Rattle.mud_cert.specs.Finding.{without_returns};
 use std::alloc::{AllocError, Global};
 
 /// The bytes without each CR that stands directly before LF (this project's profile): of CR CR LF
-/// one CR is left. Only want of memory is an error.
+/// one CR is left. The only error is out of memory.
 pub fn without_returns(alloc: Global, bytes: &[u8]) -> Result<Vec<u8>, AllocError>
     ensures { IfOk result (λ kept. kept.items ≡ without_returns bytes.now) }
 {
     let mut kept = Vec::with_capacity(alloc, bytes.len())?;
     let mut rest = bytes;
-    while let [first, behind @ ..] = rest {
-        if *first != b'\r' || !behind.starts_with(b"\n") {
+    while let [first, after @ ..] = rest {
+        if *first != b'\r' || !after.starts_with(b"\n") {
             kept.push(*first)?;
         }
-        rest = behind;
+        rest = after;
     }
     Ok(kept)
 }

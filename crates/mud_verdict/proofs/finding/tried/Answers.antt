@@ -3,7 +3,7 @@ use Rattle.std.proofs.lemmas.Grind.{common_steps}
 use Rattle.mud_world.specs.State.{State}
 use Rattle.mud_cert.specs.Doubts.{IsFirstDoubt}
 use Rattle.mud_chron.specs.Replay.{world_at}
-use Rattle.mud_check.proofs.finding.tried.Goals as goal
+use Rattle.mud_verdict.proofs.finding.tried.Goals as goal
 
 pub returns : goal.returns
 returns c = (

@@ -1,7 +1,7 @@
 use Rattle.std.proofs.Common.{codes, string_bytes}
 use Rattle.mud_cert.specs.Verdict.{fault_text}
-use Rattle.mud_check.proofs.Pushing.{both}
-use Rattle.mud_check.proofs.outcome.push_finding.Goals as goal
+use Rattle.mud_verdict.proofs.Pushing.{both}
+use Rattle.mud_verdict.proofs.outcome.push_finding.Goals as goal
 
 pub returns-in_ok-push_str-in-BadHistory : goal.returns-in_ok-push_str-in-BadHistory
 returns-in_ok-push_str-in-BadHistory c =

@@ -4,7 +4,7 @@ ghost use Rattle.std.specs.Prelude.{◌≡◌, ◌++◌, codes, decimal, IfOk, O
 ghost use Rattle.mud_cert.specs.declared.finding.Status.TheVariants.{Accepted};
 ghost use Rattle.mud_cert.specs.Finding.{IsFinding};
 ghost use Rattle.mud_cert.specs.Verdict.{object_text, doubt_text, fault_text, finding_text, status_of};
-ghost use Rattle.mud_check.specs.Verdict.{IsVerdict};
+ghost use Rattle.mud_verdict.specs.Verdict.{IsVerdict};
 
 use crate::finding::finding_of;
 use mud_cert::{Doubt, Finding, Status};
@@ -12,7 +12,7 @@ use mud_chron::ChronFault;
 use std::alloc::{AllocError, Global};
 use std::fmt::Write;
 
-/// What two texts come to: the line that is printed, without its end, and the status.
+/// What is said of two texts: the line that is printed, without its end, and the status.
 #[derive(Debug, Drop)]
 pub struct Outcome {
     /// The line (docs/CHECKER.md, "Lines").
@@ -100,7 +100,7 @@ fn status_of(finding: &Finding) -> Status
 /// The line and the status of a history's text and a proof's (this project's profile;
 /// docs/CHECKER.md). Where the status is `Accepted`, the certificate is valid in the world after
 /// the first entries of that history, as many as it says, and its walks and what it concludes are
-/// the least there. Only want of memory is an error.
+/// the least there. The only error is out of memory.
 pub fn verdict(alloc: Global, history: &[u8], proof: &[u8]) -> Result<Outcome, AllocError>
     ensures finding { IfOk result (IsVerdict history.now proof.now) }
     ensures accepted { IfOk result

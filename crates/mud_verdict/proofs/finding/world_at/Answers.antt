@@ -1,5 +1,5 @@
-use Rattle.mud_check.proofs.Trials.{no-fault}
-use Rattle.mud_check.proofs.finding.world_at.Goals as goal
+use Rattle.mud_verdict.proofs.Trials.{no-fault}
+use Rattle.mud_verdict.proofs.finding.world_at.Goals as goal
 
 pub unreachable-requires : goal.unreachable-requires
 unreachable-requires c =

@@ -1,6 +1,6 @@
 use Rattle.std.proofs.Common.{◌≡◌, ◌++◌, length}
 use Rattle.mud_cert.specs.Finding.{without_returns}
-use Rattle.mud_check.proofs.line_ends.without_returns.Given as goal
+use Rattle.mud_verdict.proofs.line_ends.without_returns.Given as goal
 
 -- what is kept, and what is to be kept of the rest
 abbrev pub invariant-loop-rest : goal.invariant-loop-rest

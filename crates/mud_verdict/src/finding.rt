@@ -38,7 +38,7 @@ fn world_at(alloc: Global, entries: &[Entry], version: usize) -> Result<World, A
     }
 }
 
-// What is found of a certificate, behind a history.
+// What is found of a certificate, after a history.
 fn tried(alloc: Global, entries: &[Entry], cert: &Cert) -> Result<Finding, AllocError>
     requires { AreLegal (changes_of entries.now) }
     ensures { IfOk result (IsTried entries.now cert.now) }
@@ -57,11 +57,9 @@ fn tried(alloc: Global, entries: &[Entry], cert: &Cert) -> Result<Finding, Alloc
 
 /// What is found of a history's text and a proof's: the history is read and replayed to its end,
 /// then the proof is read, then its version is looked at, and at last the certificate is tried in
-/// the world of its version. Only want of memory is an error.
+/// the world of its version. The only error is out of memory.
 pub fn finding_of(alloc: Global, history: &[u8], proof: &[u8]) -> Result<Finding, AllocError>
-    ensures finding { IfOk result (IsFinding history.now proof.now) }
-    ensures accepted { IfOk result
-        (λ finding. finding ≡ Finding.Accepted → IsFinding history.now proof.now Finding.Accepted) }
+    ensures { IfOk result (IsFinding history.now proof.now) }
 {
     let history = without_returns(alloc, history)?;
     let proof = without_returns(alloc, proof)?;

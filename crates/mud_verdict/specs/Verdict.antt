@@ -3,7 +3,7 @@ use Rattle.std.specs.Prelude.{◌≡◌, ℕ, List, string_bytes}
 use Rattle.mud_cert.specs.declared.finding.Finding.{Finding}
 use Rattle.mud_cert.specs.Finding.{IsFinding}
 use Rattle.mud_cert.specs.Verdict.{finding_text, status_of}
-use Rattle.mud_check.specs.declared.outcome.Outcome.{Outcome}
+use Rattle.mud_verdict.specs.declared.outcome.Outcome.{Outcome}
 
 -- the line and the status are those of what is found of the texts
 pub record IsVerdict (history proof : List ℕ) (outcome : Outcome) : Type 0 where

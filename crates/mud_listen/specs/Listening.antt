@@ -1,14 +1,15 @@
 -- What a server writes, and why it ends.
-use Rattle.std.specs.Prelude.{◌≡◌, ◌≤◌, ℕ, true, List, ◌++◌, length, Option, codes}
+use Rattle.std.specs.Prelude.{◌≡◌, ◌≤◌, ◌⊎◌, ℕ, true, List, ◌++◌, length, take, All, Contains, Option, codes}
 use Rattle.std.specs.Fmt.{decimal}
 use Rattle.std.specs.Io.KnownBytes.{Appends}
 use mathlib.Core.List.{IsPrefix}
 use Rattle.mud_ends.specs.Ends.{Writer}
 use Rattle.mud_chron.specs.Entry.{Accepted}
 use Rattle.mud_chron.specs.Text.{line_feed, written_text}
-use Rattle.mud_hall.specs.Desk.{View}
 use Rattle.mud_hall.specs.Opening.{IsLoadFault}
-use Rattle.mud_hall.specs.Settling.{IsSettled}
+use Rattle.mud_hall.specs.Settling.{made}
+use Rattle.mud_hall.specs.Steps.{AreLoadable}
+use Rattle.mud_listen.specs.declared.limits.Limits.{Limits}
 use Rattle.mud_listen.specs.declared.fault.ListenFault.{ListenFault}
 use Rattle.mud_listen.specs.declared.fault.ListenFault.TheVariants.{OutOfMemory, Write, Accept, Settle, Load}
 
@@ -16,31 +17,28 @@ use Rattle.mud_listen.specs.declared.fault.ListenFault.TheVariants.{OutOfMemory,
 abbrev pub listening_line : ℕ → List ℕ
 listening_line port = codes "listening on " ++ decimal port ++ line_feed
 
--- desks of one hall, at most `limit`, made this history behind what was loaded
-pub record IsMade (limit : ℕ) (loaded history : List Accepted) : Type 0 where
-  pub desks : List View
-  pub few : length desks ≤ limit
-  pub settled : IsSettled loaded desks history
+-- a server may end with this history: a hall can begin with it, it begins with what was loaded, and the entries after
+-- that bear the numbers of at most as many desks as there may be sessions at once
+pub record MayEnd (limits : Limits) (loaded history : List Accepted) : Type 0 where
+  pub loadable : AreLoadable limits.capacity history
+  pub begun : IsPrefix loaded history
+  pub desks : List ℕ
+  pub few : length desks ≤ limits.sessions
+  pub of_desks : All (λ e. Contains desks e.desk) (made loaded history)
 
--- all that a server at this port writes, if its desks made this history
-abbrev pub server_text : ℕ → List Accepted → List ℕ
-server_text port history = listening_line port ++ written_text history
-
--- it wrote all, of a history that its desks made
-pub record Settles (limit : ℕ) (loaded : List Accepted) (held now_held : Option (List ℕ)) : Type 0 where
+-- the line of some port was written, and after it the whole text of a history that a server may end with
+pub record Settles (limits : Limits) (loaded : List Accepted) (held now_held : Option (List ℕ)) : Type 0 where
   pub port : ℕ
   pub history : List Accepted
-  pub made : IsMade limit loaded history
-  pub written : Appends held now_held (server_text port history)
+  pub ends : MayEnd limits loaded history
+  pub written : Appends held now_held (listening_line port ++ written_text history)
 
--- it wrote a beginning of such a text
-pub record SettlesInPart (limit : ℕ) (loaded : List Accepted) (held now_held : Option (List ℕ)) : Type 0 where
-  pub port : ℕ
-  pub history : List Accepted
-  pub made : IsMade limit loaded history
-  pub front : List ℕ
-  pub begins : IsPrefix front (server_text port history)
-  pub written : Appends held now_held front
+-- a beginning of the line was written, or the line and after it a beginning of the text of such a history
+abbrev pub SettlesInPart : Limits → List Accepted → Option (List ℕ) → Option (List ℕ) → Type 0
+SettlesInPart limits loaded held now_held =
+    ((port : ℕ) × (n : ℕ) × Appends held now_held (take n (listening_line port)))
+    ⊎ ((port : ℕ) × (n : ℕ) × (history : List Accepted) × MayEnd limits loaded history
+    × Appends held now_held (listening_line port ++ take n (written_text history)))
 
 -- when each fault comes, and what it leaves of the writer
 abbrev pub IsListenFault : ℕ → List Accepted → Writer → Writer → ListenFault → Type 0

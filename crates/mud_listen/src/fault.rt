@@ -16,7 +16,7 @@ pub enum ListenFault {
     /// No connection can be taken.
     #[error("cannot listen")]
     Accept,
-    /// The desks did not make one history.
+    /// The desks made no history, or none that can be loaded again.
     #[error("cannot settle")]
     Settle(CloseFault),
     /// The hall does not go on from what was loaded.

@@ -31,7 +31,7 @@ pub(crate) struct House<H, D, B> {
     ghost few: { workers ≤ 8 },
 }
 
-// So many free places.
+// This many free places.
 fn free_places<J: HallName>(alloc: Global, sessions: u32) -> Result<Places<J>, AllocError>
     ensures { IfOk result (λ places. length places.list.items ≡ sessions) }
 {
@@ -42,7 +42,7 @@ fn free_places<J: HallName>(alloc: Global, sessions: u32) -> Result<Places<J>, A
     Ok(Places { list })
 }
 
-// So many bells that wake nobody.
+// This many bells that wake nobody.
 fn silent_bells(alloc: Global, sessions: u32) -> Result<Bells, AllocError> {
     let mut list = Vec::new(alloc);
     for _ in 0..sessions {
@@ -52,7 +52,8 @@ fn silent_bells(alloc: Global, sessions: u32) -> Result<Bells, AllocError> {
 }
 
 impl<J: HallName> House<Hall<J>, Places<J>, Bells> {
-    /// The hall, and as many free places as there may be sessions at once, whose questions so many workers answer.
+    /// The hall, and as many free places as there may be sessions at once, and how many workers
+    /// answer a question.
     pub(crate) fn new(
         alloc: Global,
         hall: Hall<J>,

@@ -12,7 +12,7 @@ use std::thread::Threads;
 
 /// What the threads of a server do with its hall `H`, the places `D` for its sessions, the bells `B` of their notice
 /// threads, and a talk `S`, the session of one connection. Threads are begun over these four apart: that threads may
-/// share each of them is shown for each alone.
+/// share each of them is shown for each by itself.
 pub(crate) trait Kind<H, D, B, S> {
     /// Takes the free place of the lowest number, if there is one.
     fn take_place<R: Wait>(rt: &R, house: &House<H, D, B>) -> Option<usize>;
@@ -23,8 +23,8 @@ pub(crate) trait Kind<H, D, B, S> {
     /// Says how the notice thread of the session at a place is woken.
     fn listen<R: Wait>(rt: &R, house: &House<H, D, B>, at: usize, unparker: Unparker);
 
-    /// Begins the session of a connection at a place; the number of its desk. Where memory or a desk is wanting, there
-    /// is none.
+    /// Begins the session of a connection at a place; the number of its desk. Where memory ran out or no desk is
+    /// left, there is none.
     fn start<R: Wait>(
         rt: &R,
         alloc: Global,

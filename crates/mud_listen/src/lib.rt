@@ -11,13 +11,14 @@
 //! listen_on(&rt, rt.alloc(), &listener, limits, Vec::new(rt.alloc()), &mut sink)?;
 //! ```
 //!
-//! Proved: what is written. With Ok it is the line that names the port, and the text of a history that desks of one
-//! hall made, no more of them than sessions are served at once, by the definition of a settlement; after a fault a
-//! beginning of such a text. No contract says that a session is served at all, that a change wakes anybody or that a
-//! desk is handed back: tests show it.
+//! Proved: what is written. With Ok it is the line that names a port, and the text of a history that can be loaded
+//! again, that begins with what was loaded, and to which no more desks have added than sessions are served at once;
+//! after a fault a beginning of such a text. No contract says that the history is what the sessions did, that a session
+//! is served at all, that a change wakes anybody or that a desk is handed back: tests show it.
 #![tactic(auto)]
 
 mod connection;
+mod ending;
 mod fault;
 mod house;
 mod kind;

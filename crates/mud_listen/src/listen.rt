@@ -4,9 +4,10 @@ ghost use Rattle.std.specs.Prelude.{◌≡◌, ◌≤◌, ◌<◌, length, true,
 ghost use Rattle.std.specs.Prelude.{ℕ, List};
 ghost use Rattle.mud_ends.specs.Ends.{Writer};
 ghost use Rattle.mud_chron.specs.Entry.{Accepted};
-ghost use Rattle.mud_listen.specs.Listening.{IsMade, Settles, SettlesInPart, IsListenFault};
+ghost use Rattle.mud_listen.specs.Listening.{MayEnd, Settles, SettlesInPart, IsListenFault};
 
 use crate::connection::{Connection, OfHall, Shared, refuse};
+use crate::ending::settle;
 use crate::fault::ListenFault;
 use crate::house::House;
 use crate::kind::Kind;
@@ -16,7 +17,7 @@ use crossbeam_utils::sync::Parker;
 use log::Log;
 use mud_chron::Entry;
 use mud_ends::Sink;
-use mud_hall::{CloseFault, HallName, LoadFault, NewHall};
+use mud_hall::{HallName, LoadFault, NewHall};
 use std::alloc::Global;
 use std::io::{ErrorKind, Write};
 use std::marker::Brand;
@@ -156,8 +157,8 @@ fn welcome<
     }
 }
 
-// Takes connections until so many sessions have begun; where the total is 0, without end. A connection that the other
-// side gave up before it was taken is none.
+// Takes connections until as many sessions have begun as the total says; where it is 0, without end. A connection that
+// the other side gave up before it was taken is none.
 fn accept_all<
     's,
     E,
@@ -221,17 +222,6 @@ fn serve_house<
     })
 }
 
-// Why the desks made no history.
-fn of_close(fault: CloseFault) -> ListenFault
-    ensures { (capacity : ℕ) (loaded : List Accepted) (old new : Writer)
-        → IsListenFault capacity loaded old new result }
-{
-    match fault {
-        CloseFault::OutOfMemory => ListenFault::OutOfMemory,
-        fault => ListenFault::Settle(fault),
-    }
-}
-
 // Serves in the hall, which J names, and settles.
 fn serve_all<J: HallName + Send + Sync, R: Threads + Wait + Log + Sync>(
     rt: &R,
@@ -243,7 +233,8 @@ fn serve_all<J: HallName + Send + Sync, R: Threads + Wait + Log + Sync>(
     requires cells { hall.cells ≡ J.cells }
     requires loaded { hall.loaded ≡ J.loaded }
     requires workers { limits.workers ≤ 8 }
-    ensures made { IfOk result (λ history. IsMade limits.sessions J.loaded history.items) }
+    requires capacity { limits.capacity ≤ 65536 }
+    ensures ends { IfOk result (λ history. MayEnd limits J.loaded history.items) }
     ensures limit { IfOk result (λ history. length history.items ≤ 65536) }
     ensures total { OnOk result (0 < limits.total) }
     ensures fault { IfErr result (λ f. (capacity : ℕ) (loaded : List Accepted) (old new : Writer)
@@ -254,10 +245,7 @@ fn serve_all<J: HallName + Send + Sync, R: Threads + Wait + Log + Sync>(
     let Ok((hall, desks)) = house.into_parts(alloc) else {
         return Err(ListenFault::OutOfMemory);
     };
-    match hall.close(rt, desks) {
-        Ok(settled) => Ok(settled.history),
-        Err((_, _, fault)) => Err(of_close(fault)),
-    }
+    settle(rt, alloc, limits, hall, desks)
 }
 
 // The same in a hall that has no name yet: one call picks it.
@@ -269,7 +257,8 @@ fn serve<R: Threads + Wait + Log + Sync>(
     limits: Limits,
 ) -> Result<Vec<Entry>, ListenFault>
     requires workers { limits.workers ≤ 8 }
-    ensures made { IfOk result (λ history. IsMade limits.sessions hall.loaded history.items) }
+    requires capacity { limits.capacity ≤ 65536 }
+    ensures ends { IfOk result (λ history. MayEnd limits hall.loaded history.items) }
     ensures limit { IfOk result (λ history. length history.items ≤ 65536) }
     ensures total { OnOk result (0 < limits.total) }
     ensures fault { IfErr result (λ f. (capacity : ℕ) (loaded : List Accepted) (old new : Writer)
@@ -294,12 +283,14 @@ fn resumed(alloc: Global, capacity: u32, loaded: Vec<Entry>) -> Result<NewHall, 
 
 /// Serves the connections of a listener, each by a session of its own at a desk of one hall, which goes on from the
 /// entries that were loaded. First it writes `listening on` and the port. A connection for which there is no place is
-/// told `(server full)` and closed; it counts for no session, nor does one that wants memory or a thread before its
-/// session begins. Where `limits.total` is over 0, the server ends once so many sessions have begun and all of them
-/// have ended: then it settles the hall, and writes its history in format 2 (docs/HISTORY.md).
+/// told `(server full)` and closed; it counts for no session, nor does one for which memory or threads ran out before
+/// its session begins. Where `limits.total` is over 0, the server ends once that many sessions have begun and all of
+/// them have ended: then it settles the hall, tries the history as a load would, and writes it in format 2
+/// (docs/HISTORY.md).
 ///
 /// `Load` comes before anything is written. `Accept` comes where no connection can be taken any more: the sessions
-/// that run end in their own way before it is answered.
+/// that run end in their own way before it is answered. `Settle` comes where the desks made no history that can be
+/// loaded again.
 pub fn listen_on<R: Threads + Wait + Log + Sync, W: Write>(
     rt: &R,
     alloc: Global,
@@ -312,8 +303,8 @@ pub fn listen_on<R: Threads + Wait + Log + Sync, W: Write>(
     requires workers { limits.workers ≤ 8 }
     requires from { 1 ≤ limits.capacity }
     requires to { limits.capacity ≤ 65536 }
-    ensures ok { OnOk result (Settles limits.sessions loaded.items out.old.holds out.new.holds) }
-    ensures front { OnErr result (SettlesInPart limits.sessions loaded.items out.old.holds out.new.holds) }
+    ensures ok { OnOk result (Settles limits loaded.items out.old.holds out.new.holds) }
+    ensures front { OnErr result (SettlesInPart limits loaded.items out.old.holds out.new.holds) }
     ensures fault { IfErr result (IsListenFault limits.capacity loaded.items out.old out.new) }
     ensures total { OnOk result (0 < limits.total) }
 {

@@ -14,7 +14,7 @@ pub(crate) struct Talk<J: HallName> {
     desk: Desk<J>,
 }
 
-/// A talk behind a step, what the step gives to be sent, and what came of it.
+/// A talk after a step, what the step gives to be sent, and what came of it.
 #[derive(Drop)]
 pub(crate) struct Step<J: HallName> {
     /// The talk.
@@ -33,8 +33,8 @@ impl<J: HallName> Talk<J> {
         Talk { session, desk }
     }
 
-    // The session at its seat again, behind a step of which this came.
-    fn behind(
+    // The session at its seat again, after a step of which this came.
+    fn after(
         mut session: Session,
         seat: Seat<'_, J>,
         came: Result<(), SessionFault>,
@@ -66,7 +66,7 @@ impl<J: HallName> Talk<J> {
         let mut seat = Seat::new(hall, desk, workers);
         let before = seat.accepted();
         let fed = session.feed(rt, &mut seat, bytes);
-        Talk::behind(session, seat, fed, before)
+        Talk::after(session, seat, fed, before)
     }
 
     /// Has the session look for what others did.
@@ -77,7 +77,7 @@ impl<J: HallName> Talk<J> {
         let mut seat = Seat::new(hall, desk, workers);
         let before = seat.accepted();
         let nudged = session.nudge(&mut seat);
-        Talk::behind(session, seat, nudged, before)
+        Talk::after(session, seat, nudged, before)
     }
 
     /// The desk, a guest's again.

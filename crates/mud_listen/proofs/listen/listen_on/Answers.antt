@@ -1,7 +1,7 @@
 use Rattle.std.proofs.Common.{rules}
 use Rattle.std.proofs.lemmas.Result.{on_ok_weaker, on_err_weaker}
 use Rattle.mud_listen.specs.Listening.{IsListenFault}
-use Rattle.mud_listen.proofs.Written.{any_err, made_of, none_written, front_written, line_written}
+use Rattle.mud_listen.proofs.Written.{any_err, end_of, none_written, front_written, line_written}
 use Rattle.mud_listen.proofs.Written.{part_written, all_written}
 use Rattle.mud_listen.proofs.listen.listen_on.Goals as goal
 
@@ -38,16 +38,16 @@ returns-in_err-history-clause-front g c =
 
 pub returns-clause-ok : goal.returns-clause-ok
 returns-clause-ok g c =
-    let made =
-    made_of _ _ _ _ _ c.in_ok-hall.ensures.loaded c.as_slice.ensures.value c.in_ok-history.ensures.made in
+    let ends =
+    end_of _ _ _ _ _ c.in_ok-hall.ensures.loaded c.as_slice.ensures.value c.in_ok-history.ensures.ends in
     on_ok_weaker c.write_entries.result
-    (λ written. all_written _ c.port-port.result _ _ _ _ _ made c.in_ok-write_port.ensures.ok written)
+    (λ written. all_written _ c.port-port.result _ _ _ _ _ ends c.in_ok-write_port.ensures.ok written)
     c.write_entries.ensures.ok
 
 pub returns-clause-front : goal.returns-clause-front
 returns-clause-front g c =
-    let made =
-    made_of _ _ _ _ _ c.in_ok-hall.ensures.loaded c.as_slice.ensures.value c.in_ok-history.ensures.made in
+    let ends =
+    end_of _ _ _ _ _ c.in_ok-hall.ensures.loaded c.as_slice.ensures.value c.in_ok-history.ensures.ends in
     on_err_weaker c.write_entries.result
-    (λ written. part_written _ c.port-port.result written.0 _ _ _ _ _ made c.in_ok-write_port.ensures.ok written.1)
+    (λ written. part_written _ c.port-port.result written.0 _ _ _ _ _ ends c.in_ok-write_port.ensures.ok written.1)
     c.write_entries.ensures.front

@@ -1,4 +1,3 @@
-use Rattle.std.proofs.Common.{◌≤◌, ◌∙◌, length, subst}
 use denote.Exit.{no, unseen}
 use denote.Param.{param}
 use denote.Param.Send.{IsSend, Quiet-if}
@@ -30,10 +29,3 @@ serve_house-requires-send-S g c κs within =
       owned = sent.owned;
       leaving = λ k. Quiet-if (k (of_param 3)) (R.exit no) unseen (sent.leaving no) (λ x w. tt);
     }
-
-pub returns-in-Ok-close-clause-made : goal.returns-in-Ok-close-clause-made
-returns-in-Ok-close-clause-made g c = record {
-  desks = c.in-Ok.desks.items;
-  few = subst (λ n. length c.in-Ok.desks.items ≤ n) c.in_ok-house.ensures c.in-Ok.ensures;
-  settled = c.in-Ok-close.ensures.settled;
-}

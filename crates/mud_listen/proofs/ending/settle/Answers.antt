@@ -1,0 +1,10 @@
+use Rattle.std.proofs.Common.{subst}
+use Rattle.mud_hall.specs.Steps.{AreLoadable}
+use Rattle.mud_listen.proofs.Written.{may_end}
+use Rattle.mud_listen.proofs.ending.settle.Goals as goal
+
+pub returns-in-Ok-clause-ends : goal.returns-in-Ok-clause-ends
+returns-in-Ok-clause-ends g c =
+    may_end c.args.limits g.J.HallName.loaded c.in-Ok.settled.history.items c.args.desks.items c.requires.few
+    c.in-Ok.ensures.settled
+    (subst (AreLoadable c.args.limits.capacity) c.deref.ensures.value c.in_ok-try_history-in-Ok.ensures.loadable)

@@ -1,3 +1,4 @@
+pub mod Marking
 pub mod Places
 pub mod Records
 pub mod Moving

@@ -1,4 +1,5 @@
 pub mod Kinds
+pub mod Marking
 pub mod Truth
 pub mod State
 pub mod Sound

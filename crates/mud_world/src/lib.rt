@@ -40,6 +40,7 @@ mod legal;
 mod links;
 mod locks;
 mod maps;
+mod marks;
 mod nesting;
 mod questions;
 mod reach;

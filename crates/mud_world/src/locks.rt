@@ -4,7 +4,7 @@ ghost use Rattle.std.specs.Prelude.{◌≡◌, true, false, is_none, slice_index
 ghost use Rattle.std.specs.Option.{option_map_or};
 ghost use Rattle.mud_key.specs.Node.{key_of as tree_of};
 ghost use Rattle.mud_world.specs.Truth.{key_true};
-ghost use Rattle.mud_world.specs.State.{has, opens, unlocked};
+ghost use Rattle.mud_world.specs.State.{has, opens};
 ghost use Rattle.mud_world.specs.Bearing.{has_for, asked_for};
 
 use crate::holding::Holding;
@@ -18,6 +18,8 @@ pub(crate) enum Bearer<'a> {
     Number(u32),
     // The one whose holding this is.
     Holder(&'a Holding),
+    // The one who holds what is marked: a mark for each number.
+    Marks(&'a [bool]),
 }
 
 // What answers the questions of a key.
@@ -44,6 +46,7 @@ impl World {
         match bearer {
             Bearer::Number(number) => self.holds(number, object),
             Bearer::Holder(holding) => holding.has(object),
+            Bearer::Marks(marks) => answer(marks, object),
         }
     }
 
@@ -100,12 +103,5 @@ impl World {
             return self.is_keyless(object);
         }
         self.lets_in(bearer, Asked::Levels(levels - 1), object)
-    }
-
-    // Whether the object is unlocked for the candidate.
-    pub(crate) fn is_open(&self, candidate: u32, object: u32) -> bool
-        ensures { result ≡ unlocked self.now candidate object }
-    {
-        self.opens(Bearer::Number(candidate), object, 4)
     }
 }

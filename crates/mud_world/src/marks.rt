@@ -1,0 +1,88 @@
+//! What an object holds, as a mark for each number. It takes no memory.
+
+ghost use Rattle.std.specs.Prelude.{◌≡◌, true, false, IfSome, OnSome, ◌++◌, replicate, slice_set};
+ghost use Rattle.mud_world.specs.State.{IsHolding, unlocked};
+ghost use Rattle.mud_world.specs.Marking.{marked};
+
+use crate::locks::Bearer;
+use crate::world::World;
+use arrayvec::ArrayVec;
+
+// Marks a number.
+fn put_mark(marks: &mut [bool], number: u32)
+    ensures { marks.new ≡ slice_set marks.old number true }
+{
+    if (number as usize) < marks.len() {
+        marks[number as usize] = true;
+    }
+}
+
+// A mark for each of the numbers.
+fn marks_of(numbers: &[u32]) -> [bool; 8192]
+    ensures { result ≡ marked numbers.now (replicate 8192 false) }
+{
+    let mut marks = [false; 8192];
+    for number in numbers {
+        put_mark(&mut marks, *number);
+    }
+    marks
+}
+
+// Adds the numbers, or gives nothing where there is no room.
+fn push_all(found: &mut ArrayVec<u32, 8192>, numbers: &[u32]) -> Option<()>
+    ensures { OnSome result (found.new.items ≡ found.old.items ++ numbers.now) }
+{
+    found.try_extend_from_slice(numbers).ok()
+}
+
+impl World {
+    // The numbers of the object, if it exists, and of all that it contains at any depth. No world
+    // has more than there is room for here, so that there is always an answer; no proof needs it.
+    fn gathered(&self, candidate: u32) -> Option<ArrayVec<u32, 8192>>
+        ensures { IfSome result (λ found. IsHolding self.now candidate found.items) }
+    {
+        self.is_sound();
+        let mut found = ArrayVec::new();
+        if self.exists(candidate) {
+            found.try_push(candidate).ok()?;
+        }
+        for i in 0..8193 {
+            match found.get(i) {
+                None => return Some(found),
+                Some(at) => {
+                    let inner = self.contents(*at);
+                    push_all(&mut found, inner)?;
+                }
+            }
+        }
+        None
+    }
+
+    // Whether the object is unlocked for the candidate, once it is known what he holds.
+    fn is_open_marked(&self, candidate: u32, numbers: &[u32], object: u32) -> bool
+        requires { IsHolding self.now candidate numbers.now }
+        ensures { result ≡ unlocked self.now candidate object }
+    {
+        self.is_sound();
+        let marks = marks_of(numbers);
+        self.opens(Bearer::Marks(&marks), object, 4)
+    }
+
+    // Whether an object that has a key is unlocked for the candidate.
+    fn is_let_in(&self, candidate: u32, object: u32) -> bool
+        ensures { result ≡ unlocked self.now candidate object }
+    {
+        match self.gathered(candidate) {
+            Some(found) => self.is_open_marked(candidate, found.as_slice(), object),
+            None => self.opens(Bearer::Number(candidate), object, 4),
+        }
+    }
+
+    // Whether the object is unlocked for the candidate. Few objects have a key: of the others it is
+    // not asked what he holds.
+    pub(crate) fn is_open(&self, candidate: u32, object: u32) -> bool
+        ensures { result ≡ unlocked self.now candidate object }
+    {
+        self.is_keyless(object) || self.is_let_in(candidate, object)
+    }
+}

@@ -21,7 +21,7 @@ pub enum OpenFault {
     #[error("not a history")]
     NotHistory,
     /// It is the text of a whole history: a journal has no last line.
-    #[error("a whole history, which is a journal without its last line")]
+    #[error("a whole history: load it, or take its last line off")]
     Whole,
     /// It is a journal of format 1, which is not written any more.
     #[error("old format")]

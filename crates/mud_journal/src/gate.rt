@@ -1,6 +1,6 @@
 //! How far a journal is synced, and those who wait for it.
 
-ghost use Rattle.std.specs.Prelude.{◌≤◌, IfSome};
+ghost use Rattle.std.specs.Prelude.{◌≡◌, ◌≤◌, IfSome, true, false};
 
 use crate::journal::Receipt;
 use std::sync::{Condvar, Mutex, Wait};
@@ -10,12 +10,13 @@ use std::sync::{Condvar, Mutex, Wait};
 struct State {
     // The last version that is to be synced.
     wanted: usize,
-    // What the journal synced.
+    // What the journal synced; a gate without a journal keeps that of nothing.
     synced: Receipt,
     // It takes no more.
     has_failed: bool,
     // No more will be asked for.
     is_closed: bool,
+    ghost of_journal: { synced.is_free ≡ false },
 }
 
 /// How far a journal is synced, for the thread that writes it and the threads that wait for it. Under its lock nothing
@@ -31,7 +32,10 @@ pub struct Gate {
 }
 
 // A gate at which this is synced.
-fn gate_at(synced: Receipt, is_open: bool) -> Gate {
+fn gate_at(synced: Receipt, is_open: bool) -> Gate
+    requires { synced.is_free ≡ false }
+    ensures { result.is_open ≡ is_open }
+{
     Gate {
         state: Mutex::new(State {
             wanted: synced.up_to(),
@@ -46,18 +50,24 @@ fn gate_at(synced: Receipt, is_open: bool) -> Gate {
 }
 
 impl Gate {
-    /// The gate of a journal that has synced this.
-    pub fn new(receipt: &Receipt) -> Gate {
-        gate_at(*receipt, false)
+    /// The gate of a journal that has synced this. A free receipt says nothing of a journal.
+    pub fn new(receipt: &Receipt) -> Gate
+        ensures { result.is_open ≡ false }
+    {
+        gate_at(receipt.of_journal(), false)
     }
 
     /// The gate of a server without a journal, where all counts as synced.
-    pub fn open() -> Gate {
-        gate_at(Receipt::without_journal(), true)
+    pub fn open() -> Gate
+        ensures { result.is_open ≡ true }
+    {
+        gate_at(Receipt::of_nothing(), true)
     }
 
     /// Whether there is no journal.
-    pub fn is_open(&self) -> bool {
+    pub fn is_open(&self) -> bool
+        ensures { result ≡ self.now.is_open }
+    {
         self.is_open
     }
 
@@ -69,12 +79,14 @@ impl Gate {
         self.state.lock(rt).synced.up_to()
     }
 
-    /// Waits until this many entries are synced. There is no receipt where the journal takes no more before.
+    /// Waits until this many entries are synced. There is no receipt where the journal takes no more before. It is free
+    /// only where there is no journal.
     pub fn wait_for<R: Wait>(&self, rt: &R, version: usize) -> Option<Receipt>
-        ensures { IfSome result (λ r. version ≤ r.up_to) }
+        ensures up_to { IfSome result (λ r. version ≤ r.up_to) }
+        ensures of_journal { self.now.is_open ≡ false → IfSome result (λ r. r.is_free ≡ false) }
     {
         if self.is_open {
-            return Some(Receipt::without_journal());
+            return Some(Receipt::free());
         }
         let mut state = self.state.lock(rt);
         for _ in rt.forever() {
@@ -121,11 +133,12 @@ impl Gate {
         unreachable!()
     }
 
-    /// Lets go those who wait for what is synced now.
+    /// Lets go those who wait for what is synced now. A free receipt says nothing of a journal, and lets nobody go.
     pub fn publish<R: Wait>(&self, rt: &R, receipt: &Receipt) {
+        let synced = receipt.of_journal();
         let mut state = self.state.lock(rt);
-        if state.synced.up_to() < receipt.up_to() {
-            state.synced = *receipt;
+        if state.synced.up_to() < synced.up_to() {
+            state.synced = synced;
         }
         self.done.notify_all();
     }

@@ -11,18 +11,44 @@ use crate::fault::JournalFault;
 use mud_chron::{Entry, Format, MOST_ENTRIES, write_entry};
 use std::alloc::{AllocError, Global};
 
-/// That this many entries are synced. A journal makes it, and else only a gate without a journal.
+/// That this many entries are synced. A journal makes it, and else only a gate without a journal, where it is free: no
+/// disk stands behind it.
 #[derive(Clone, Copy)]
 pub struct Receipt {
     up_to: usize,
+    is_free: bool,
 }
 
 impl Receipt {
     // For a gate without a journal: nothing waits.
-    pub(crate) fn without_journal() -> Receipt
-        ensures { result.up_to ≡ 18446744073709551615 }
+    pub(crate) fn free() -> Receipt
+        ensures { result ≡ record { up_to = 18446744073709551615; is_free = true } }
     {
-        Receipt { up_to: usize::MAX }
+        Receipt {
+            up_to: usize::MAX,
+            is_free: true,
+        }
+    }
+
+    // That no entry needs to be synced.
+    pub(crate) fn of_nothing() -> Receipt
+        ensures { result ≡ record { up_to = 0; is_free = false } }
+    {
+        Receipt {
+            up_to: 0,
+            is_free: false,
+        }
+    }
+
+    // The receipt, or that of nothing where it is free.
+    pub(crate) fn of_journal(self) -> Receipt
+        ensures { result.is_free ≡ false }
+    {
+        if self.is_free {
+            Receipt::of_nothing()
+        } else {
+            self
+        }
     }
 
     /// How many.
@@ -131,6 +157,7 @@ impl<D: Disk + Drop> Journal<D> {
         ensures ok { OnOk result (Adds (D.kept self.old.disk) (D.kept self.new.disk) self.old.count entries.now) }
         ensures count { IfOk result (λ r. (self.new.count ≡ self.old.count + length entries.now)
             × (r.up_to ≡ self.new.count)) }
+        ensures of_journal { IfOk result (λ r. r.is_free ≡ false) }
         ensures going { OnOk result (self.new.has_failed ≡ false) }
         ensures fault { OnErr result (AddsInPart (D.kept self.old.disk) (D.kept self.new.disk)
             self.old.count entries.now) }
@@ -153,7 +180,7 @@ impl<D: Disk + Drop> Journal<D> {
         self.disk.sync()?;
         self.count += entries.len();
         self.has_failed = false;
-        Ok(Receipt { up_to: self.count })
+        Ok(self.receipt())
     }
 
     /// Takes no more from now on.
@@ -165,8 +192,12 @@ impl<D: Disk + Drop> Journal<D> {
 
     /// That its entries are synced.
     pub fn receipt(&self) -> Receipt
-        ensures { result.up_to ≡ self.now.count }
+        ensures up_to { result.up_to ≡ self.now.count }
+        ensures of_journal { result.is_free ≡ false }
     {
-        Receipt { up_to: self.count }
+        Receipt {
+            up_to: self.count,
+            is_free: false,
+        }
     }
 }

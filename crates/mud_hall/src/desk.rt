@@ -1,6 +1,6 @@
 //! One caller's side of a hall.
 
-ghost use Rattle.std.specs.Prelude.{◌≡◌, ◌++◌, ◌∷◌, [], ◌<◌, ◌≤◌, ◌+◌, ◌⊎◌, length};
+ghost use Rattle.std.specs.Prelude.{◌≡◌, ◌++◌, ◌∷◌, [], ◌<◌, ◌≤◌, ◌+◌, ◌⊎◌, length, max};
 ghost use Rattle.std.specs.Prelude.{map, Some, None, IfOk, IfErr, OnErr, OnOk, MatchBool, string_bytes};
 ghost use Rattle.std.specs.Option.{option_to_list};
 ghost use mathlib.Core.List.{IsPrefix};
@@ -109,13 +109,14 @@ impl<J: HallName> Desk<J> {
         Ok(true)
     }
 
-    // Takes all cells that are found set into what it knows.
-    fn extend(&mut self, row: &Row)
+    // Takes the cells that are found set, none after the `most`-th, into what it knows.
+    fn extend_to(&mut self, row: &Row, most: u32)
         requires { row.now ≡ J.cells }
         ensures at { self.new.at ≡ self.old.at }
         ensures state { TakesIn self.old.state self.new.state }
+        ensures most { length self.new.state.seen ≤ max (length self.old.state.seen) most }
     {
-        self.replica.extend(row);
+        self.replica.extend_to(row, most);
     }
 
     // Takes all that it knows into its world.
@@ -136,7 +137,22 @@ impl<J: HallName> Desk<J> {
         ensures state { TakesIn self.old.state self.new.state }
         ensures ok { OnOk result (self.new.at ≡ length self.new.state.seen) }
     {
-        self.extend(row);
+        self.take_in_to(alloc, row, u32::MAX)
+    }
+
+    // The same for those of the first `most` cells.
+    pub(crate) fn take_in_to(
+        &mut self,
+        alloc: Global,
+        row: &Row,
+        most: u32,
+    ) -> Result<(), AllocError>
+        requires { row.now ≡ J.cells }
+        ensures state { TakesIn self.old.state self.new.state }
+        ensures most { length self.new.state.seen ≤ max (length self.old.state.seen) most }
+        ensures ok { OnOk result (self.new.at ≡ length self.new.state.seen) }
+    {
+        self.extend_to(row, most);
         self.catch_up(alloc, row)
     }
 

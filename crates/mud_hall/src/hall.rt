@@ -1,6 +1,6 @@
 //! Many desks over one history.
 
-ghost use Rattle.std.specs.Prelude.{◌≡◌, ◌≢◌, ◌≤◌, ◌<◌, ◌⊎◌, [], length, IfOk, IfErr, OnErr, OnOk};
+ghost use Rattle.std.specs.Prelude.{◌≡◌, ◌≢◌, ◌≤◌, ◌<◌, ◌⊎◌, [], length, max, IfOk, IfErr, OnErr, OnOk};
 ghost use Rattle.std.specs.List.{AllByRecursion};
 ghost use Rattle.mud_chron.specs.Entry.{IsEntry};
 ghost use Rattle.mud_hall.specs.Desk.{IsNew, TakesIn, untold};
@@ -210,7 +210,18 @@ impl<J: HallName> Desk<J> {
         ensures told { OnOk result (untold self.new ≡ []) }
         ensures fault { IfErr result (λ f. f ≡ Fault.OutOfMemory) }
     {
-        self.take_in(hall.alloc, &hall.row)?;
+        self.see_to(hall, u32::MAX)
+    }
+
+    /// Takes in the entries that are found, none after the `most`-th. What it has seen of those stays. It
+    /// waits for nobody.
+    pub fn see_to(&mut self, hall: &Hall<J>, most: u32) -> Result<(), Fault>
+        ensures state { TakesIn self.old.state self.new.state }
+        ensures most { length self.new.state.seen ≤ max (length self.old.state.seen) most }
+        ensures told { OnOk result (untold self.new ≡ []) }
+        ensures fault { IfErr result (λ f. f ≡ Fault.OutOfMemory) }
+    {
+        self.take_in_to(hall.alloc, &hall.row, most)?;
         Ok(())
     }
 

@@ -11,7 +11,7 @@
 //! | `Hall::capacity`, `loaded` | how many entries the history can have, and how many it began with |
 //! | `Hall::desk` | a guest's desk of the next number: [`Fault`] |
 //! | `Hall::act` | takes all entries in, and replies to a line in that world: [`Reply`], [`Fault`] |
-//! | `Desk::see` | takes in all entries that are found |
+//! | `Desk::see`, `see_to` | takes in all entries that are found, or those of the first so many |
 //! | `Desk::ask`, `ask_with` | the answer to a line by exactly what the desk has seen; the guide by several workers |
 //! | `Desk::take_told` | the lines that tell what others did, each once |
 //! | `Desk::learn`, `guest` | knows what another desk knows; is a guest's desk again |

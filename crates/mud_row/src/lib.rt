@@ -18,7 +18,7 @@
 //! | `Row::entry` | a known entry, counted from 1 |
 //! | `Pass::learn`, `Pass::agree` | the longer knowledge of two, and that one begins the other |
 //! | `Replica::new`, `known`, `at`, `world` | a replica, what it knows, and the world of what it took in |
-//! | `Replica::extend`, `publish`, `learn` | know more; the world stays |
+//! | `Replica::extend`, `extend_to`, `publish`, `learn` | know more; the world stays |
 //! | `Replica::peek`, `step`, `catch_up` | the next known entry; takes in that one, or all |
 //! | `Replica::see` | `extend`, and then `catch_up` |
 //! | `Replica::entry`, `tell`, `hear` | a known entry; a pass learns what the replica knows, or it what a pass knows |

@@ -1,6 +1,6 @@
 //! A world that follows a row.
 
-ghost use Rattle.std.specs.Prelude.{◌≡◌, ◌++◌, ◌∷◌, [], ◌<◌, ◌≤◌, ◌+◌, ◌↔◌, ◌⊎◌, length, slice_get};
+ghost use Rattle.std.specs.Prelude.{◌≡◌, ◌++◌, ◌∷◌, [], ◌<◌, ◌≤◌, ◌+◌, ◌↔◌, ◌⊎◌, length, max, slice_get};
 ghost use Rattle.std.specs.Prelude.{IfOk, IfErr, OnErr, OnOk, IsErrAnd, MatchBool, MatchOption};
 ghost use Rattle.std.specs.Option.{option_copied};
 ghost use mathlib.Core.List.{IsPrefix};
@@ -89,7 +89,18 @@ impl Replica {
         ensures longer { IsPrefix self.old.list self.new.list }
         ensures within { self.old.at ≤ length self.old.list }
     {
-        for _ in 0..row.capacity() {
+        self.extend_to(row, row.capacity());
+    }
+
+    /// As `extend`, but it comes to know no entry after the `most`-th.
+    pub fn extend_to(&mut self, row: &Row, most: u32)
+        requires { self.old.row ≡ row.now }
+        ensures still { (self.new.row ≡ self.old.row) × (self.new.at ≡ self.old.at) }
+        ensures longer { IsPrefix self.old.list self.new.list }
+        ensures most { length self.new.list ≤ max (length self.old.list) most }
+        ensures within { self.old.at ≤ length self.old.list }
+    {
+        for _ in self.pass.known()..most {
             if row.next(&mut self.pass).is_none() {
                 break;
             }

@@ -4,6 +4,7 @@ pub mod Playing
 pub mod Taking
 pub mod Sharing
 pub mod Telling
+pub mod Naming
 pub mod Calling
 pub mod Running
 pub mod Fresh

@@ -9,6 +9,9 @@ use Rattle.mud_hall.specs.Desk.{DeskState, TakesIn}
 use Rattle.mud_hall.specs.Steps.{Call, Act, Ask, Told, PerformsAll, Hall, opened_alone, At, IsRun}
 use Rattle.mud_session.specs.Session.{Talk, TakesNone, Said, Turn, Takes, Plays, Play, numbered, reply_line, text_of}
 use Rattle.mud_session.specs.Script.{begins}
+use Rattle.mud_session.specs.State.{State, DoorState}
+use Rattle.mud_session.specs.Feeding.{Feeds, Nudges}
+use Rattle.mud_session.specs.Naming.{NamesSeen}
 
 -- which turns got a reply
 abbrev pub replied : List Turn → List Bool
@@ -80,3 +83,13 @@ abbrev pub ScriptIsRun : Type 0
 ScriptIsRun =
     (capacity : ℕ) (turns : List Turn) (new : Talk) → Plays TakesNone (begins capacity) turns new
     → AreScript capacity turns new.desk
+
+-- ---- versions
+
+-- a session that names no version beyond what its desk has seen goes on so, whatever bytes it is given, and when it
+-- looks for what others did
+abbrev pub NothingBeyond : Type 0
+NothingBeyond =
+    (old new : State) (was is : DoorState) (names : NamesSeen old was.desk)
+    → ((bytes : List ℕ) → Feeds TakesIn names.earlier bytes old new was is → NamesSeen new is.desk)
+    × (Nudges TakesIn old new was is → NamesSeen new is.desk)

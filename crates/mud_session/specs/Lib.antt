@@ -4,4 +4,5 @@ pub mod Feeding
 pub mod Turning
 pub mod Script
 pub mod Serving
+pub mod Naming
 pub mod Laws

@@ -13,9 +13,10 @@
 //! Proved: what is sent is exactly the text of `specs/Session.antt`, however the bytes were cut, and each line does at
 //! its desk what it may do there by the definitions of `mud_hall`: the turns of a session are calls of its desk
 //! ([`laws::turns`]), of which the steps of a hall are made. What others did is told once and in order
-//! ([`laws::notices`]). A line for which memory runs out is answered `(out of memory)` and changes nothing but what the
-//! desk has seen; the reply to a change that was made is never lost so. Where memory runs out for what the session
-//! itself keeps or sends, the session ends, and then takes nothing more.
+//! ([`laws::notices`]). What is sent names no version above the number of entries that the desk has seen by then
+//! ([`laws::nothing_beyond`]). A line for which memory runs out is answered `(out of memory)` and changes nothing but
+//! what the desk has seen; the reply to a change that was made is never lost so. Where memory runs out for what the
+//! session itself keeps or sends, the session ends, and then takes nothing more.
 #![tactic(auto)]
 
 mod door;

@@ -18,6 +18,7 @@ pub struct Seat<'h, J: HallName> {
     hall: &'h Hall<J>,
     desk: Desk<J>,
     workers: u32,
+    most: u32,
 }
 
 impl<'h, J: HallName> Model for Seat<'h, J> {
@@ -43,10 +44,20 @@ impl<'h, J: HallName> Seat<'h, J> {
         requires { workers ≤ 8 }
         ensures { result ≡ record { capacity = length J.cells; desk = desk.state; untold = untold desk } }
     {
+        Seat::up_to(hall, desk, workers, u32::MAX)
+    }
+
+    /// The same, but where it looks for what others did, or answers a question, it takes in no entry after
+    /// the `most`-th. A line that acts takes in all.
+    pub fn up_to(hall: &'h Hall<J>, desk: Desk<J>, workers: u32, most: u32) -> Seat<'h, J>
+        requires { workers ≤ 8 }
+        ensures { result ≡ record { capacity = length J.cells; desk = desk.state; untold = untold desk } }
+    {
         Seat {
             hall,
             desk,
             workers,
+            most,
         }
     }
 
@@ -92,7 +103,7 @@ impl<'h, J: HallName> Door for Seat<'h, J> {
     }
 
     fn see(&mut self) -> Result<(), Fault> {
-        self.desk.see(self.hall)
+        self.desk.see_to(self.hall, self.most)
     }
 
     fn ask<X: Threads + Wait + Sync>(&mut self, rt: &X, line: &str) -> Result<Answer, Fault> {

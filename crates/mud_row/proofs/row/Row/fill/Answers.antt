@@ -1,5 +1,4 @@
-use Rattle.std.proofs.Common.{◌≡◌, ◌++◌, ◌∷◌, [], ap, sym, ◌∙◌, arith, length, length-append, subst, List}
-use Rattle.mud_chron.specs.Entry.{Accepted}
+use Rattle.std.proofs.Common.{ap, sym, arith, length, length-append, subst}
 use Rattle.mud_row.specs.Known.{Fills, Known}
 use Rattle.mud_row.proofs.Notes.{fills, any_err}
 use Rattle.mud_row.proofs.row.Row.fill.Goals as goal

@@ -1,0 +1,406 @@
+-- A session names no version beyond what its desk has seen.
+use Rattle.std.proofs.Common.{◌≡◌, ◌≤◌, ◌+◌, ℕ, Bool, true, false, List, [], ◌∷◌, ◌++◌, Option, Some, None, refl, sym}
+use Rattle.std.proofs.Common.{ap, ◌∙◌, subst, map, codes, length, length-append, arith, inl, inr, ◌⊎◌}
+use Rattle.std.specs.Prelude.{All, Contains, MatchBool, if◌then◌else◌}
+use Rattle.std.specs.List.{flat_map}
+use Rattle.std.proofs.lemmas.List.{append-nil}
+use Rattle.std.proofs.lemmas.List.Concat.{flat_map-append}
+use Rattle.std.proofs.lemmas.List.Elements.{All-nil, All-cons, All-head, All-tail, All-append, All-weaker}
+use Rattle.mud_words.specs.Parse.{parsed}
+use Rattle.mud_words.specs.Words.{is_blank}
+use Rattle.mud_nvt.specs.declared.codes.TheConstants.{IAC}
+use Rattle.mud_nvt.specs.declared.strokes.Stroke.{Stroke}
+use Rattle.mud_nvt.specs.declared.strokes.Stroke.TheVariants.{Character, EraseCharacter, EraseLine, EndLine}
+use Rattle.mud_nvt.specs.declared.strokes.Stroke.TheVariants.{AreYouThere, Refuse, Nothing}
+use Rattle.mud_nvt.specs.Units.{Given, Text, TooLong, Ayt, Answer, units_at, units_after, units}
+use Rattle.mud_nvt.specs.Telnet.{pieces}
+use Rattle.mud_nvt.specs.Editing.{strokes, line as typed, is_too_long}
+use Rattle.mud_nvt.specs.History.{StandsAfter}
+use Rattle.mud_world.specs.State.{State as World}
+use Rattle.mud_world.specs.declared.change.Change.{Change}
+use Rattle.mud_rules.specs.declared.verdict.Verdict.{Verdict}
+use Rattle.mud_rules.specs.declared.verdict.Verdict.TheVariants as verdict
+use Rattle.mud_rules.specs.Table.{is_question}
+use Rattle.mud_rules.specs.Hearing.{heard_line}
+use Rattle.mud_rules.specs.Replies.{welcome_text, refusal_text}
+use Rattle.mud_chron.specs.Entry.{Accepted as Entry}
+use Rattle.mud_hall.specs.declared.fault.Fault.TheVariants.{OutOfMemory, HistoryFull, Unpublished, DesksFull}
+use Rattle.mud_hall.specs.Told.{world_after, notice_of, notice_in, notices}
+use Rattle.mud_hall.specs.Desk.{DeskState, TakesIn}
+use Rattle.mud_hall.specs.Replies.{Reply, Accepted, Became, Refused, Question, Failed, Stores, Replies, verdict_on}
+use Rattle.mud_hall.proofs.Coming.{Plain as Comes, plainly}
+use Rattle.mud_session.specs.State.{State, DoorState, talk_of}
+use Rattle.mud_session.specs.Session.{Talk, Said, Turn, Takes, Plays, Does, Rests, IsActed, IsAsked, IsAnswered}
+use Rattle.mud_session.specs.Session.{numbered, reply_line, sent, answer_to, text_of_turn, text_of, greeting}
+use Rattle.mud_session.specs.Feeding.{Feeds, Nudges}
+use Rattle.mud_session.specs.Naming.{Piece, Numbered, Notice, Plain, Signal, plain_lines, IsSaidOf, IsNotice, bytes_of}
+use Rattle.mud_session.specs.Naming.{IsUpTo, NamesUpTo, NamesSeen}
+use Rattle.mud_session.specs.Laws.{IsToldOnce, NothingBeyond}
+use Rattle.mud_session.proofs.Telling.{told_once}
+
+-- ---- texts that name no version above a number
+
+pub names-nil : (n : ℕ) → NamesUpTo n []
+names-nil n = record { pieces = []; each = All-nil (IsUpTo n); is = refl }
+
+names-one : (n : ℕ) (piece : Piece) → IsUpTo n piece → NamesUpTo n (bytes_of piece)
+names-one n piece h = record {
+  pieces = piece ∷ [];
+  each = All-cons (IsUpTo n) piece [] h (All-nil (IsUpTo n));
+  is = sym (append-nil (bytes_of piece));
+}
+
+pub names-append : (n : ℕ) (a b : List ℕ) → NamesUpTo n a → NamesUpTo n b → NamesUpTo n (a ++ b)
+names-append n a b x y = record {
+  pieces = x.pieces ++ y.pieces;
+  each = All-append (IsUpTo n) x.pieces y.pieces x.each y.each;
+  is = ap (λ (l : List ℕ). l ++ b) x.is ∙ ap (λ (l : List ℕ). flat_map bytes_of x.pieces ++ l) y.is
+      ∙ sym (flat_map-append bytes_of x.pieces y.pieces);
+}
+
+notice-more : (n m : ℕ) → n ≤ m → (text : List ℕ) → IsNotice n text → IsNotice m text
+notice-more n m le text (v, w, e, p, line, few, heard, is) = (v, w, e, p, line, omega arith, heard, is)
+
+up-to-more : (n m : ℕ) → n ≤ m → (piece : Piece) → IsUpTo n piece → IsUpTo m piece
+up-to-more n m le (Numbered v text) h = (omega (arith, h.0), h.1)
+up-to-more n m le (Notice text) h = notice-more n m le text h
+up-to-more n m le (Plain line) h = h
+up-to-more n m le (Signal verb option) h = tt
+
+pub names-more : (n m : ℕ) (text : List ℕ) → n ≤ m → NamesUpTo n text → NamesUpTo m text
+names-more n m text le x = record {
+  pieces = x.pieces;
+  each = All-weaker (IsUpTo n) (IsUpTo m) (up-to-more n m le) x.pieces x.each;
+  is = x.is;
+}
+
+names-is : (n : ℕ) (a b : List ℕ) → b ≡ a → NamesUpTo n a → NamesUpTo n b
+names-is n a b is x = subst (NamesUpTo n) (sym is) x
+
+names-plain : (n : ℕ) (text : List ℕ) → Contains plain_lines text → NamesUpTo n (sent text)
+names-plain n text h = names-one n (Plain text) h
+
+names-numbered : (n v : ℕ) (text said : List ℕ) → said ≡ numbered v text → v ≤ n → IsSaidOf v text
+    → NamesUpTo n (sent said)
+names-numbered n v text said is le h =
+    names-is n (sent (numbered v text)) (sent said) (ap sent is) (names-one n (Numbered v text) (le, h))
+
+names-notices : (n : ℕ) (lines : List (List ℕ)) → All (IsNotice n) lines → NamesUpTo n (flat_map sent lines)
+names-notices n [] all = names-nil n
+names-notices n (text ∷ lines) all =
+    names-append n (sent text) (flat_map sent lines)
+    (names-one n (Notice text) (All-head (IsNotice n) text lines all))
+    (names-notices n lines (All-tail (IsNotice n) text lines all))
+
+-- ---- both parts of a list
+
+all-left : {X : Type 0} (P : X → Type 0) (xs ys : List X) → All P (xs ++ ys) → All P xs
+all-left P [] ys all = All-nil P
+all-left P (x ∷ xs) ys all =
+    All-cons P x xs (All-head P x (xs ++ ys) all) (all-left P xs ys (All-tail P x (xs ++ ys) all))
+
+all-right : {X : Type 0} (P : X → Type 0) (xs ys : List X) → All P (xs ++ ys) → All P ys
+all-right P [] ys all = all
+all-right P (x ∷ xs) ys all = all-right P xs ys (All-tail P x (xs ++ ys) all)
+
+-- ---- what a desk is told
+
+of-notice : (n v : ℕ) (w : World) (e : Change) (p : ℕ) (line : Option (List ℕ)) → heard_line w e p ≡ line → v ≤ n
+    → All (IsNotice n) (notice_of v line)
+of-notice n v w e p None is le = All-nil (IsNotice n)
+of-notice n v w e p (Some line) is le =
+    All-cons (IsNotice n) _ [] (v, w, e, p, line, le, is, refl) (All-nil (IsNotice n))
+
+in-notice : (n v : ℕ) (player : Option ℕ) (w : World) (e : Entry) → v ≤ n → All (IsNotice n) (notice_in player v w e)
+in-notice n v None w e le = All-nil (IsNotice n)
+in-notice n v (Some p) w e le = of-notice n v w e.change p (heard_line w e.change p) refl le
+
+all-notices : (n : ℕ) (player : Option ℕ) (h es : List Entry) → length h + length es ≤ n
+    → All (IsNotice n) (notices player h es)
+all-notices n player h [] le = All-nil (IsNotice n)
+all-notices n player h (e ∷ es) le =
+    All-append (IsNotice n) (notice_in player (length h + 1) (world_after h) e) (notices player (h ++ e ∷ []) es)
+    (in-notice n (length h + 1) player (world_after h) e (omega arith))
+    (all-notices n player (h ++ e ∷ []) es (omega (arith, length-append h (e ∷ []))))
+
+-- a desk has seen more, what was sent of what it was told names nothing beyond, nor does what it is told later
+record Tells (old : DeskState) (lines : List (List ℕ)) (new : DeskState) : Type 0 where
+  grows : length old.seen ≤ length new.seen
+  handed : All (IsNotice (length new.seen)) lines
+  told : All (IsNotice (length new.seen)) new.told
+
+tells : (old : DeskState) (lines : List (List ℕ)) (new : DeskState) → IsToldOnce old lines new
+    → All (IsNotice (length old.seen)) old.told → Tells old lines new
+tells old lines new once told =
+    let n : ℕ = length new.seen in
+    let seen : n ≡ length (old.seen ++ (once.others ++ once.own)) = ap length once.seen in
+    let first : length (old.seen ++ (once.others ++ once.own)) ≡ length old.seen + length (once.others ++ once.own) =
+    length-append old.seen (once.others ++ once.own) in
+    let second : length (once.others ++ once.own) ≡ length once.others + length once.own =
+    length-append once.others once.own in
+    let grows : length old.seen ≤ n = omega (arith, seen, first) in
+    let few : length old.seen + length once.others ≤ n = omega (arith, seen, first, second) in
+    let all : All (IsNotice n) (old.told ++ notices old.player old.seen once.others) =
+    All-append (IsNotice n) old.told (notices old.player old.seen once.others)
+    (All-weaker (IsNotice (length old.seen)) (IsNotice n) (notice-more (length old.seen) n grows) old.told told)
+    (all-notices n old.player old.seen once.others few) in
+    let both : All (IsNotice n) (lines ++ new.told) = subst (All (IsNotice n)) once.told all in
+    record {
+      grows = grows;
+      handed = all-left (IsNotice n) lines new.told both;
+      told = all-right (IsNotice n) lines new.told both;
+    }
+
+-- ---- what is replied
+
+-- what is said to a line that acts, if anything is, names nothing beyond
+abbrev NamesSaid : ℕ → Option (List ℕ) → Type 0
+NamesSaid n None = Unit {0}
+NamesSaid n (Some text) = NamesUpTo n (sent text)
+
+stored : (capacity : ℕ) (ready : DeskState) (e : Change) (reply : Reply) (new : DeskState)
+    → Stores capacity ready e reply new → NamesSaid (length new.seen) (reply_line reply)
+stored capacity ready e (Accepted v text) new h =
+    let entry : Entry = record { desk = ready.number; change = e } in
+    let seen : length new.seen ≡ length (ready.seen ++ entry ∷ []) = ap (λ (d : DeskState). length d.seen) h.3 in
+    names-numbered (length new.seen) v text (numbered v text) refl
+    (omega (arith, seen, h.1, length-append ready.seen (entry ∷ []))) (inl (world_after ready.seen, e, h.2))
+stored capacity ready e (Failed HistoryFull) new h =
+    names-plain (length new.seen) (codes "(history full)") (2, omega arith, refl)
+stored capacity ready e (Failed Unpublished) new h =
+    names-plain (length new.seen) (codes "(not stored)") (3, omega arith, refl)
+stored capacity ready e (Failed OutOfMemory) new h = tt
+stored capacity ready e (Failed DesksFull) new h = absurd h
+stored capacity ready e (Became v text) new h = absurd h
+stored capacity ready e (Refused v refusal text) new h = absurd h
+stored capacity ready e (Question v) new h = absurd h
+
+replied : (capacity : ℕ) (ready : DeskState) (line : List ℕ) (reply : Reply) (new : DeskState)
+    → Replies capacity ready line reply new → NamesSaid (length new.seen) (reply_line reply)
+replied capacity ready line reply new h =
+    let v : Verdict = verdict_on ready.seen ready.player line in
+    go v (plainly capacity ready v reply new h)
+  where
+    by : (other : Reply) → reply ≡ other → NamesSaid (length new.seen) (reply_line other)
+        → NamesSaid (length new.seen) (reply_line reply)
+    by other is names = subst (λ (r : Reply). NamesSaid (length new.seen) (reply_line r)) (sym is) names
+
+    go : (v : Verdict) → ((reply ≡ Failed OutOfMemory) × (new ≡ ready)) ⊎ Comes capacity ready v reply new
+        → NamesSaid (length new.seen) (reply_line reply)
+    go v (inl c) = by (Failed OutOfMemory) c.0 tt
+    go (verdict.Change e) (inr c) = stored capacity ready e reply new c
+    go (verdict.Become p) (inr c) =
+        let seen : length new.seen ≡ length ready.seen = ap (λ (d : DeskState). length d.seen) c.1 in
+        by (Became (length ready.seen) (welcome_text p)) c.0
+        (names-numbered (length new.seen) (length ready.seen) (welcome_text p) _ refl (omega (arith, seen))
+        (inr (inl (p, refl))))
+    go (verdict.Refused f) (inr c) =
+        let seen : length new.seen ≡ length ready.seen = ap (λ (d : DeskState). length d.seen) c.1 in
+        by (Refused (length ready.seen) f (refusal_text f)) c.0
+        (names-numbered (length new.seen) (length ready.seen) (refusal_text f) _ refl (omega (arith, seen))
+        (inr (inr (inl (f, refl)))))
+    go (verdict.Ask q) (inr c) = by (Question (length ready.seen)) c.0 tt
+
+acted : (old new : Talk) (line : List ℕ) (lines : List (List ℕ)) (said : Said) → IsActed TakesIn old line lines said new
+    → NamesUpTo (length new.desk.seen) (sent said.text)
+acted old new line lines said acts =
+    let names : NamesSaid (length acts.acted.seen) (reply_line acts.reply) =
+    replied old.capacity acts.ready line acts.reply acts.acted acts.replies in
+    let here : NamesUpTo (length acts.acted.seen) (sent said.text) =
+    subst (NamesSaid (length acts.acted.seen)) acts.text names in
+    subst (λ (n : ℕ). NamesUpTo n (sent said.text)) (sym (ap (λ (d : DeskState). length d.seen) acts.tells.is)) here
+
+asked : (old new : Talk) (line : List ℕ) (lines : List (List ℕ)) (said : Said) → IsAsked TakesIn old line lines said new
+    → NamesUpTo (length new.desk.seen) (sent said.text)
+asked old new line lines said asks =
+    names-numbered (length new.desk.seen) asks.answer.version asks.answer.text said.text asks.text
+    (omega (arith, asks.answers.version))
+    (inr (inr (inr (new.desk, line, asks.answer, asks.answers, refl, refl))))
+
+-- ---- what the terminal answers
+
+-- an answer of the terminal is one to a request
+abbrev Signals : Option Given → Type 0
+Signals (Some (Answer bytes)) = (verb : ℕ) × (option : ℕ) × (bytes ≡ IAC ∷ verb ∷ option ∷ [])
+Signals other = Unit {0}
+
+abbrev AllSignal : List Given → Type 0
+AllSignal given = All Signals (map Some given)
+
+one-signal : (g : Given) → Signals (Some g) → AllSignal (g ∷ [])
+one-signal g h = All-cons Signals (Some g) [] h (All-nil Signals)
+
+ended-signals : (long : Bool) (text : List ℕ) → AllSignal ((if long then TooLong else Text text) ∷ [])
+ended-signals true text = one-signal TooLong tt
+ended-signals false text = one-signal (Text text) tt
+
+at-signals : (earlier : List Stroke) (s : Stroke) → AllSignal (units_at earlier s)
+at-signals earlier EndLine = ended-signals (is_too_long earlier) (typed earlier)
+at-signals earlier AreYouThere = one-signal Ayt tt
+at-signals earlier (Refuse verb option) = one-signal (Answer (IAC ∷ verb ∷ option ∷ [])) (verb, option, refl)
+at-signals earlier (Character c) = All-nil Signals
+at-signals earlier EraseCharacter = All-nil Signals
+at-signals earlier EraseLine = All-nil Signals
+at-signals earlier Nothing = All-nil Signals
+
+map-some : (xs ys : List Given) → map Some (xs ++ ys) ≡ map Some xs ++ map Some ys
+map-some [] ys = refl
+map-some (x ∷ xs) ys = ap (λ (l : List (Option Given)). Some x ∷ l) (map-some xs ys)
+
+both-signal : (xs ys : List Given) → AllSignal xs → AllSignal ys → AllSignal (xs ++ ys)
+both-signal xs ys a b = subst (All Signals) (sym (map-some xs ys)) (All-append Signals (map Some xs) (map Some ys) a b)
+
+after-signals : (earlier later : List Stroke) → AllSignal (units_after earlier later)
+after-signals earlier [] = All-nil Signals
+after-signals earlier (s ∷ later) =
+    both-signal (units_at earlier s) (units_after (s ∷ earlier) later) (at-signals earlier s)
+    (after-signals (s ∷ earlier) later)
+
+fresh-signals : (before fresh after : List Given) → after ≡ before ++ fresh → AllSignal after → AllSignal fresh
+fresh-signals before fresh after is all =
+    all-right Signals (map Some before) (map Some fresh)
+    (subst (All Signals) (ap (map Some) is ∙ map-some before fresh) all)
+
+-- ---- turns
+
+-- what is sent in these turns names nothing beyond what the desk has seen then
+record Goes (old : DeskState) (text : List ℕ) (new : DeskState) : Type 0 where
+  grows : length old.seen ≤ length new.seen
+  names : NamesUpTo (length new.seen) text
+  told : All (IsNotice (length new.seen)) new.told
+
+-- what is sent for a unit names nothing beyond
+abbrev Answers : Talk → Option Given → Option Said → Type 0
+Answers new unit reply = NamesUpTo (length new.desk.seen) (answer_to unit reply)
+
+rested : (old new : Talk) (turn : Turn) (unit : Option Given) → Answers new unit None → Rests old turn new
+    → Answers new unit turn.reply
+rested old new turn unit h rests = subst (Answers new unit) (sym rests.reply) h
+
+silent : (new : Talk) (line : List ℕ) (blank : Bool)
+    → NamesUpTo (length new.desk.seen) (if blank then [] else sent (codes "(out of memory)"))
+silent new line true = names-nil (length new.desk.seen)
+silent new line false = names-plain (length new.desk.seen) (codes "(out of memory)") (1, omega arith, refl)
+
+answered : (old new : Talk) (line : List ℕ) (lines : List (List ℕ)) (reply : Option Said)
+    → IsAnswered TakesIn old line lines reply new → Answers new (Some (Text line)) reply
+answered old new line lines None looks = silent new line (is_blank line)
+answered old new line lines (Some said) is = go (is_question (parsed line)) is
+  where
+    go : (b : Bool) → MatchBool b (IsAsked TakesIn old line lines said new) (IsActed TakesIn old line lines said new)
+        → NamesUpTo (length new.desk.seen) (sent said.text)
+    go true asks = asked old new line lines said asks
+    go false acts = acted old new line lines said acts
+
+turned : (old new : Talk) (turn : Turn) (unit : Option Given) → Signals unit → Does TakesIn old turn new unit
+    → Answers new unit turn.reply
+turned old new turn None signals does = names-nil (length new.desk.seen)
+turned old new turn (Some TooLong) signals does =
+    names-plain (length new.desk.seen) (codes "(line too long)") (4, omega arith, refl)
+turned old new turn (Some Ayt) signals does =
+    names-plain (length new.desk.seen) (codes "[Yes]") (5, omega arith, refl)
+turned old new turn (Some (Answer bytes)) (verb, option, is) does =
+    names-is (length new.desk.seen) (IAC ∷ verb ∷ option ∷ []) bytes is
+    (names-one (length new.desk.seen) (Signal verb option) tt)
+turned old new turn (Some (Text line)) signals does = go (is_blank line) does
+  where
+    go : (b : Bool) → MatchBool b (Rests old turn new) (IsAnswered TakesIn old line turn.notices turn.reply new)
+        → Answers new (Some (Text line)) turn.reply
+    go true rests = rested old new turn (Some (Text line)) (silent new line (is_blank line)) rests
+    go false is = answered old new line turn.notices turn.reply is
+
+takes-turn : (old new : Talk) (turn : Turn) → Signals turn.unit → Takes TakesIn old turn new
+    → All (IsNotice (length old.desk.seen)) old.desk.told → Goes old.desk (text_of_turn turn) new.desk
+takes-turn old new turn signals takes told =
+    let t : Tells old.desk turn.notices new.desk =
+    tells old.desk turn.notices new.desk (told_once old new turn takes) told in
+    record {
+      grows = t.grows;
+      names = names-append (length new.desk.seen) (flat_map sent turn.notices) (answer_to turn.unit turn.reply)
+          (names-notices (length new.desk.seen) turn.notices t.handed)
+          (turned old new turn turn.unit signals takes.does);
+      told = t.told;
+    }
+
+plays-on : (old new : Talk) (turns : List Turn) → All Signals (map (λ (turn : Turn). turn.unit) turns)
+    → Plays TakesIn old turns new → All (IsNotice (length old.desk.seen)) old.desk.told
+    → Goes old.desk (text_of turns) new.desk
+plays-on old new [] signals same told =
+    let is : new.desk ≡ old.desk = ap (λ (t : Talk). t.desk) same in
+    record {
+      grows = omega (arith, ap (λ (d : DeskState). length d.seen) is);
+      names = names-nil (length new.desk.seen);
+      told = subst (λ (d : DeskState). All (IsNotice (length d.seen)) d.told) (sym is) told;
+    }
+plays-on old new (turn ∷ turns) signals (goes, mid, takes, plays) told =
+    let units : List (Option Given) = map (λ (t : Turn). t.unit) turns in
+    let one : Goes old.desk (text_of_turn turn) mid.desk =
+    takes-turn old mid turn (All-head Signals turn.unit units signals) takes told in
+    let rest : Goes mid.desk (text_of turns) new.desk =
+    plays-on mid new turns (All-tail Signals turn.unit units signals) plays one.told in
+    record {
+      grows = omega (arith, one.grows, rest.grows);
+      names = names-append (length new.desk.seen) (text_of_turn turn) (text_of turns)
+          (names-more (length mid.desk.seen) (length new.desk.seen) (text_of_turn turn) rest.grows one.names) rest.names;
+      told = rest.told;
+    }
+
+-- ---- the session
+
+goes-on : (old new : State) (was is : DeskState) (earlier text : List ℕ) → NamesSeen old was → Goes was text is
+    → StandsAfter new.terminal earlier → new.out ≡ old.out ++ text → NamesSeen new is
+goes-on old new was is earlier text names goes stands out = record {
+  earlier = earlier;
+  stands = stands;
+  out = names-is (length is.seen) (old.out ++ text) new.out out (names-append (length is.seen) old.out text
+      (names-more (length was.seen) (length is.seen) old.out goes.grows names.out) goes.names);
+  told = goes.told;
+}
+
+feeds : (old new : State) (was is : DoorState) (names : NamesSeen old was.desk) (bytes : List ℕ)
+    → Feeds TakesIn names.earlier bytes old new was is → NamesSeen new is.desk
+feeds old new was is names bytes f =
+    let turns : List Turn = f.play.turns in
+    let fresh : AllSignal f.fresh = fresh-signals (units names.earlier) f.fresh (units (names.earlier ++ bytes)) f.units
+    (after-signals [] (strokes (pieces (names.earlier ++ bytes)))) in
+    let signals : All Signals (map (λ (turn : Turn). turn.unit) turns) =
+    all-left Signals (map (λ (turn : Turn). turn.unit) turns) (map Some f.play.left)
+    (subst (All Signals) f.play.units_are fresh) in
+    goes-on old new was.desk is.desk (names.earlier ++ bytes) (text_of turns) names
+    (plays-on (talk_of old was) (talk_of new is) turns signals f.play.plays names.told) f.stands f.out
+
+nudges : (old new : State) (was is : DoorState) → NamesSeen old was.desk → Nudges TakesIn old new was is
+    → NamesSeen new is.desk
+nudges old new was is names n =
+    goes-on old new was.desk is.desk names.earlier (text_of_turn n.turn) names
+    (takes-turn (talk_of old was) (talk_of new is) n.turn (subst Signals (sym n.none) tt) n.takes names.told)
+    (subst (λ t. StandsAfter t names.earlier) (sym n.terminal) names.stands) n.out
+
+pub nothing_beyond : NothingBeyond
+nothing_beyond old new was is names = (feeds old new was is names, nudges old new was is names)
+
+-- ---- for callers
+
+-- a session to which nothing came, and which greets or not, at a desk that was told nothing
+pub begins_so : (session : State) (desk : DeskState) (greet : Bool) → StandsAfter session.terminal []
+    → session.out ≡ (if greet then greeting else []) → desk.told ≡ [] → NamesSeen session desk
+begins_so session desk greet stands out told = record {
+  earlier = [];
+  stands = stands;
+  out = names-is (length desk.seen) (if greet then greeting else []) session.out out (go greet);
+  told = subst (All (IsNotice (length desk.seen))) (sym told) (All-nil (IsNotice (length desk.seen)));
+}
+  where
+    go : (greet : Bool) → NamesUpTo (length desk.seen) (if greet then greeting else [])
+    go true = names-plain (length desk.seen) (codes "Welcome. Type: connect NAME") (0, omega arith, refl)
+    go false = names-nil (length desk.seen)
+
+-- what was to be sent was taken out
+pub taken_so : (old new : State) (desk : DeskState) → NamesSeen old desk → new ≡ record old { out = [] }
+    → NamesSeen new desk
+taken_so old new desk names is = record {
+  earlier = names.earlier;
+  stands = subst (λ t. StandsAfter t names.earlier) (sym (ap (λ (s : State). s.terminal) is)) names.stands;
+  out = names-is (length desk.seen) [] new.out (ap (λ (s : State). s.out) is) (names-nil (length desk.seen));
+  told = names.told;
+}

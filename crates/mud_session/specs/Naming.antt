@@ -1,0 +1,70 @@
+-- The versions that a session names in what it sends.
+use Rattle.std.specs.Prelude.{◌≡◌, ◌≤◌, ◌⊎◌, ℕ, List, [], ◌∷◌, length, codes, Some, All, Contains}
+use Rattle.std.specs.List.{flat_map}
+use Rattle.mud_nvt.specs.declared.codes.TheConstants.{IAC}
+use Rattle.mud_nvt.specs.History.{StandsAfter}
+use Rattle.mud_world.specs.State.{State as World}
+use Rattle.mud_world.specs.declared.change.Change.{Change}
+use Rattle.mud_world.specs.declared.refusal.Refusal.{Refusal}
+use Rattle.mud_rules.specs.Replies.{reply_text, refusal_text, welcome_text}
+use Rattle.mud_rules.specs.Hearing.{heard_line}
+use Rattle.mud_hall.specs.Told.{notice_text}
+use Rattle.mud_hall.specs.Desk.{DeskState}
+use Rattle.mud_hall.specs.Answers.{Answered, Answers}
+use Rattle.mud_session.specs.State.{State}
+use Rattle.mud_session.specs.Session.{numbered, sent}
+
+-- the lines that name no version
+abbrev pub plain_lines : List (List ℕ)
+plain_lines =
+    codes "Welcome. Type: connect NAME" ∷ codes "(out of memory)" ∷ codes "(history full)" ∷ codes "(not stored)"
+    ∷ codes "(line too long)" ∷ codes "[Yes]" ∷ []
+
+-- what is said of version v: what a line that acts is replied, or the answer to a line by v entries
+abbrev pub IsSaidOf : ℕ → List ℕ → Type 0
+IsSaidOf v text =
+    ((w : World) × (e : Change) × (text ≡ reply_text w e)) ⊎ ((p : ℕ) × (text ≡ welcome_text p))
+    ⊎ ((f : Refusal) × (text ≡ refusal_text f))
+    ⊎ ((d : DeskState) × (line : List ℕ) × (a : Answered) × Answers d line a × (a.version ≡ v) × (a.text ≡ text))
+
+-- a notice of a change that somebody heard, which names no version above `most`
+abbrev pub IsNotice : ℕ → List ℕ → Type 0
+IsNotice most text =
+    (v : ℕ) × (w : World) × (e : Change) × (p : ℕ) × (line : List ℕ)
+    × (v ≤ most) × (heard_line w e p ≡ Some line) × (text ≡ notice_text v line)
+
+-- what is sent is made of these: replies and answers, notices, lines that name no version, and what the terminal itself
+-- answers to a request
+pub data Piece : Type 0 where
+  Numbered : (version : ℕ) → (text : List ℕ) → Piece
+  Notice : (text : List ℕ) → Piece
+  Plain : (line : List ℕ) → Piece
+  Signal : (verb : ℕ) → (option : ℕ) → Piece
+
+-- the bytes of a piece; a reply and an answer have their version in front
+abbrev pub bytes_of : Piece → List ℕ
+bytes_of (Numbered v text) = sent (numbered v text)
+bytes_of (Notice text) = sent text
+bytes_of (Plain line) = sent line
+bytes_of (Signal verb option) = IAC ∷ verb ∷ option ∷ []
+
+-- the piece names no version above `most`
+abbrev pub IsUpTo : ℕ → Piece → Type 0
+IsUpTo most (Numbered v text) = (v ≤ most) × IsSaidOf v text
+IsUpTo most (Notice text) = IsNotice most text
+IsUpTo most (Plain line) = Contains plain_lines line
+IsUpTo most (Signal verb option) = Unit {0}
+
+-- the text is made of such pieces
+pub record NamesUpTo (most : ℕ) (text : List ℕ) : Type 0 where
+  pub pieces : List Piece
+  pub each : All (IsUpTo most) pieces
+  pub is : text ≡ flat_map bytes_of pieces
+
+-- a session, to which these bytes came, names no version beyond what its desk has seen: neither in what is to be sent
+-- nor in what the desk was told
+pub record NamesSeen (session : State) (desk : DeskState) : Type 0 where
+  pub earlier : List ℕ
+  pub stands : StandsAfter session.terminal earlier
+  pub out : NamesUpTo (length desk.seen) session.out
+  pub told : All (IsNotice (length desk.seen)) desk.told

@@ -7,7 +7,7 @@ use crate::fault::{CommandFault, told};
 use crate::limits::{Limits, capacity, limits_in, load, number, workers};
 use crate::matches::unfit;
 use clap::error::ErrorKind;
-use clap::{Arg, ArgMatches, Command, value_parser};
+use clap::{Arg, ArgAction, ArgMatches, Command, value_parser};
 use std::alloc::{AllocError, Global};
 
 /// The toolchain with which the programs were proved and built.
@@ -39,6 +39,10 @@ pub struct Listening<'a> {
     pub idle: u32,
     /// The file of the history that it goes on from, if there is one.
     pub load: Option<&'a str>,
+    /// The file of its journal, if it keeps one.
+    pub journal: Option<&'a str>,
+    /// Whether a line `stop` of standard input, or its end, ends it.
+    pub console: bool,
 }
 
 /// What the words of `mud_serve` ask for; the first is the program's name.
@@ -99,6 +103,8 @@ fn listening_in<'a>(listen: &ArgMatches<'a>) -> Option<Listening<'a>>
         total,
         idle: listen.get_one::<u32>("idle")?,
         load: listen.get_str("load"),
+        journal: listen.get_str("journal"),
+        console: listen.get_flag("console"),
     })
 }
 
@@ -131,6 +137,8 @@ fn listen<'a>(alloc: Global) -> Result<Command<'a>, AllocError> {
         .arg(total(alloc))?
         .arg(idle(alloc))?
         .arg(load(alloc))?
+        .arg(journal(alloc))?
+        .arg(console(alloc))?
         .arg(workers(alloc))?
         .arg(capacity(alloc))
 }
@@ -164,4 +172,20 @@ fn idle<'a>(alloc: Global) -> Arg<'a> {
         .help(
             "After how many seconds without a byte from its player a session ends; 0: it does not",
         )
+}
+
+fn journal<'a>(alloc: Global) -> Arg<'a> {
+    Arg::new(alloc, "journal")
+        .long("journal")
+        .value_name("FILE")
+        .help(
+            "Where the history is kept while it runs, and goes on from; each change is there before it is told",
+        )
+}
+
+fn console<'a>(alloc: Global) -> Arg<'a> {
+    Arg::new(alloc, "console")
+        .long("console")
+        .action(ArgAction::SetTrue)
+        .help("A line `stop` on standard input, or its end, ends it and prints its history")
 }

@@ -1,2 +1,3 @@
+mod Keeping
 mod Written
 mod Crosses

@@ -1,18 +1,22 @@
 -- What was written, put together, and the history that it tells.
 use Rattle.std.proofs.Common.{◌≡◌, ◌≤◌, ◌<◌, ℕ, List, Option, Result, Ok, Err, OnErr, sym, subst, ◌∙◌}
-use Rattle.std.proofs.Common.{ap, map, length, take, inl, inr, arith}
+use Rattle.std.proofs.Common.{ap, map, length, take, true, ◌⊎◌, inl, inr, arith}
 use Rattle.std.specs.Prelude.{Contains}
 use Rattle.std.specs.Io.KnownBytes.{Appends}
 use Rattle.std.proofs.KnownBytes.{Appends-nil, Appends-trans}
 use Rattle.std.proofs.lemmas.List.{take_all, length-map, get_or-map}
 use Rattle.std.proofs.lemmas.List.Elements.{All-weaker}
+use Rattle.mud_ends.specs.Ends.{Writer}
 use Rattle.mud_chron.specs.Entry.{Accepted}
 use Rattle.mud_chron.specs.Text.{written_text}
 use Rattle.mud_hall.specs.Desk.{View}
 use Rattle.mud_hall.specs.Settling.{HasNumber, IsSettled, made}
 use Rattle.mud_hall.specs.Steps.{AreLoadable}
+use Rattle.mud_journal.specs.Disk.{Kept, Holds}
+use Rattle.mud_listen.specs.declared.fault.ListenFault.{ListenFault}
+use Rattle.mud_listen.specs.declared.fault.ListenFault.TheVariants.{OutOfMemory, Write}
 use Rattle.mud_listen.specs.declared.limits.Limits.{Limits}
-use Rattle.mud_listen.specs.Listening.{MayEnd, Settles, SettlesInPart, listening_line}
+use Rattle.mud_listen.specs.Listening.{MayEnd, Settles, SettlesInPart, IsListenFault, listening_line}
 
 abbrev number_of : View → ℕ
 number_of d = d.state.number
@@ -79,3 +83,26 @@ all_written limits port loaded history held mid now_held ends one two = record {
   ends = ends;
   written = Appends-trans held mid now_held (listening_line port) (written_text history) one two;
 }
+
+-- all was written, and a disk holds its entries
+pub all_journaled : (limits : Limits) (port : ℕ) (loaded history : List Accepted)
+    (held mid now_held : Option (List ℕ)) (kept : Option Kept) → MayEnd limits loaded history
+    → Appends held mid (listening_line port) → Appends mid now_held (written_text history) → Holds kept history
+    → (s : Settles limits loaded held now_held) × Holds kept s.history
+all_journaled limits port loaded history held mid now_held kept ends one two there = (
+  record {
+    port = port;
+    history = history;
+    ends = ends;
+    written = Appends-trans held mid now_held (listening_line port) (written_text history) one two;
+  },
+  there,
+)
+
+-- a fault of a write is one of a server
+pub write_fault : (capacity : ℕ) (loaded : List Accepted) (old new : Writer) (fault : ListenFault)
+    → (fault ≡ OutOfMemory) ⊎ ((fault ≡ Write) × (new.has_failed ≡ true))
+    → IsListenFault capacity loaded old new fault
+write_fault capacity loaded old new fault (inl is) = subst (IsListenFault capacity loaded old new) (sym is) tt
+write_fault capacity loaded old new fault (inr (is, failed)) =
+    subst (IsListenFault capacity loaded old new) (sym is) failed

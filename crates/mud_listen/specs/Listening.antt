@@ -11,7 +11,7 @@ use Rattle.mud_hall.specs.Settling.{made}
 use Rattle.mud_hall.specs.Steps.{AreLoadable}
 use Rattle.mud_listen.specs.declared.limits.Limits.{Limits}
 use Rattle.mud_listen.specs.declared.fault.ListenFault.{ListenFault}
-use Rattle.mud_listen.specs.declared.fault.ListenFault.TheVariants.{OutOfMemory, Write, Accept, Settle, Load}
+use Rattle.mud_listen.specs.declared.fault.ListenFault.TheVariants.{OutOfMemory, Write, Accept, Settle, Load, Journal}
 
 -- the line that names the port
 abbrev pub listening_line : ℕ → List ℕ
@@ -46,4 +46,5 @@ IsListenFault capacity loaded old new OutOfMemory = Unit {0}
 IsListenFault capacity loaded old new Write = new.has_failed ≡ true
 IsListenFault capacity loaded old new Accept = Unit {0}
 IsListenFault capacity loaded old new (Settle fault) = Unit {0}
+IsListenFault capacity loaded old new (Journal fault) = Unit {0}
 IsListenFault capacity loaded old new (Load fault) = IsLoadFault capacity loaded fault × (new ≡ old)

@@ -4,13 +4,18 @@ ghost use Rattle.std.specs.Prelude.{◌≤◌, ℕ, List, length, IfOk, IfErr, O
 ghost use Rattle.std.specs.List.{AllByRecursion};
 ghost use Rattle.mud_ends.specs.Ends.{Writer};
 ghost use Rattle.mud_chron.specs.Entry.{Accepted, IsEntry};
+ghost use mathlib.Core.List.{IsPrefix};
+ghost use Rattle.mud_hall.specs.Settling.{IsGathered};
 ghost use Rattle.mud_hall.specs.Steps.{AreLoadable};
+ghost use Rattle.mud_journal.specs.Disk.{Holds};
 ghost use Rattle.mud_listen.specs.Listening.{MayEnd, IsListenFault};
 
 use crate::fault::ListenFault;
 use crate::limits::Limits;
+use crate::scribe::Scribe;
 use mud_chron::{ChronFault, Entry, replay};
 use mud_hall::{CloseFault, Desk, Hall, HallName};
+use mud_journal::{Disk, Journal, JournalFault};
 use std::alloc::Global;
 use std::sync::Wait;
 
@@ -25,6 +30,7 @@ pub(crate) fn settle<J: HallName, R: Wait>(
     requires few { length desks.items ≤ limits.sessions }
     requires capacity { limits.capacity ≤ 65536 }
     ensures ends { IfOk result (λ history. MayEnd limits J.loaded history.items) }
+    ensures gathered { IfOk result (λ history. IsGathered J.loaded desks.items history.items) }
     ensures limit { IfOk result (λ history. length history.items ≤ 65536) }
     ensures fault { IfErr result (λ f. (capacity : ℕ) (loaded : List Accepted) (old new : Writer)
         → IsListenFault capacity loaded old new f) }
@@ -36,6 +42,34 @@ pub(crate) fn settle<J: HallName, R: Wait>(
         }
         Err((_, _, fault)) => Err(of_close(fault)),
     }
+}
+
+/// Writes what is left to the journal, and settles the hall: the journal has its whole history.
+pub(crate) fn settle_journaled<J: HallName, D: Disk + Drop, R: Wait>(
+    rt: &R,
+    alloc: Global,
+    limits: Limits,
+    hall: Hall<J>,
+    desks: Vec<Desk<J>>,
+    scribe: Scribe<J, D>,
+) -> Result<(Vec<Entry>, Journal<D>), ListenFault>
+    requires few { length desks.items ≤ limits.sessions }
+    requires capacity { limits.capacity ≤ 65536 }
+    requires begun { IsPrefix J.loaded scribe.entries }
+    ensures ends { IfOk result (λ s. MayEnd limits J.loaded s.0.items) }
+    ensures journaled { IfOk result (λ s. Holds (D.kept s.1.disk) s.0.items) }
+    ensures limit { IfOk result (λ s. length s.0.items ≤ 65536) }
+    ensures fault { IfErr result (λ f. (capacity : ℕ) (loaded : List Accepted) (old new : Writer)
+        → IsListenFault capacity loaded old new f) }
+{
+    let mut desks = desks;
+    let mut scribe = scribe;
+    scribe.finish(&hall, &mut desks)?;
+    let history = settle(rt, alloc, limits, hall, desks)?;
+    if history.len() != scribe.len() {
+        return Err(ListenFault::Journal(JournalFault::Mismatch));
+    }
+    Ok((history, scribe.into_journal()))
 }
 
 // Why the desks made no history.

@@ -1,6 +1,7 @@
 //! Why a server ended.
 
 use mud_hall::{CloseFault, LoadFault};
+use mud_journal::JournalFault;
 use std::alloc::AllocError;
 use thiserror::Error;
 
@@ -22,6 +23,20 @@ pub enum ListenFault {
     /// The hall does not go on from what was loaded.
     #[error("cannot load: {0}")]
     Load(LoadFault),
+    /// The journal takes no more, or is not what the desks made.
+    #[error("journal fault: {0}")]
+    Journal(JournalFault),
+}
+
+impl From<JournalFault> for ListenFault {
+    ghost use Rattle.std.specs.Prelude.{◌≡◌};
+    ghost use Rattle.mud_listen.specs.declared.fault.ListenFault.TheVariants.{Journal};
+
+    ghost from_gives = { λ f e. e ≡ Journal f };
+
+    fn from(f: JournalFault) -> ListenFault {
+        ListenFault::Journal(f)
+    }
 }
 
 impl From<AllocError> for ListenFault {

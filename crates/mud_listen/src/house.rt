@@ -2,11 +2,14 @@
 
 ghost use Rattle.std.specs.Prelude.{◌≡◌, ◌≤◌, IfOk, length};
 
+use crate::connection::Wire;
 use crate::place::Place;
 use crossbeam_utils::sync::Unparker;
 use mud_hall::{Desk, Fault, Hall, HallName};
+use mud_journal::Gate;
 use std::alloc::{AllocError, Global};
-use std::sync::{Mutex, Wait};
+use std::sync::atomic::{AtomicBool, Ordering};
+use std::sync::{Arc, Mutex, Wait};
 
 /// Places for sessions. Each has a lock of its own, under which nothing else is locked.
 #[derive(Drop)]
@@ -14,20 +17,39 @@ pub(crate) struct Places<J: HallName> {
     list: Vec<Mutex<Place<J>>>,
 }
 
-/// How the notice thread of the session at each place is woken. Each has a lock of its own, under which nothing else is
-/// locked.
+/// How the notice thread of a session is woken, and the session's wire.
 #[derive(Drop)]
-pub(crate) struct Bells {
-    list: Vec<Mutex<Option<Unparker>>>,
+pub(crate) struct Bell {
+    pub(crate) unparker: Unparker,
+    pub(crate) wire: Arc<Wire>,
 }
 
-/// A hall, the places for its sessions, their bells, and how many workers answer a question.
+/// The bell of the session at each place. Each has a lock of its own, under which nothing else is locked.
+#[derive(Drop)]
+pub(crate) struct Bells {
+    list: Vec<Mutex<Option<Bell>>>,
+}
+
+/// Why all sessions end at once.
+#[derive(Clone, Copy)]
+pub(crate) enum Ending {
+    /// The server ends.
+    Stop,
+    /// The journal takes no more.
+    JournalFault,
+}
+
+/// A hall, the places for its sessions, their bells, how many workers answer a question, how far the journal is synced,
+/// and whether it is to end.
 #[derive(Drop)]
 pub(crate) struct House<H, D, B> {
     pub(crate) hall: H,
     places: D,
     bells: B,
     pub(crate) workers: u32,
+    pub(crate) gate: Gate,
+    takes_no_more: AtomicBool,
+    stops: AtomicBool,
     ghost few: { workers ≤ 8 },
 }
 
@@ -51,14 +73,53 @@ fn silent_bells(alloc: Global, sessions: u32) -> Result<Bells, AllocError> {
     Ok(Bells { list })
 }
 
+impl Ending {
+    /// What each session is told of it.
+    pub(crate) fn line(self) -> &'static str {
+        match self {
+            Ending::Stop => "(server stops)\r\n",
+            Ending::JournalFault => "(journal fault)\r\n",
+        }
+    }
+}
+
+impl<H, D, B> House<H, D, B> {
+    /// No connection is taken any more.
+    pub(crate) fn take_no_more(&self) {
+        self.takes_no_more.store(true, Ordering::SeqCst);
+    }
+
+    /// Whether no connection is taken any more.
+    pub(crate) fn takes_no_more(&self) -> bool {
+        self.takes_no_more.load(Ordering::SeqCst)
+    }
+
+    /// All sessions are to end, since the server does.
+    pub(crate) fn stop(&self) {
+        self.stops.store(true, Ordering::SeqCst);
+    }
+
+    /// Why all sessions are to end, if they are.
+    pub(crate) fn ending<R: Wait>(&self, rt: &R) -> Option<Ending> {
+        if self.gate.has_failed(rt) {
+            Some(Ending::JournalFault)
+        } else if self.stops.load(Ordering::SeqCst) {
+            Some(Ending::Stop)
+        } else {
+            None
+        }
+    }
+}
+
 impl<J: HallName> House<Hall<J>, Places<J>, Bells> {
-    /// The hall, and as many free places as there may be sessions at once, and how many workers
-    /// answer a question.
+    /// The hall, as many free places as there may be sessions at once, how many workers answer a question, and how far
+    /// the journal is synced.
     pub(crate) fn new(
         alloc: Global,
         hall: Hall<J>,
         sessions: u32,
         workers: u32,
+        gate: Gate,
     ) -> Result<House<Hall<J>, Places<J>, Bells>, AllocError>
         requires { workers ≤ 8 }
         ensures { IfOk result (λ house. length house.places.list.items ≡ sessions) }
@@ -68,6 +129,9 @@ impl<J: HallName> House<Hall<J>, Places<J>, Bells> {
             places: free_places(alloc, sessions)?,
             bells: silent_bells(alloc, sessions)?,
             workers,
+            gate,
+            takes_no_more: AtomicBool::new(false),
+            stops: AtomicBool::new(false),
         })
     }
 
@@ -93,20 +157,58 @@ impl<J: HallName> House<Hall<J>, Places<J>, Bells> {
         }
     }
 
-    /// Says how the notice thread of the session at a place is woken.
-    pub(crate) fn listen<R: Wait>(&self, rt: &R, at: usize, unparker: Unparker) {
+    /// Whether no place is taken.
+    pub(crate) fn is_empty<R: Wait>(&self, rt: &R) -> bool {
+        for place in &self.places.list {
+            if place.lock(rt).is_taken() {
+                return false;
+            }
+        }
+        true
+    }
+
+    /// The bell of the session at a place.
+    pub(crate) fn listen<R: Wait>(&self, rt: &R, at: usize, new: Bell) {
         if let Some(bell) = self.bells.list.get(at) {
-            *bell.lock(rt) = Some(unparker);
+            *bell.lock(rt) = Some(new);
         }
     }
 
-    /// Wakes the notice threads of the sessions at all other places.
-    pub(crate) fn wake_others<R: Wait>(&self, rt: &R, at: usize) {
+    /// At this place a change was accepted: there are as many entries at least. Whoever writes the journal wakes the
+    /// others once it is synced; where there is none, they are woken here.
+    pub(crate) fn tell_change<R: Wait>(&self, rt: &R, at: usize, version: usize) {
+        if self.gate.is_open() {
+            self.wake_others(rt, at);
+        } else {
+            self.gate.want(rt, version);
+        }
+    }
+
+    // Wakes the notice threads of the sessions at all other places.
+    fn wake_others<R: Wait>(&self, rt: &R, at: usize) {
         for (other, bell) in self.bells.list.iter().enumerate() {
             if other != at
-                && let Some(unparker) = &*bell.lock(rt)
+                && let Some(bell) = &*bell.lock(rt)
             {
-                unparker.unpark();
+                bell.unparker.unpark();
+            }
+        }
+    }
+
+    /// Wakes the notice threads of all sessions.
+    pub(crate) fn wake_all<R: Wait>(&self, rt: &R) {
+        for bell in &self.bells.list {
+            if let Some(bell) = &*bell.lock(rt) {
+                bell.unparker.unpark();
+            }
+        }
+    }
+
+    /// Shuts the sockets of all sessions.
+    pub(crate) fn shut_all<R: Wait>(&self, rt: &R) {
+        for bell in &self.bells.list {
+            if let Some(bell) = &*bell.lock(rt) {
+                bell.wire.shut();
             }
         }
     }
@@ -122,9 +224,9 @@ impl<J: HallName> House<Hall<J>, Places<J>, Bells> {
     /// ends.
     pub(crate) fn free<R: Wait>(&self, rt: &R, at: usize) {
         if let Some(bell) = self.bells.list.get(at)
-            && let Some(unparker) = bell.lock(rt).take()
+            && let Some(bell) = bell.lock(rt).take()
         {
-            unparker.unpark();
+            bell.unparker.unpark();
         }
         if let Some(place) = self.places.list.get(at) {
             place.lock(rt).free();
@@ -140,6 +242,9 @@ impl<J: HallName> House<Hall<J>, Places<J>, Bells> {
             places,
             bells: _,
             workers: _,
+            gate: _,
+            takes_no_more: _,
+            stops: _,
         } = self;
         let mut desks = Vec::new(alloc);
         for place in places.list {

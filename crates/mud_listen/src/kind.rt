@@ -3,8 +3,8 @@
 ghost use Rattle.std.specs.Thread.{IsSync};
 
 use crate::connection::Connection;
-use crate::house::House;
-use crossbeam_utils::sync::{Parker, Unparker};
+use crate::house::{Bell, House};
+use crossbeam_utils::sync::Parker;
 use log::Log;
 use std::alloc::Global;
 use std::sync::Wait;
@@ -20,8 +20,8 @@ pub(crate) trait Kind<H, D, B, S> {
     /// The talk of a connection whose session has not begun.
     fn silent() -> S;
 
-    /// Says how the notice thread of the session at a place is woken.
-    fn listen<R: Wait>(rt: &R, house: &House<H, D, B>, at: usize, unparker: Unparker);
+    /// The bell of the session at a place.
+    fn listen<R: Wait>(rt: &R, house: &House<H, D, B>, at: usize, bell: Bell);
 
     /// Begins the session of a connection at a place; the number of its desk. Where memory ran out or no desk is
     /// left, there is none.
@@ -57,4 +57,13 @@ pub(crate) trait Kind<H, D, B, S> {
 
     /// No session is at this place any more. A desk that it keeps stays.
     fn free<R: Wait>(rt: &R, house: &House<H, D, B>, at: usize);
+
+    /// Whether no place is taken.
+    fn is_empty<R: Wait>(rt: &R, house: &House<H, D, B>) -> bool;
+
+    /// Wakes the notice threads of all sessions.
+    fn wake_all<R: Wait>(rt: &R, house: &House<H, D, B>);
+
+    /// Shuts the sockets of all sessions.
+    fn shut_all<R: Wait>(rt: &R, house: &House<H, D, B>);
 }

@@ -8,7 +8,7 @@
 //! let listener = TcpListener::bind(&rt, ("127.0.0.1", 4000))?;
 //! let limits = Limits { sessions: 64, total: 2, workers: 0, capacity: 1000, idle: 0 };
 //! let mut sink = Sink::new(io::writer(&rt));
-//! listen_on(&rt, rt.alloc(), &listener, limits, Vec::new(rt.alloc()), &mut sink)?;
+//! listen_on(&rt, rt.alloc(), &listener, limits, Vec::new(rt.alloc()), None, &mut sink)?;
 //! ```
 //!
 //! Proved: what is written. With Ok it is the line that names a port, and the text of a history that can be loaded
@@ -17,17 +17,24 @@
 //! is served at all, that a change wakes anybody or that a desk is handed back: tests show it.
 #![tactic(auto)]
 
+mod closing;
 mod connection;
 mod ending;
 mod fault;
 mod house;
+mod journaled;
 mod kind;
 mod limits;
 mod listen;
 mod place;
+mod rest;
+mod scribe;
+mod stop;
 mod talk;
 mod writing;
 
 pub use fault::ListenFault;
+pub use journaled::listen_journaled;
 pub use limits::Limits;
 pub use listen::listen_on;
+pub use stop::{StopSign, own_address};

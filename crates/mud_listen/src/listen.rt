@@ -1,23 +1,26 @@
 //! The server: connections, their threads, and the settlement.
 
 ghost use Rattle.std.specs.Prelude.{◌≡◌, ◌≤◌, ◌<◌, length, true, Err, IfOk, IfErr, OnOk, OnErr};
-ghost use Rattle.std.specs.Prelude.{ℕ, List};
+ghost use Rattle.std.specs.Prelude.{ℕ, List, IfNone, IsTrue};
 ghost use Rattle.mud_ends.specs.Ends.{Writer};
 ghost use Rattle.mud_chron.specs.Entry.{Accepted};
 ghost use Rattle.mud_listen.specs.Listening.{MayEnd, Settles, SettlesInPart, IsListenFault};
 
-use crate::connection::{Connection, OfHall, Shared, refuse};
+use crate::closing::see_out;
+use crate::connection::{Connection, OfHall, Shared, Wire, refuse};
 use crate::ending::settle;
 use crate::fault::ListenFault;
-use crate::house::House;
+use crate::house::{Bell, House};
 use crate::kind::Kind;
 use crate::limits::Limits;
+use crate::stop::StopSign;
 use crate::writing::{write_entries, write_port};
 use crossbeam_utils::sync::Parker;
 use log::Log;
 use mud_chron::Entry;
 use mud_ends::Sink;
 use mud_hall::{HallName, LoadFault, NewHall};
+use mud_journal::{Gate, JournalFault};
 use std::alloc::Global;
 use std::io::{ErrorKind, Write};
 use std::marker::Brand;
@@ -51,10 +54,15 @@ fn open<H, D, B, S: Drop, K: Kind<H, D, B, S>, R: Wait>(
 ) -> Option<Begun<S>> {
     let parker = Parker::new(alloc).ok()?;
     let unparker = parker.unparker().clone().ok()?;
-    let kept = Arc::new(alloc, Connection::new(stream, K::silent())).ok()?;
+    let wire = Arc::new(alloc, Wire::new(stream)).ok()?;
+    let bell = Bell {
+        unparker,
+        wire: Arc::try_clone(&wire).ok()?,
+    };
+    let kept = Arc::new(alloc, Connection::new(wire, K::silent())).ok()?;
     let reads = Arc::try_clone(&kept).ok()?;
     let tells = Arc::try_clone(&kept).ok()?;
-    K::listen(rt, house, at, unparker);
+    K::listen(rt, house, at, bell);
     let number = K::start(rt, alloc, house, &kept, at)?;
     Some(Begun {
         kept,
@@ -157,8 +165,19 @@ fn welcome<
     }
 }
 
-// Takes connections until as many sessions have begun as the total says; where it is 0, without end. A connection that
-// the other side gave up before it was taken is none.
+// Whether no session may begin any more: the sign is set, or as many have begun as the total says.
+fn is_done(stop: Option<&StopSign>, total: u32, begun: u32) -> bool
+    ensures { IsTrue result → IfNone stop.entry (0 < total) }
+{
+    match stop {
+        Some(sign) if sign.is_set() => true,
+        _ => 0 < total && total <= begun,
+    }
+}
+
+// Takes connections until no session may begin any more. A connection that the other side gave up before it was taken
+// is none, nor is one that is taken after the sign was set. Where the journal takes no more, the next connection is
+// the last.
 fn accept_all<
     's,
     E,
@@ -175,16 +194,22 @@ fn accept_all<
     house: &'s House<H, D, B>,
     listener: &TcpListener,
     limits: Limits,
+    stop: Option<&StopSign>,
 ) -> Result<(), ListenFault>
-    ensures ok { OnOk result (0 < limits.total) }
-    ensures fault { IfErr result (λ f. f ≡ ListenFault.Accept) }
+    ensures ok { OnOk result (IfNone stop.entry (0 < limits.total)) }
+    ensures fault { IfErr result (λ f. (capacity : ℕ) (loaded : List Accepted) (old new : Writer)
+        → IsListenFault capacity loaded old new f) }
 {
     let mut begun = 0u32;
     for _ in rt.forever() {
-        if 0 < limits.total && limits.total <= begun {
+        if is_done(stop, limits.total, begun) {
             return Ok(());
         }
         match listener.accept() {
+            Ok(_) if is_done(stop, limits.total, begun) => return Ok(()),
+            Ok(_) if house.gate.has_failed(rt) => {
+                return Err(ListenFault::Journal(JournalFault::Disk));
+            }
             Ok((stream, _)) => {
                 if is_set_up(&stream, limits.idle)
                     && welcome::<E, H, D, B, S, K, R>(scope, rt, alloc, house, stream)
@@ -199,8 +224,36 @@ fn accept_all<
     unreachable!()
 }
 
-// Serves the connections, and waits until all sessions have ended.
-fn serve_house<
+// Takes connections as long as it may, and sees the sessions out.
+fn take_and_see_out<
+    's,
+    E,
+    H: Sync + 's,
+    D: Sync + 's,
+    B: Sync + 's,
+    S: Send + Sync + Drop + 's,
+    K: Kind<H, D, B, S> + Send + Sync + 's,
+    R: Threads + Wait + Log + Sync + 's,
+>(
+    scope: &Scope<'s, E>,
+    rt: &'s R,
+    alloc: Global,
+    house: &'s House<H, D, B>,
+    listener: &TcpListener,
+    limits: Limits,
+    stop: Option<&StopSign>,
+) -> Result<(), ListenFault>
+    ensures ok { OnOk result (IfNone stop.entry (0 < limits.total)) }
+    ensures fault { IfErr result (λ f. (capacity : ℕ) (loaded : List Accepted) (old new : Writer)
+        → IsListenFault capacity loaded old new f) }
+{
+    let taken = accept_all::<E, H, D, B, S, K, R>(scope, rt, alloc, house, listener, limits, stop);
+    see_out::<H, D, B, S, K, R>(rt, house, stop);
+    taken
+}
+
+/// Serves the connections, and waits until all sessions have ended.
+pub(crate) fn serve_house<
     H: Sync,
     D: Sync,
     B: Sync,
@@ -213,12 +266,14 @@ fn serve_house<
     house: &House<H, D, B>,
     listener: &TcpListener,
     limits: Limits,
+    stop: Option<&StopSign>,
 ) -> Result<(), ListenFault>
-    ensures ok { OnOk result (0 < limits.total) }
-    ensures fault { IfErr result (λ f. f ≡ ListenFault.Accept) }
+    ensures ok { OnOk result (IfNone stop.entry (0 < limits.total)) }
+    ensures fault { IfErr result (λ f. (capacity : ℕ) (loaded : List Accepted) (old new : Writer)
+        → IsListenFault capacity loaded old new f) }
 {
     thread::scope(thread::scope_env(), rt, |scope| {
-        accept_all::<_, H, D, B, S, K, R>(scope, rt, alloc, house, listener, limits)
+        take_and_see_out::<_, H, D, B, S, K, R>(scope, rt, alloc, house, listener, limits, stop)
     })
 }
 
@@ -229,6 +284,7 @@ fn serve_all<J: HallName + Send + Sync, R: Threads + Wait + Log + Sync>(
     hall: NewHall,
     listener: &TcpListener,
     limits: Limits,
+    stop: Option<&StopSign>,
 ) -> Result<Vec<Entry>, ListenFault>
     requires cells { hall.cells ≡ J.cells }
     requires loaded { hall.loaded ≡ J.loaded }
@@ -236,12 +292,13 @@ fn serve_all<J: HallName + Send + Sync, R: Threads + Wait + Log + Sync>(
     requires capacity { limits.capacity ≤ 65536 }
     ensures ends { IfOk result (λ history. MayEnd limits J.loaded history.items) }
     ensures limit { IfOk result (λ history. length history.items ≤ 65536) }
-    ensures total { OnOk result (0 < limits.total) }
+    ensures total { OnOk result (IfNone stop.entry (0 < limits.total)) }
     ensures fault { IfErr result (λ f. (capacity : ℕ) (loaded : List Accepted) (old new : Writer)
         → IsListenFault capacity loaded old new f) }
 {
-    let house = House::new(alloc, hall.named::<J>(), limits.sessions, limits.workers)?;
-    serve_house::<_, _, _, Shared<J>, OfHall<J>, R>(rt, alloc, &house, listener, limits)?;
+    let hall = hall.named::<J>();
+    let house = House::new(alloc, hall, limits.sessions, limits.workers, Gate::open())?;
+    serve_house::<_, _, _, Shared<J>, OfHall<J>, R>(rt, alloc, &house, listener, limits, stop)?;
     let Ok((hall, desks)) = house.into_parts(alloc) else {
         return Err(ListenFault::OutOfMemory);
     };
@@ -255,20 +312,25 @@ fn serve<R: Threads + Wait + Log + Sync>(
     hall: NewHall,
     listener: &TcpListener,
     limits: Limits,
+    stop: Option<&StopSign>,
 ) -> Result<Vec<Entry>, ListenFault>
     requires workers { limits.workers ≤ 8 }
     requires capacity { limits.capacity ≤ 65536 }
     ensures ends { IfOk result (λ history. MayEnd limits hall.loaded history.items) }
     ensures limit { IfOk result (λ history. length history.items ≤ 65536) }
-    ensures total { OnOk result (0 < limits.total) }
+    ensures total { OnOk result (IfNone stop.entry (0 < limits.total)) }
     ensures fault { IfErr result (λ f. (capacity : ℕ) (loaded : List Accepted) (old new : Writer)
         → IsListenFault capacity loaded old new f) }
 {
-    serve_all::<Brand, R>(rt, alloc, hall, listener, limits)
+    serve_all::<Brand, R>(rt, alloc, hall, listener, limits, stop)
 }
 
-// The hall that goes on from what was loaded.
-fn resumed(alloc: Global, capacity: u32, loaded: Vec<Entry>) -> Result<NewHall, ListenFault>
+/// The hall that goes on from what was loaded.
+pub(crate) fn resumed(
+    alloc: Global,
+    capacity: u32,
+    loaded: Vec<Entry>,
+) -> Result<NewHall, ListenFault>
     requires from { 1 ≤ capacity }
     requires to { capacity ≤ 65536 }
     ensures loaded { IfOk result (λ hall. hall.loaded ≡ loaded.items) }
@@ -281,12 +343,23 @@ fn resumed(alloc: Global, capacity: u32, loaded: Vec<Entry>) -> Result<NewHall, 
     }
 }
 
+/// The port of a listener.
+pub(crate) fn port_of(listener: &TcpListener) -> Result<u16, ListenFault>
+    ensures { IfErr result (λ f. f ≡ ListenFault.Accept) }
+{
+    match listener.local_addr() {
+        Ok(address) => Ok(address.port()),
+        Err(_) => Err(ListenFault::Accept),
+    }
+}
+
 /// Serves the connections of a listener, each by a session of its own at a desk of one hall, which goes on from the
 /// entries that were loaded. First it writes `listening on` and the port. A connection for which there is no place is
 /// told `(server full)` and closed; it counts for no session, nor does one for which memory or threads ran out before
 /// its session begins. Where `limits.total` is over 0, the server ends once that many sessions have begun and all of
-/// them have ended: then it settles the hall, tries the history as a load would, and writes it in format 2
-/// (docs/HISTORY.md).
+/// them have ended. Once the sign is set and a connection is made, it ends, too: no session begins any more, each is
+/// told `(server stops)`, and its socket is shut, two seconds later at the latest. At its end the server settles the
+/// hall, tries the history as a load would, and writes it in format 2 (docs/HISTORY.md).
 ///
 /// `Load` comes before anything is written. `Accept` comes where no connection can be taken any more: the sessions
 /// that run end in their own way before it is answered. `Settle` comes where the desks made no history that can be
@@ -297,6 +370,7 @@ pub fn listen_on<R: Threads + Wait + Log + Sync, W: Write>(
     listener: &TcpListener,
     limits: Limits,
     loaded: Vec<Entry>,
+    stop: Option<&StopSign>,
     out: &mut Sink<W>,
 ) -> Result<(), ListenFault>
     requires sessions { limits.sessions ≤ 64 }
@@ -306,14 +380,11 @@ pub fn listen_on<R: Threads + Wait + Log + Sync, W: Write>(
     ensures ok { OnOk result (Settles limits loaded.items out.old.holds out.new.holds) }
     ensures front { OnErr result (SettlesInPart limits loaded.items out.old.holds out.new.holds) }
     ensures fault { IfErr result (IsListenFault limits.capacity loaded.items out.old out.new) }
-    ensures total { OnOk result (0 < limits.total) }
+    ensures total { OnOk result (IfNone stop.entry (0 < limits.total)) }
 {
     let hall = resumed(alloc, limits.capacity, loaded)?;
-    let port = match listener.local_addr() {
-        Ok(address) => address.port(),
-        Err(_) => return Err(ListenFault::Accept),
-    };
+    let port = port_of(listener)?;
     write_port(alloc, out, port)?;
-    let history = serve(rt, alloc, hall, listener, limits)?;
+    let history = serve(rt, alloc, hall, listener, limits, stop)?;
     write_entries(alloc, out, history.as_slice())
 }

@@ -25,6 +25,11 @@ impl<J: HallName> Place<J> {
         was_free
     }
 
+    /// Whether a session has it.
+    pub(crate) fn is_taken(&self) -> bool {
+        self.is_taken
+    }
+
     /// The desk that it keeps, for its session.
     pub(crate) fn take_desk(&mut self) -> Option<Desk<J>> {
         self.desk.take()

@@ -3,6 +3,7 @@
 ghost use Rattle.std.specs.Prelude.{◌≤◌};
 
 use mud_hall::{Desk, Hall, HallName};
+use mud_journal::Held;
 use mud_session::{Seat, Session, SessionFault};
 use std::sync::Wait;
 use std::thread::Threads;
@@ -19,8 +20,8 @@ pub(crate) struct Talk<J: HallName> {
 pub(crate) struct Step<J: HallName> {
     /// The talk.
     pub(crate) talk: Talk<J>,
-    /// What is to be sent.
-    pub(crate) text: Vec<u8>,
+    /// What is to be sent, once what it may name is synced: all that the desk has seen.
+    pub(crate) text: Held,
     /// Whether the session goes on.
     pub(crate) goes_on: bool,
     /// Whether a change was accepted.
@@ -33,14 +34,19 @@ impl<J: HallName> Talk<J> {
         Talk { session, desk }
     }
 
-    // The session at its seat again, after a step of which this came.
+    // The session at its seat again, after a step of which this came. Where memory ran out for the session itself,
+    // nothing is sent: nobody promises what the text names then.
     fn after(
         mut session: Session,
         seat: Seat<'_, J>,
         came: Result<(), SessionFault>,
         before: usize,
     ) -> Step<J> {
-        let text = session.take_out();
+        let mut text = session.take_out();
+        if came.is_err() {
+            text.clear();
+        }
+        let text = Held::new(text, seat.seen() as usize);
         let goes_on = came.is_ok() && !session.ended();
         let has_changed = seat.accepted() > before;
         let desk = seat.into_desk();
@@ -69,12 +75,12 @@ impl<J: HallName> Talk<J> {
         Talk::after(session, seat, fed, before)
     }
 
-    /// Has the session look for what others did.
-    pub(crate) fn nudge(self, hall: &Hall<J>, workers: u32) -> Step<J>
+    /// Has the session look for what others did, at none of the entries after the `most`-th.
+    pub(crate) fn nudge(self, hall: &Hall<J>, workers: u32, most: u32) -> Step<J>
         requires { workers ≤ 8 }
     {
         let Talk { mut session, desk } = self;
-        let mut seat = Seat::new(hall, desk, workers);
+        let mut seat = Seat::up_to(hall, desk, workers, most);
         let before = seat.accepted();
         let nudged = session.nudge(&mut seat);
         Talk::after(session, seat, nudged, before)

@@ -4,32 +4,64 @@
 //! docs/SERVER.md has the command lines and the statuses.
 #![tactic(auto)]
 
+mod console;
 mod serving;
 mod stop;
 
+ghost use Rattle.mud_command.specs.Service.{IsServed};
+
+use crate::console::Console;
 use crate::serving::{answer, listen};
 use crate::stop::Stop;
 use log::Log;
 use mud_command::{CommandFault, KIT, Service, service_of, show, words_of};
 use std::alloc::Global;
+use std::fs::File;
 use std::io::{Eprint, Print};
 use std::net::{Net, TcpListener, TcpStream};
 use std::process::ExitCode;
-use std::rt::Runtime;
-use std::sync::Wait;
+use std::rt::{Files, Runtime};
+use std::sync::{Arc, Wait};
+use std::thread;
 use std::thread::Threads;
 
 // The block of memory that is freed before all else.
 const FREED_BYTES: usize = 1 << 20;
 
 fn main(rt: HostRuntime) -> ExitCode {
-    match words_of(&rt) {
-        Ok(words) => run(&rt, words.as_slice()),
-        Err(fault) => unasked(&rt, fault),
+    let words = match words_of(&rt) {
+        Ok(words) => words,
+        Err(fault) => return unasked(&rt, fault),
+    };
+    let service = match service_of(rt.alloc(), words.as_slice()) {
+        Ok(service) => service,
+        Err(fault) => return unasked(&rt, fault),
+    };
+    if !has_console(service) {
+        return run(&rt, service, None);
+    }
+    let Ok(console) = Arc::new(rt.alloc(), Console::new()) else {
+        return stopped(&rt, Stop::OutOfMemory);
+    };
+    let Ok(theirs) = Arc::try_clone(&console) else {
+        return stopped(&rt, Stop::OutOfMemory);
+    };
+    // Nobody waits for this thread: the program ends while it reads.
+    match thread::spawn(&rt, move || theirs.watch(&rt)) {
+        Ok(_) => run(&rt, service, Some(&console)),
+        Err(_) => stopped(&rt, Stop::OutOfMemory),
     }
 }
 
-// Does what the words ask for.
+// Whether what is typed may end the service.
+fn has_console(service: Service<'_>) -> bool {
+    match service {
+        Service::Listen(listening) => listening.console,
+        _ => false,
+    }
+}
+
+// Does what was asked for.
 fn run<
     R: Runtime
         + AllocGlobal
@@ -37,17 +69,16 @@ fn run<
         + Wait
         + Log
         + Sync
-        + Net<Listener = TcpListener, Stream = TcpStream>,
->(rt: &R, words: &[String]) -> ExitCode {
-    let service = match service_of(rt.alloc(), words) {
-        Ok(service) => service,
-        Err(fault) => return unasked(rt, fault),
-    };
+        + Net<Listener = TcpListener, Stream = TcpStream>
+        + Files<File = File>,
+>(rt: &R, service: Service<'_>, console: Option<&Console>) -> ExitCode
+    requires { IsServed service }
+{
     keep_freed(rt.alloc());
     let ended = match service {
         Service::Version => tell_version(rt),
         Service::Script(limits) => answer(rt, limits),
-        Service::Listen(listening) => listen(rt, listening),
+        Service::Listen(listening) => listen(rt, listening, console),
     };
     match ended {
         Ok(()) => ExitCode::SUCCESS,

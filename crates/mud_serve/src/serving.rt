@@ -1,19 +1,23 @@
 //! The services of the program.
 
-ghost use Rattle.std.specs.Prelude.{◌≤◌};
+ghost use Rattle.std.specs.Prelude.{◌≡◌, ◌≤◌, IfOk, length};
 ghost use Rattle.mud_command.specs.Service.{AreWithin};
 
+use crate::console::Console;
 use crate::stop::Stop;
 use log::Log;
 use mud_chron::Entry;
 use mud_command::{Limits, Listening};
 use mud_ends::{Sink, Source};
-use mud_listen::listen_on;
+use mud_journal::found;
+use mud_listen::{StopSign, listen_journaled, listen_on, own_address};
 use mud_load::loaded;
 use mud_session::script;
+use std::fs::File;
 use std::io;
+use std::io::Eprint;
 use std::net::{Net, TcpListener, TcpStream};
-use std::rt::Runtime;
+use std::rt::{Files, Runtime};
 use std::sync::Wait;
 use std::thread::Threads;
 
@@ -53,8 +57,92 @@ fn begun<R: Runtime + AllocGlobal>(rt: &R, load: Option<&str>) -> Result<Vec<Ent
     }
 }
 
-/// Serves connections. The file of the history is read before the port is taken.
+// The entries that a world with a journal goes on from: those of the journal, or of the file where it has none.
+fn begun_after<R: Runtime + AllocGlobal>(
+    rt: &R,
+    load: Option<&str>,
+    had: Vec<Entry>,
+) -> Result<Vec<Entry>, Stop>
+    ensures { IfOk result (λ entries. length had.items ≤ length entries.items) }
+{
+    if load.is_none() {
+        return Ok(had);
+    }
+    if !had.is_empty() {
+        return Err(Stop::NotEmpty);
+    }
+    begun(rt, load)
+}
+
+// Says how much of the journal's end is no whole line.
+fn tell_torn<R: Eprint>(rt: &R, torn: usize) {
+    let _ = match torn {
+        0 => Ok(()),
+        1 => eprintln!(rt; "mud_serve: 1 torn byte at the end of the journal is cut off"),
+        _ => eprintln!(rt; "mud_serve: {torn} torn bytes at the end of the journal are cut off"),
+    };
+}
+
+// The listener that was asked for.
+fn bound<R: Net<Listener = TcpListener, Stream = TcpStream>>(
+    rt: &R,
+    listening: Listening<'_>,
+) -> Result<TcpListener, Stop> {
+    match TcpListener::bind(rt, (listening.address, listening.port)) {
+        Ok(listener) => Ok(listener),
+        Err(_) => Err(Stop::Listen),
+    }
+}
+
+// What the server keeps to.
+fn limits_of(listening: Listening<'_>) -> mud_listen::Limits
+    requires { AreWithin listening.limits }
+    ensures sessions { result.sessions ≤ 64 }
+    ensures workers { result.workers ≤ 8 }
+    ensures from { 1 ≤ result.capacity }
+    ensures to { result.capacity ≤ 65536 }
+{
+    mud_listen::Limits {
+        sessions: SESSIONS,
+        total: listening.total,
+        workers: listening.limits.workers,
+        capacity: listening.limits.capacity,
+        idle: listening.idle,
+    }
+}
+
+// The sign that the console sets, where there is one, which is told where the server listens.
+fn sign_of<'c, R: Wait>(
+    rt: &R,
+    console: Option<&'c Console>,
+    listener: &TcpListener,
+) -> Option<&'c StopSign> {
+    let console = console?;
+    console.find(rt, own_address(listener));
+    Some(console.sign())
+}
+
+/// Serves connections. The files of the journal and of the history are read before the port is taken.
 pub(crate) fn listen<
+    R: Runtime
+        + AllocGlobal
+        + Files<File = File>
+        + Threads
+        + Wait
+        + Log
+        + Sync
+        + Net<Listener = TcpListener, Stream = TcpStream>,
+>(rt: &R, listening: Listening<'_>, console: Option<&Console>) -> Result<(), Stop>
+    requires { AreWithin listening.limits }
+{
+    match listening.journal {
+        None => keep_nothing(rt, listening, console),
+        Some(name) => keep_journal(rt, listening, console, name),
+    }
+}
+
+// Serves connections, and keeps the world in memory only.
+fn keep_nothing<
     R: Runtime
         + AllocGlobal
         + Threads
@@ -62,23 +150,60 @@ pub(crate) fn listen<
         + Log
         + Sync
         + Net<Listener = TcpListener, Stream = TcpStream>,
->(rt: &R, listening: Listening<'_>) -> Result<(), Stop>
+>(rt: &R, listening: Listening<'_>, console: Option<&Console>) -> Result<(), Stop>
     requires { AreWithin listening.limits }
 {
     let entries = begun(rt, listening.load)?;
-    let Ok(listener) = TcpListener::bind(rt, (listening.address, listening.port)) else {
-        return Err(Stop::Listen);
-    };
-    let limits = mud_listen::Limits {
-        sessions: SESSIONS,
-        total: listening.total,
-        workers: listening.limits.workers,
-        capacity: listening.limits.capacity,
-        idle: listening.idle,
-    };
+    let listener = bound(rt, listening)?;
+    let sign = sign_of(rt, console, &listener);
     let mut sink = Sink::new(io::writer(rt));
-    match listen_on(rt, rt.alloc(), &listener, limits, entries, &mut sink) {
+    match listen_on(
+        rt,
+        rt.alloc(),
+        &listener,
+        limits_of(listening),
+        entries,
+        sign,
+        &mut sink,
+    ) {
         Ok(()) => Ok(()),
+        Err(fault) => Err(Stop::of_listening(&fault)),
+    }
+}
+
+// Serves connections, and keeps the world in the journal of this name.
+fn keep_journal<
+    R: Runtime
+        + AllocGlobal
+        + Files<File = File>
+        + Threads
+        + Wait
+        + Log
+        + Sync
+        + Net<Listener = TcpListener, Stream = TcpStream>,
+>(rt: &R, listening: Listening<'_>, console: Option<&Console>, name: &str) -> Result<(), Stop>
+    requires { AreWithin listening.limits }
+{
+    let (found, had, torn) = match found(rt, name) {
+        Ok(found) => found,
+        Err(fault) => return Err(Stop::of_opening(fault)),
+    };
+    tell_torn(rt, torn);
+    let entries = begun_after(rt, listening.load, had)?;
+    let listener = bound(rt, listening)?;
+    let sign = sign_of(rt, console, &listener);
+    let mut sink = Sink::new(io::writer(rt));
+    match listen_journaled(
+        rt,
+        rt.alloc(),
+        &listener,
+        limits_of(listening),
+        entries,
+        found,
+        sign,
+        &mut sink,
+    ) {
+        Ok(_) => Ok(()),
         Err(fault) => Err(Stop::of_listening(&fault)),
     }
 }

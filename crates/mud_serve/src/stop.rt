@@ -1,5 +1,6 @@
 //! Why the program stopped.
 
+use mud_journal::OpenFault;
 use mud_listen::ListenFault;
 use mud_load::Unloaded;
 use mud_session::ScriptFault;
@@ -26,9 +27,18 @@ pub(crate) enum Stop {
     /// The desks of the sessions did not make one history.
     #[error("cannot settle")]
     Settle,
+    /// The journal takes no more.
+    #[error("journal fault")]
+    Journal,
     /// The world does not go on from the file.
     #[error("cannot load: {0}")]
     Load(Unloaded),
+    /// The world does not go on from what is in the file of the journal, or another server has it.
+    #[error("cannot open journal: {0}")]
+    Open(OpenFault),
+    /// A history was to be loaded, and the journal has one already.
+    #[error("journal is not empty")]
+    NotEmpty,
 }
 
 impl Stop {
@@ -50,6 +60,14 @@ impl Stop {
         }
     }
 
+    /// Why there is no journal.
+    pub(crate) fn of_opening(fault: OpenFault) -> Stop {
+        match fault {
+            OpenFault::OutOfMemory => Stop::OutOfMemory,
+            fault => Stop::Open(fault),
+        }
+    }
+
     /// Why a server ended.
     pub(crate) fn of_listening(fault: &ListenFault) -> Stop {
         match fault {
@@ -58,6 +76,7 @@ impl Stop {
             ListenFault::Accept => Stop::Listen,
             ListenFault::Settle(_) => Stop::Settle,
             ListenFault::Load(fault) => Stop::of_load(Unloaded::of_entries(fault)),
+            ListenFault::Journal(_) => Stop::Journal,
         }
     }
 

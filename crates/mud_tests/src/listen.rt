@@ -6,7 +6,7 @@ use crate::rows::{number, parted};
 use log::Log;
 use mud_chron::{Entry, read_history};
 use mud_ends::Sink;
-use mud_listen::{Limits, ListenFault, listen_on};
+use mud_listen::{Limits, ListenFault, StopSign, listen_on};
 use std::alloc::{AllocError, Global};
 use std::io::{Read, Write};
 use std::net::{Ipv4Addr, Net, SocketAddr, TcpListener, TcpStream};
@@ -168,7 +168,7 @@ fn served<
             requires sessions { limits.sessions ≤ 64 }
             requires workers { limits.workers ≤ 8 }
             requires capacity { (1 ≤ limits.capacity) × (limits.capacity ≤ 65536) }
-        { listen_on(rt, alloc, &listener, limits, loaded, &mut sink) },
+        { listen_on(rt, alloc, &listener, limits, loaded, None, &mut sink) },
         || play(rt, address, rows),
     );
     let (played, ended) = (played?, ended(alloc, &served)?);
@@ -397,8 +397,31 @@ fn a_listener_fails(rt: HostRuntime) -> Result<(), Fail> {
         &listener,
         limits(64, 1, 16),
         none,
+        None,
         &mut sink,
     );
     assert_eq!(rt; served, Err(ListenFault::Accept));
+    Ok(())
+}
+
+// A server that nobody visits, and that has no total, ends by its sign once somebody knocks.
+#[test]
+fn a_sign_ends_a_server(rt: HostRuntime) -> Result<(), Fail> {
+    let (listener, address) = bound(&rt)?;
+    let sign = StopSign::new();
+    sign.set();
+    let _knock = TcpStream::connect(&rt, address)?;
+    let mut sink = Sink::new(Vec::new(rt.alloc()));
+    let none = Vec::new(rt.alloc());
+    let served = listen_on(
+        &rt,
+        rt.alloc(),
+        &listener,
+        limits(64, 0, 16),
+        none,
+        Some(&sign),
+        &mut sink,
+    );
+    assert_eq!(rt; served, Ok(()));
     Ok(())
 }

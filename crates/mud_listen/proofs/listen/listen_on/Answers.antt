@@ -23,25 +23,25 @@ returns-in_err-history-clause-fault g c =
     c.in_err-history.ensures.fault c.args.limits.capacity c.args.loaded.items c.args.out.now c.write_port.new.out in
     search rules
 
-pub returns-in-Err-clause-front : goal.returns-in-Err-clause-front
-returns-in-Err-clause-front g c = none_written _ _ _
+pub returns-in_err-port-clause-front : goal.returns-in_err-port-clause-front
+returns-in_err-port-clause-front g c = any_err c.from_residual-in_err-port.result (none_written _ _ _)
 
 pub returns-in_err-write_port-clause-front : goal.returns-in_err-write_port-clause-front
 returns-in_err-write_port-clause-front g c =
     let front = c.in_err-write_port.ensures.front in
-    any_err c.from_residual-in_err-write_port.result (front_written _ c.port-port.result front.0 _ _ _ front.1)
+    any_err c.from_residual-in_err-write_port.result (front_written _ c.in_ok-port.port front.0 _ _ _ front.1)
 
 pub returns-in_err-history-clause-front : goal.returns-in_err-history-clause-front
 returns-in_err-history-clause-front g c =
     any_err c.from_residual-in_err-history.result
-    (line_written _ c.port-port.result _ _ _ c.in_ok-write_port.ensures.ok)
+    (line_written _ c.in_ok-port.port _ _ _ c.in_ok-write_port.ensures.ok)
 
 pub returns-clause-ok : goal.returns-clause-ok
 returns-clause-ok g c =
     let ends =
     end_of _ _ _ _ _ c.in_ok-hall.ensures.loaded c.as_slice.ensures.value c.in_ok-history.ensures.ends in
     on_ok_weaker c.write_entries.result
-    (λ written. all_written _ c.port-port.result _ _ _ _ _ ends c.in_ok-write_port.ensures.ok written)
+    (λ written. all_written _ c.in_ok-port.port _ _ _ _ _ ends c.in_ok-write_port.ensures.ok written)
     c.write_entries.ensures.ok
 
 pub returns-clause-front : goal.returns-clause-front
@@ -49,5 +49,9 @@ returns-clause-front g c =
     let ends =
     end_of _ _ _ _ _ c.in_ok-hall.ensures.loaded c.as_slice.ensures.value c.in_ok-history.ensures.ends in
     on_err_weaker c.write_entries.result
-    (λ written. part_written _ c.port-port.result written.0 _ _ _ _ _ ends c.in_ok-write_port.ensures.ok written.1)
+    (λ written. part_written _ c.in_ok-port.port written.0 _ _ _ _ _ ends c.in_ok-write_port.ensures.ok written.1)
     c.write_entries.ensures.front
+
+pub returns-clause-total : goal.returns-clause-total
+returns-clause-total g c = on_ok_weaker c.write_entries.result (λ written. c.in_ok-history.ensures.total)
+    c.write_entries.ensures.ok

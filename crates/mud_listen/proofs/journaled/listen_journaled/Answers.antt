@@ -1,0 +1,73 @@
+use Rattle.std.proofs.Common.{rules, ◌≡◌, drop, sym, subst}
+use Rattle.std.proofs.lemmas.List.{places, length-take-le}
+use Rattle.std.proofs.lemmas.Result.{err_from_is_err_and}
+use Rattle.mud_journal.specs.Disk.{Holds}
+use Rattle.mud_listen.specs.Listening.{IsListenFault}
+use Rattle.mud_listen.proofs.Keeping.{all_loaded}
+use Rattle.mud_listen.proofs.Written.{any_err, end_of, none_written, front_written, line_written, part_written}
+use Rattle.mud_listen.proofs.Written.{write_fault, all_journaled}
+use Rattle.mud_listen.proofs.journaled.listen_journaled.Goals as goal
+
+pub returns-in_err-hall-clause-front : goal.returns-in_err-hall-clause-front
+returns-in_err-hall-clause-front g c = any_err c.from_residual-in_err-hall.result (none_written _ _ _)
+
+pub returns-in_err-hall-clause-fault : goal.returns-in_err-hall-clause-fault
+returns-in_err-hall-clause-fault g c =
+    let fault
+    : IsListenFault c.args.limits.capacity c.args.loaded.items c.args.out.now c.args.out.now c.in_err-hall.field-0.0 =
+    c.in_err-hall.ensures.fault c.args.out.now in
+    search rules
+
+pub returns-in_err-write_port-clause-front : goal.returns-in_err-write_port-clause-front
+returns-in_err-write_port-clause-front g c =
+    let front = c.in_err-write_port.ensures.front in
+    any_err c.from_residual-in_err-write_port.result (front_written _ c.in_ok-port.port front.0 _ _ _ front.1)
+
+pub returns-in_err-write_port-clause-fault : goal.returns-in_err-write_port-clause-fault
+returns-in_err-write_port-clause-fault g c =
+    let p =
+    err_from_is_err_and c.from_residual-in_err-write_port.result c.from_residual-in_err-write_port.ensures.1 in
+    rw (p.1, p.2)
+    (write_fault c.args.limits.capacity c.args.loaded.items c.args.out.now c.write_port.new.out
+    c.in_err-write_port.field-0.0 c.in_err-write_port.ensures.fault)
+
+pub serve-requires-clause-holds : goal.serve-requires-clause-holds
+serve-requires-clause-holds g c κs within =
+    let n = c.args.found.count in
+    let loaded = c.args.loaded.items in
+    let same : c.in_ok-more.more.items ≡ drop n loaded = search (rules, places) in
+    let held =
+    c.in_ok-journal.ensures.holds _ (length-take-le n loaded c.requires.within) c.requires.found in
+    all_loaded _ n loaded c.deref-2.result.now c.in_ok-hall.hall.loaded held
+    (subst (λ l. l ≡ drop n loaded) (sym c.deref-2.ensures.value) same) c.in_ok-hall.ensures.loaded
+
+pub returns-in_err-history-clause-front : goal.returns-in_err-history-clause-front
+returns-in_err-history-clause-front g c =
+    any_err c.from_residual-in_err-history.result
+    (line_written _ c.in_ok-port.port _ _ _ c.in_ok-write_port.ensures.ok)
+
+pub returns-in_err-history-clause-fault : goal.returns-in_err-history-clause-fault
+returns-in_err-history-clause-fault g c =
+    let fault
+    : IsListenFault c.args.limits.capacity c.args.loaded.items c.args.out.now c.write_port.new.out
+    c.in_err-history.field-0.0 =
+    c.in_err-history.ensures.fault c.args.limits.capacity c.args.loaded.items c.args.out.now c.write_port.new.out in
+    search rules
+
+pub returns-in_err-write_entries-clause-front : goal.returns-in_err-write_entries-clause-front
+returns-in_err-write_entries-clause-front g c =
+    let ends =
+    end_of _ _ _ _ _ c.in_ok-hall.ensures.loaded c.as_slice.ensures.value c.in_ok-history.ensures.ends in
+    let front = c.in_err-write_entries.ensures.front in
+    any_err c.from_residual-in_err-write_entries.result
+    (part_written _ c.in_ok-port.port front.0 _ _ _ _ _ ends c.in_ok-write_port.ensures.ok front.1)
+
+pub returns-clause-ok : goal.returns-clause-ok
+returns-clause-ok g c =
+    let ends =
+    end_of _ _ _ _ _ c.in_ok-hall.ensures.loaded c.as_slice.ensures.value c.in_ok-history.ensures.ends in
+    all_journaled _ c.in_ok-port.port _ _ _ _ _ _ ends c.in_ok-write_port.ensures.ok c.in_ok-write_entries.ensures.ok
+    (subst (Holds _) (sym c.as_slice.ensures.value) c.in_ok-history.ensures.journaled)
+
+pub returns-clause-total : goal.returns-clause-total
+returns-clause-total g c = c.in_ok-history.ensures.total

@@ -1,0 +1,306 @@
+//! A server that keeps its history on a disk while it runs.
+
+ghost use Rattle.std.specs.Prelude.{◌≡◌, ◌≤◌, ◌<◌, ◌+◌, ◌++◌, ℕ, List, length, take, false};
+ghost use Rattle.std.specs.Prelude.{IfOk, IfErr, IfNone, IsTrue, OnOk, OnErr};
+ghost use mathlib.Core.List.{IsPrefix};
+ghost use Rattle.mud_ends.specs.Ends.{Writer};
+ghost use Rattle.mud_chron.specs.Entry.{Accepted};
+ghost use Rattle.mud_journal.specs.Disk.{Holds, Begins};
+ghost use Rattle.mud_listen.specs.Listening.{MayEnd, Settles, SettlesInPart, IsListenFault};
+
+use crate::connection::{OfHall, Shared};
+use crate::ending::settle_journaled;
+use crate::fault::ListenFault;
+use crate::house::{Bells, House, Places};
+use crate::kind::Kind;
+use crate::limits::Limits;
+use crate::listen::{port_of, resumed, serve_house};
+use crate::rest::rest;
+use crate::scribe::Scribe;
+use crate::stop::{StopSign, own_address};
+use crate::writing::{write_entries, write_port};
+use log::Log;
+use mud_chron::Entry;
+use mud_ends::Sink;
+use mud_hall::{Hall, HallName, NewHall};
+use mud_journal::{Disk, Found, Gate, Journal, JournalFault};
+use std::alloc::{AllocError, Global};
+use std::io::Write;
+use std::marker::Brand;
+use std::net::{Net, TcpListener, TcpStream};
+use std::sync::Wait;
+use std::thread;
+use std::thread::{JoinHandle, Scope, Threads};
+
+// How long the thread that writes the journal waits between two tries to end an `accept`.
+const CALL_MILLISECONDS: u64 = 50;
+
+// Begins the thread that serves the connections; it tells whether all were served that were to be. At its end nobody
+// asks for more of the journal.
+fn begin_serving<
+    's,
+    E,
+    H: Sync + 's,
+    D: Sync + 's,
+    B: Sync + 's,
+    S: Send + Sync + Drop + 's,
+    K: Kind<H, D, B, S> + Send + Sync + 's,
+    R: Threads + Wait + Log + Sync + 's,
+>(
+    scope: &Scope<'s, E>,
+    rt: &'s R,
+    alloc: Global,
+    house: &'s House<H, D, B>,
+    listener: &'s TcpListener,
+    limits: Limits,
+    stop: Option<&'s StopSign>,
+) -> Option<JoinHandle<bool>> {
+    scope
+        .spawn(move || {
+            let served = serve_house::<H, D, B, S, K, R>(rt, alloc, house, listener, limits, stop);
+            house.gate.close(rt);
+            served.is_ok()
+        })
+        .ok()
+}
+
+// Connects to the listener until no connection is taken any more: nothing else ends an `accept`, and a try may fail.
+fn end_accepting<H, D, B, R: Wait + Net>(rt: &R, house: &House<H, D, B>, listener: &TcpListener) {
+    for _ in rt.forever() {
+        if house.takes_no_more() {
+            return;
+        }
+        if let Some(address) = own_address(listener) {
+            let _ = TcpStream::connect(rt, address);
+        }
+        rest(rt, CALL_MILLISECONDS);
+    }
+}
+
+// Writes the journal as it is asked for, until the gate is closed, and wakes the notice threads after each sync. Where
+// it fails, they are woken, too, and so is the thread that takes connections.
+#[tactic(auto, using(crate::proofs::Keeping::prefix_trans))]
+fn write_all<J: HallName, D: Disk + Drop, R: Wait + Net>(
+    rt: &R,
+    house: &House<Hall<J>, Places<J>, Bells>,
+    listener: &TcpListener,
+    scribe: &mut Scribe<J, D>,
+) -> Result<(), JournalFault>
+    ensures longer { IsPrefix scribe.old.entries scribe.new.entries }
+{
+    for _ in rt.forever() {
+        if !house.gate.next(rt) {
+            return Ok(());
+        }
+        match scribe.write(&house.hall) {
+            Ok(receipt) => {
+                house.gate.publish(rt, &receipt);
+                house.wake_all(rt);
+            }
+            Err(fault) => {
+                house.gate.fail(rt);
+                house.wake_all(rt);
+                end_accepting(rt, house, listener);
+                return Err(fault);
+            }
+        }
+    }
+    unreachable!()
+}
+
+// Begins the thread that serves the connections, writes the journal, and waits until that thread has ended. Where the
+// journal has no fault, only the listener's ends it early.
+fn serve_and_write<
+    's,
+    J: HallName + Send + Sync + 's,
+    D: Disk + Drop,
+    E,
+    R: Threads + Wait + Net + Log + Sync + 's,
+>(
+    scope: &Scope<'s, E>,
+    rt: &'s R,
+    alloc: Global,
+    house: &'s House<Hall<J>, Places<J>, Bells>,
+    listener: &'s TcpListener,
+    limits: Limits,
+    stop: Option<&'s StopSign>,
+    scribe: Scribe<J, D>,
+) -> Result<Scribe<J, D>, ListenFault>
+    ensures longer { IfOk result (λ s. IsPrefix scribe.entries s.entries) }
+    ensures fault { IfErr result (λ f. (capacity : ℕ) (loaded : List Accepted) (old new : Writer)
+        → IsListenFault capacity loaded old new f) }
+{
+    let Some(serving) = begin_serving::<E, Hall<J>, Places<J>, Bells, Shared<J>, OfHall<J>, R>(
+        scope, rt, alloc, house, listener, limits, stop,
+    ) else {
+        return Err(ListenFault::OutOfMemory);
+    };
+    let mut scribe = scribe;
+    let written = write_all(rt, house, listener, &mut scribe);
+    let is_served = serving.join(rt);
+    written?;
+    if is_served {
+        Ok(scribe)
+    } else {
+        Err(ListenFault::Accept)
+    }
+}
+
+// Serves the connections in other threads, and writes the journal in this one.
+fn serve_journaled<J: HallName + Send + Sync, D: Disk + Drop, R: Threads + Wait + Net + Log + Sync>(
+    rt: &R,
+    alloc: Global,
+    house: &House<Hall<J>, Places<J>, Bells>,
+    listener: &TcpListener,
+    limits: Limits,
+    stop: Option<&StopSign>,
+    scribe: Scribe<J, D>,
+) -> Result<Scribe<J, D>, ListenFault>
+    ensures longer { IfOk result (λ s. IsPrefix scribe.entries s.entries) }
+    ensures fault { IfErr result (λ f. (capacity : ℕ) (loaded : List Accepted) (old new : Writer)
+        → IsListenFault capacity loaded old new f) }
+{
+    thread::scope(thread::scope_env(), rt, move |scope| {
+        serve_and_write::<J, D, _, R>(scope, rt, alloc, house, listener, limits, stop, scribe)
+    })
+}
+
+// Whether a server may end well: after this many sessions, or at a sign.
+fn can_end_well(stop: Option<&StopSign>, total: u32) -> bool
+    ensures { IsTrue result → IfNone stop.entry (0 < total) }
+{
+    match stop {
+        Some(_) => true,
+        None => 0 < total,
+    }
+}
+
+// Serves in the hall, which J names, and settles. What the hall began with is in the journal.
+fn serve_all<J: HallName + Send + Sync, D: Disk + Drop, R: Threads + Wait + Net + Log + Sync>(
+    rt: &R,
+    alloc: Global,
+    hall: NewHall,
+    listener: &TcpListener,
+    limits: Limits,
+    stop: Option<&StopSign>,
+    journal: Journal<D>,
+) -> Result<(Vec<Entry>, Journal<D>), ListenFault>
+    requires cells { hall.cells ≡ J.cells }
+    requires loaded { hall.loaded ≡ J.loaded }
+    requires workers { limits.workers ≤ 8 }
+    requires capacity { limits.capacity ≤ 65536 }
+    requires holds { Holds (D.kept journal.disk) J.loaded }
+    requires count { journal.count ≡ length J.loaded }
+    requires going { journal.has_failed ≡ false }
+    ensures ends { IfOk result (λ s. MayEnd limits J.loaded s.0.items) }
+    ensures journaled { IfOk result (λ s. Holds (D.kept s.1.disk) s.0.items) }
+    ensures limit { IfOk result (λ s. length s.0.items ≤ 65536) }
+    ensures total { OnOk result (IfNone stop.entry (0 < limits.total)) }
+    ensures fault { IfErr result (λ f. (capacity : ℕ) (loaded : List Accepted) (old new : Writer)
+        → IsListenFault capacity loaded old new f) }
+{
+    let hall = hall.named::<J>();
+    let reader = hall.reader(rt)?;
+    let scribe = Scribe::new(alloc, journal, reader);
+    let gate = Gate::new(&scribe.receipt());
+    let house = House::new(alloc, hall, limits.sessions, limits.workers, gate)?;
+    let written = serve_journaled::<J, D, R>(rt, alloc, &house, listener, limits, stop, scribe)?;
+    if !can_end_well(stop, limits.total) {
+        return Err(ListenFault::Accept);
+    }
+    let Ok((hall, desks)) = house.into_parts(alloc) else {
+        return Err(ListenFault::OutOfMemory);
+    };
+    settle_journaled(rt, alloc, limits, hall, desks, written)
+}
+
+// The same in a hall that has no name yet: one call picks it.
+fn serve<D: Disk + Drop, R: Threads + Wait + Net + Log + Sync>(
+    rt: &R,
+    alloc: Global,
+    hall: NewHall,
+    listener: &TcpListener,
+    limits: Limits,
+    stop: Option<&StopSign>,
+    journal: Journal<D>,
+) -> Result<(Vec<Entry>, Journal<D>), ListenFault>
+    requires workers { limits.workers ≤ 8 }
+    requires capacity { limits.capacity ≤ 65536 }
+    requires holds { Holds (D.kept journal.disk) hall.loaded }
+    requires count { journal.count ≡ length hall.loaded }
+    requires going { journal.has_failed ≡ false }
+    ensures ends { IfOk result (λ s. MayEnd limits hall.loaded s.0.items) }
+    ensures journaled { IfOk result (λ s. Holds (D.kept s.1.disk) s.0.items) }
+    ensures limit { IfOk result (λ s. length s.0.items ≤ 65536) }
+    ensures total { OnOk result (IfNone stop.entry (0 < limits.total)) }
+    ensures fault { IfErr result (λ f. (capacity : ℕ) (loaded : List Accepted) (old new : Writer)
+        → IsListenFault capacity loaded old new f) }
+{
+    serve_all::<Brand, D, R>(rt, alloc, hall, listener, limits, stop, journal)
+}
+
+// Copies of the entries.
+fn copies(alloc: Global, entries: &[Entry]) -> Result<Vec<Entry>, AllocError>
+    ensures { IfOk result (λ v. v.items ≡ entries.now) }
+{
+    let mut copies = Vec::new(alloc);
+    for entry in entries {
+        copies.push(entry.copy(alloc)?)?;
+    }
+    Ok(copies)
+}
+
+// Goes on from what was found, and adds these entries.
+fn begun<D: Disk + Drop>(
+    alloc: Global,
+    found: Found<D>,
+    more: &[Entry],
+) -> Result<Journal<D>, JournalFault>
+    ensures holds { IfOk result (λ j. (had : List Accepted) → length had ≡ found.count
+        → Begins (D.kept found.disk) found.keep had → Holds (D.kept j.disk) (had ++ more.now)) }
+    ensures count { IfOk result (λ j. j.count ≡ found.count + length more.now) }
+    ensures going { IfOk result (λ j. j.has_failed ≡ false) }
+{
+    let mut journal = found.begin()?;
+    if !more.is_empty() {
+        journal.commit(alloc, more)?;
+    }
+    Ok(journal)
+}
+
+/// Serves as [`crate::listen_on`], and keeps the history in a journal on a disk while it runs. The first of the loaded
+/// entries were found there; the others are written to it before the port is. What is sent names no version after the
+/// last that is synced. With Ok the journal has the whole history that is written.
+///
+/// `Load` comes before anything is written, also to the journal. After `Journal` all sessions have ended.
+pub fn listen_journaled<D: Disk + Drop, R: Threads + Wait + Net + Log + Sync, W: Write>(
+    rt: &R,
+    alloc: Global,
+    listener: &TcpListener,
+    limits: Limits,
+    loaded: Vec<Entry>,
+    found: Found<D>,
+    stop: Option<&StopSign>,
+    out: &mut Sink<W>,
+) -> Result<Journal<D>, ListenFault>
+    requires sessions { limits.sessions ≤ 64 }
+    requires workers { limits.workers ≤ 8 }
+    requires from { 1 ≤ limits.capacity }
+    requires to { limits.capacity ≤ 65536 }
+    requires found { Begins (D.kept found.disk) found.keep (take found.count loaded.items) }
+    requires within { found.count ≤ length loaded.items }
+    ensures ok { IfOk result (λ j. (s : Settles limits loaded.items out.old.holds out.new.holds)
+        × Holds (D.kept j.disk) s.history) }
+    ensures front { OnErr result (SettlesInPart limits loaded.items out.old.holds out.new.holds) }
+    ensures fault { IfErr result (IsListenFault limits.capacity loaded.items out.old out.new) }
+    ensures total { OnOk result (IfNone stop.entry (0 < limits.total)) }
+{
+    let more = copies(alloc, &loaded[found.len()..])?;
+    let hall = resumed(alloc, limits.capacity, loaded)?;
+    let port = port_of(listener)?;
+    let journal = begun(alloc, found, &more)?;
+    write_port(alloc, out, port)?;
+    let (history, journal) = serve(rt, alloc, hall, listener, limits, stop, journal)?;
+    write_entries(alloc, out, history.as_slice())?;
+    Ok(journal)
+}

@@ -8,6 +8,7 @@ import random
 import time
 from concurrent.futures import ThreadPoolExecutor
 
+from harness.journal import Place, ended
 from harness.judge import judge
 from harness.parts import part
 from harness.programs import program
@@ -131,10 +132,10 @@ def judge_crowd(count, sessions, history):
     count("crowd: the proofs that they read", not wrong, wrong[:SHOWN_FAULTS])
 
 
-def count_crowd(count, clients, seconds, pace):
-    """Has a crowd play, and counts how it went."""
+def count_crowd(count, clients, seconds, pace, words=()):
+    """Has a crowd play, and counts how it went; answers the history that was printed."""
     total = clients * LONGEST
-    with Server(program("mud_serve"), ["--total", str(total)]) as server:
+    with Server(program("mud_serve"), ["--total", str(total), *words]) as server:
         crowd = Crowd(server, seconds, pace)
         faults, is_full = crowd.play_all(clients)
         status, printed = crowd.finish(total)
@@ -142,6 +143,7 @@ def count_crowd(count, clients, seconds, pace):
     count("crowd: one more client is sent away", is_full)
     count("crowd: the server ends with status 0", status == 0, status)
     judge_crowd(count, crowd.sessions, printed.decode())
+    return printed
 
 
 @part("crowd", "clients play at once, and what each reads is judged", words="[CLIENTS [SECONDS [PACE]]]")
@@ -152,3 +154,10 @@ def small_crowd(count, clients="16", seconds="5", pace="20"):
 @part("big-crowd", "the crowd of as many clients as a server takes, for a minute", on_demand=True)
 def big_crowd(count):
     count_crowd(count, MOST, 60, 20)
+
+
+@part("crowd-with-a-journal", "the crowd at a server that keeps a journal", words="[CLIENTS [SECONDS [PACE]]]")
+def crowd_with_a_journal(count, clients="16", seconds="5", pace="20"):
+    with Place() as place:
+        printed = count_crowd(count, int(clients), float(seconds), float(pace), ["--journal", place.path])
+        count("crowd with a journal: it is what is printed", ended(place.text()) == printed)

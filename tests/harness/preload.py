@@ -1,4 +1,5 @@
-"""The libraries of tests/preload: each is preloaded into a program, counts its calls of one kind, and fails one.
+"""The libraries of tests/preload: each is preloaded into a program, counts its calls of one kind, and fails one, or
+notes what was synced.
 
 They are compiled once a run, into a folder that goes away with it.
 """
@@ -10,7 +11,9 @@ import tempfile
 from harness.parts import Skipped, part
 from harness.programs import TOP
 
+# Those by which any program can be tried, and those for files.
 LIBRARIES = ("refuse", "fail_ends", "fail_threads")
+FILE_LIBRARIES = ("fail_files", "note_syncs")
 COMPILERS = ("cc", "gcc", "clang")
 
 
@@ -44,7 +47,7 @@ def library(name):
 
 @part("preload", "the libraries that make calls fail are compiled without a warning")
 def preload(count):
-    for name in LIBRARIES:
+    for name in (*LIBRARIES, *FILE_LIBRARIES):
         try:
             count(f"{name}.c", bool(library(name)))
         except NotCompiled as error:

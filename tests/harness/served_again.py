@@ -14,6 +14,7 @@ import tempfile
 import time
 
 from harness.inputs import read
+from harness.journal import Place
 from harness.judge import judge
 from harness.parts import part
 from harness.preload import LIBRARIES, library
@@ -31,14 +32,14 @@ LINES = [
     ("Bob", "drop coin"),
 ]
 HISTORY = re.compile(rb"(mud history 2\n([1-9][0-9]* [1-9][0-9]? [a-z]+ .*\n)*(end [0-9]+\n)?)?")
-WORDS = ("out of memory", "write fault")
+WORDS = ("out of memory", "write fault", "journal fault", "cannot open journal: file")
 
 
 class Play:
     """One run: the server, both clients, and all sessions that there were."""
 
-    def __init__(self, environment):
-        self.server = Server(program("mud_serve"), ["--total", str(TOTAL)], environment)
+    def __init__(self, environment, words=()):
+        self.server = Server(program("mud_serve"), ["--total", str(TOTAL), *words], environment)
         self.visits, self.sessions, self.lacked = {}, [], 0
 
     def visit(self):
@@ -141,10 +142,10 @@ class Play:
         return self.lacked > 0 or self.server.process.returncode != 0
 
 
-def play(environment, call):
+def play(environment, call, words=()):
     """A run in which this call fails. Answers whether that was felt, and what is wrong, as texts."""
     chosen = {"FAILED_CALL": str(call), "MOVED_BYTES": str(int(call == 0))}
-    one = Play({**environment, **chosen})
+    one = Play({**environment, **chosen}, words)
     with one.server:
         faults = one.judged()
     if call == 0 and one.is_felt():
@@ -152,14 +153,20 @@ def play(environment, call):
     return one.is_felt(), [f"call {call}: {fault}"[:400] for fault in faults[:3]]
 
 
-def play_in_turn(name):
+def play_kept(environment, call):
+    """The same over a new journal."""
+    with Place() as place:
+        return play(environment, call, ["--journal", place.path])
+
+
+def play_in_turn(name, played=play):
     """A run for each call. Answers how many there were, how many of them were felt, and what is wrong, by calls."""
     counted = tempfile.NamedTemporaryFile()
     environment = {"LD_PRELOAD": library(name), "CALLS_FILE": counted.name}
     felt, wrong = 0, []
     for call in itertools.count():
         counted.truncate(0)
-        is_felt, faults = play(environment, call)
+        is_felt, faults = played(environment, call)
         felt += is_felt
         wrong += [faults] if faults else []
         made = int((read(counted.name).split() or [0])[0])
@@ -167,9 +174,19 @@ def play_in_turn(name):
             return call, felt, wrong
 
 
-@part("served-again", "two people are served while each call of their server fails in turn")
-def served_again(count):
+def count_all(count, played):
+    """Counts what comes of the calls of each kind."""
     for name in LIBRARIES:
-        calls, felt, wrong = play_in_turn(name)
+        calls, felt, wrong = play_in_turn(name, played)
         print(f"served again: {name}: {calls} runs, {felt} felt, {len(wrong)} answered wrongly", flush=True)
         count(f"served again: {name}", felt and not wrong, wrong or "no failed call is felt")
+
+
+@part("served-again", "two people are served while each call of their server fails in turn")
+def served_again(count):
+    count_all(count, play)
+
+
+@part("served-again-journal", "the same where the server has a journal", on_demand=True)
+def served_again_journal(count):
+    count_all(count, play_kept)

@@ -9,12 +9,15 @@ SECONDS = 10
 
 
 class Server:
-    """`PROGRAM listen WORD..` on a free port, which is its `port`; None where it ended before it said so."""
+    """`PROGRAM listen WORD..` on a free port, which is its `port`; None where it ended before it said so. With a
+    console it is typed at.
+    """
 
-    def __init__(self, program, words=(), environment=None):
+    def __init__(self, program, words=(), environment=None, console=False, **how):
         self.errors = tempfile.TemporaryFile()
-        command = [program, "listen", "--port", "0", "--address", HOST, *words]
-        how = {"stdin": subprocess.DEVNULL, "stdout": subprocess.PIPE, "stderr": self.errors, "bufsize": 0}
+        command = [program, "listen", "--port", "0", "--address", HOST, *words, *["--console"] * console]
+        how |= {"stdin": subprocess.PIPE if console else subprocess.DEVNULL}
+        how |= {"stdout": subprocess.PIPE, "stderr": self.errors, "bufsize": 0}
         self.process = subprocess.Popen(command, env={**os.environ, **(environment or {})}, **how)
         first = self.process.stdout.readline()
         self.port = int(first.removeprefix(b"listening on ")) if first.endswith(b"\n") else None
@@ -26,6 +29,10 @@ class Server:
         finally:
             self.kill()
         return self.process.returncode, printed
+
+    def type(self, text):
+        """Types this at its console."""
+        self.process.stdin.write(text)
 
     def said(self):
         """What it has written to standard error."""

@@ -1,0 +1,195 @@
+"""A server with a journal. It goes on from what is there, whole line by whole line, and where it can't it says why and
+leaves the file as it is. What is printed at its end is the journal and the last line of a history.
+"""
+import os
+import subprocess
+import tempfile
+import time
+
+from harness.parts import part
+from harness.programs import program
+from harness.server import HOST, Client, Server
+
+SECONDS = 10
+# How long a server may take that goes on from as many changes as a history holds.
+START_SECONDS = 5
+
+FIRST = b"mud history 2\n"
+LAST_LINE = b"2 1 say #2 hi\n"
+ANN = FIRST + b'1 1 player #2 "Ann"\n' + LAST_LINE
+MOST = 65_536
+
+
+def said(count):
+    """A journal of so many changes."""
+    lines = [b"%d 1 say #1 hi\n" % version for version in range(1, count + 1)]
+    return FIRST + b"".join(lines)
+
+
+def ended(text):
+    """The history of a journal."""
+    return text + b"end %d\n" % (text.count(b"\n") - 1)
+
+
+# What is in the file; more words; why the server does not go on from it.
+REFUSED = [
+    ("a text", b"hello\n", [], b"cannot open journal: not a history"),
+    ("a line that is no change's", ANN + b"3 1 what\n", [], b"cannot open journal: journal line 4"),
+    ("a version left out", ANN + b"4 1 say #2 hi\n", [], b"cannot open journal: journal line 4"),
+    ("a return", FIRST + b"1 1 say #1 hi\r\n", [], b"cannot open journal: journal line 2"),
+    ("format 1", b"mud history 1\n", [], b"cannot open journal: old format"),
+    ("a whole history", ended(ANN), [], b"cannot open journal: a whole history: load it, or take its last line off"),
+    ("one change too many", said(MOST + 1), [], b"cannot open journal: too long"),
+    ("a change that can't be made", ANN + b"3 1 say #9 hi\n", [], b"cannot load: history change 3"),
+    ("more changes than there is room for", ANN, ["--capacity", "1"], b"cannot load: over capacity"),
+    ("changes, and a history to be loaded", ANN, ["--load", "{whole}"], b"journal is not empty"),
+]
+
+
+class Place:
+    """A folder with a journal, `path`, and the history of Ann, `whole`."""
+
+    def __init__(self, text=None):
+        self.folder = tempfile.TemporaryDirectory()
+        self.path, self.whole = (os.path.join(self.folder.name, name) for name in ("journal", "whole"))
+        for path, some in ((self.path, text), (self.whole, ended(ANN))):
+            if some is not None:
+                with open(path, "wb") as file:
+                    file.write(some)
+
+    def text(self):
+        with open(self.path, "rb") as file:
+            return file.read()
+
+    def server(self, *words, **more):
+        return Server(program("mud_serve"), ["--journal", self.path, *words], **more)
+
+    def __enter__(self):
+        return self
+
+    def __exit__(self, *_):
+        self.folder.cleanup()
+
+
+def why_taken(text, words, why):
+    """What went otherwise where a server is to be refused its journal; nothing where it was refused."""
+    with Place(text) as place:
+        words = [word.format(whole=place.whole) for word in words]
+        command = [program("mud_serve"), "listen", "--port", "0", "--address", HOST, "--journal", place.path, *words]
+        ran = subprocess.run(command, stdin=subprocess.DEVNULL, capture_output=True, timeout=SECONDS, check=False)
+        given = ran.returncode, ran.stdout, ran.stderr
+        if given != (3, b"", b"mud_serve: " + why + b"\n"):
+            return f"{given}"
+        return "" if place.text() == text else "the file is another one now"
+
+
+def told_of(count):
+    """What is told where so many bytes are torn."""
+    bytes_are = b"byte at the end of the journal is" if count == 1 else b"bytes at the end of the journal are"
+    return b"mud_serve: %d torn %s cut off\n" % (count, bytes_are) if count else b""
+
+
+def why_lost(text, kept, words=(), torn=0):
+    """What went otherwise where a server is to go on from the whole lines of a text, which has so many bytes more;
+    nothing where all went well.
+    """
+    with Place(text) as place, place.server(*words, console=True) as server:
+        if server.port is None:
+            return f"it does not start: {server.said()}"
+        if place.text() != kept:
+            return f"the journal is {place.text()}, and not {kept}"
+        server.type(b"stop\n")
+        given = server.end()
+        if given != (0, ended(kept)):
+            return f"{given}"
+        return "" if server.said() == told_of(torn) else f"it says {server.said()}, and not {told_of(torn)}"
+
+
+def say(port, *lines):
+    """One who connects as Ann says this, and leaves; what he reads last before that."""
+    client = Client(port)
+    client.line()
+    for line in (b"connect Ann", *lines):
+        client.send(line)
+        told = client.line()
+    client.close()
+    return told
+
+
+def why_broken():
+    """What went otherwise where a server is killed, and another goes on; nothing where all went well."""
+    with Place() as place:
+        with place.server() as server:
+            say(server.port, b"say hi")
+        if place.text() != ANN:
+            return f"the journal is {place.text()}"
+        with place.server(console=True) as server:
+            if say(server.port, b"say again") != b"[3] said":
+                return "the world is another one"
+            server.type(b"stop\n")
+            given = server.end()
+        right = ended(ANN + b"3 1 say #2 again\n")
+        return "" if given == (0, right) else f"{given}, and not {right}"
+
+
+def why_shared():
+    """What went otherwise where two servers want one journal; nothing where the second is refused."""
+    with Place(ANN) as place, place.server() as first:
+        with place.server() as second:
+            given = second.end()
+            if given != (3, b"") or second.said() != b"mud_serve: cannot open journal: in use\n":
+                return f"{given}, {second.said()}"
+        first.kill()
+        with place.server() as third:
+            return "" if third.port is not None else f"it stays in use: {third.said()}"
+
+
+def why_unprinted():
+    """What went otherwise where a total ends a server with a journal; nothing where its end is the journal's."""
+    with Place() as place, place.server("--total", "1") as server:
+        client = Client(server.port)
+        for line in (b"connect Ann", b"say hi", b"quit"):
+            client.send(line)
+        given = server.end()
+        return "" if given == (0, ended(place.text())) and place.text() == ANN else f"{given}, {place.text()}"
+
+
+def why_slow():
+    """What went otherwise where the journal is as long as may be; nothing where the server starts soon."""
+    with Place(said(MOST)) as place:
+        began = time.monotonic()
+        with place.server() as server:
+            took = time.monotonic() - began
+            return "" if server.port is not None and took < START_SECONDS else f"{took} s: {server.said()}"
+
+
+def why_no_file(path):
+    """What went otherwise where no journal can be at a path."""
+    with Server(program("mud_serve"), ["--journal", path]) as server:
+        given = server.end(), server.said()
+        return "" if given == ((3, b""), b"mud_serve: cannot open journal: file\n") else f"{given}"
+
+
+@part("journal", "a server goes on from its journal, or says why not and leaves the file as it is")
+def journal(count):
+    def show(what, why):
+        count(f"journal: {what}", not why, why)
+
+    for what, text, words, right in REFUSED:
+        show(f"{what} is refused", why_taken(text, words, right))
+    show("a folder is refused", why_no_file("/"))
+    show("a file in no folder is refused", why_no_file("/no-such-folder/journal"))
+    show("an empty file is a new journal", why_lost(b"", FIRST))
+    show("no file is a new journal", why_lost(None, FIRST))
+    before = ANN.removesuffix(LAST_LINE)
+    for length in range(1, len(FIRST)):
+        show(f"a first line cut after {length} bytes", why_lost(FIRST[:length], FIRST, torn=length))
+    for length in range(len(LAST_LINE)):
+        show(f"a last line cut after {length} bytes", why_lost(before + LAST_LINE[:length], before, torn=length))
+    show("a whole journal", why_lost(ANN, ANN))
+    with Place() as place:
+        show("a history is loaded into a new journal", why_lost(None, ANN, ["--load", place.whole]))
+    show("a killed server's world goes on", why_broken())
+    show("two servers share no journal", why_shared())
+    show("the printed history is the journal's", why_unprinted())
+    show("as many changes as a history holds", why_slow())

@@ -1,0 +1,122 @@
+"""Servers that are measured, and the clients that measure them (load.rs)."""
+import os
+import shutil
+import socket
+import subprocess
+import sys
+import time
+from typing import NamedTuple
+
+HERE = os.path.dirname(os.path.realpath(__file__))
+sys.path.insert(0, f"{HERE}/../tests")
+from harness.server import Client, Server
+
+SERVE = os.environ.get("MUD_SERVE", f"{HERE}/../crates/mud_serve/out/mud_serve")
+GAME, BINARIES = "/usr/share/tinymux/game", "/usr/lib/tinymux/game/bin"
+SETTINGS = """
+command_quota_max 1000000
+command_quota_increment 1000000
+player_starting_room #0
+"""
+DIGS = (b"connect Wizard", b"@dig north|south to Other", b"quit")
+OPENING = [b"connect wizard potrzebie", b"@teleport me=#0", b"@dig Other=north,south", b"@teleport me=#10"]
+
+
+class Played(NamedTuple):
+    """How lines were answered: how many, in how many seconds, by how many of processor time, how many lines were read,
+    and how many of them were notices of talk; and the milliseconds that half and 99 of 100 of replies and notices stay
+    below."""
+
+    answers: float
+    seconds: float
+    took: float
+    read: float
+    notices: float
+    replies: tuple
+    told: tuple
+
+    @property
+    def rate(self):
+        """Answers a second."""
+        return self.answers / self.seconds
+
+    @property
+    def cost(self):
+        """Microseconds of processor time an answer."""
+        return self.took / self.answers * 1e6
+
+
+def processor_time(pid):
+    """The seconds of processor time that a process has taken."""
+    with open(f"/proc/{pid}/stat") as file:
+        fields = file.read().rpartition(")")[2].split()
+    return (int(fields[11]) + int(fields[12])) / os.sysconf("SC_CLK_TCK")
+
+
+def memory(pid, name="VmRSS"):
+    """What a process holds, in megabytes."""
+    with open(f"/proc/{pid}/status") as file:
+        return next(int(line.split()[1]) for line in file if line.startswith(name)) / 1000
+
+
+def built_load(folder):
+    """The program of the clients, built in the folder."""
+    path = f"{folder}/load"
+    subprocess.run(["rustc", "--edition", "2021", "-O", "-o", path, f"{HERE}/load.rs"], check=True)
+    return path
+
+
+def played(name, load, pid, port, clients, lines):
+    """Has so many clients send so many lines each."""
+    before = processor_time(pid)
+    words = [load, str(port), str(clients), str(lines), name]
+    said = subprocess.run(words, stdout=subprocess.PIPE, check=True, text=True).stdout
+    took = processor_time(pid) - before
+    (answers, seconds, read, notices), replies, told = (map(float, line.split()) for line in said.splitlines())
+    return Played(answers, seconds, took, read, notices, tuple(replies), tuple(told))
+
+
+def played_here(load, clients, lines, words, program=SERVE, environment=None):
+    """The same with this server, started with the words, in a world of two rooms."""
+    server = Server(program, words, environment)
+    try:
+        builder = Client(server.port)
+        for line in DIGS:
+            builder.send(line)
+        while builder.more():
+            pass
+        return played("seamountcup", load, server.process.pid, server.port, clients, lines)
+    finally:
+        server.kill()
+
+
+def has_mux():
+    return os.path.exists(f"{BINARIES}/netmux")
+
+
+def free_port():
+    with socket.create_server(("127.0.0.1", 0)) as one:
+        return one.getsockname()[1]
+
+
+def played_by_mux(folder, load, clients, lines):
+    """The same with tinymux, with a new database in a folder of its own."""
+    game, port = f"{folder}/game", free_port()
+    shutil.copytree(GAME, game)
+    shutil.copytree(BINARIES, f"{game}/bin")
+    with open(f"{game}/netmux.conf", "a") as file:
+        file.write(f"{SETTINGS}port {port}\n")
+    command = ["./bin/netmux", "-c", "netmux.conf", "-p", "netmux.pid", "-e", "."]
+    quiet = {"stdin": subprocess.DEVNULL, "stdout": subprocess.DEVNULL, "stderr": subprocess.DEVNULL}
+    server = subprocess.Popen(command, cwd=game, env={**os.environ, "LD_LIBRARY_PATH": f"{game}/bin"}, **quiet)
+    try:
+        time.sleep(2)
+        wizard = Client(port)
+        for line in OPENING:
+            wizard.send(line)
+        time.sleep(1)
+        return played("mux", load, server.pid, port, clients, lines)
+    finally:
+        server.kill()
+        server.wait()
+        shutil.rmtree(game)

@@ -4,15 +4,15 @@ out among them.
 """
 import resource
 import subprocess
+from typing import Callable, NamedTuple
 
 from harness.parts import part
 from harness.programs import program
 
-# How many things a world has, and how often its step is taken.
-THINGS, STEPS = 7_990, 20
-# The most that one step may take, in seconds of processor time: many times what it takes on an idle machine.
-MOST_SECONDS = 0.05
-SECONDS = 60
+# How many things a world has, how long a script may take, in seconds, and how often a row is tried at most.
+THINGS, SECONDS, TRIES = 7_990, 60, 3
+# What long names begin with; a name has 60 bytes at most.
+STEM = "a" * 58
 
 THING = "@create t"
 
@@ -39,16 +39,18 @@ def in_one_another():
 
 def locked_by_questions():
     """An exit whose key asks sixteen times for a thing whose key asks so, for one whose key asks so for the innermost
-    thing. The last question is not met.
+    thing. The key of the room behind it does the same, but its last question is not met.
     """
-    way, thing = THINGS + 3, THINGS + 4
+    room, way, thing = THINGS + 2, THINGS + 3, THINGS + 4
+    asked = f"?#{thing + 2}"
     return in_one_another() + [
         '@dig e to "X"',
         *[THING] * 3,
         f"@lock #{thing} with {sixteen('#2')}",
         f"@lock #{thing + 1} with {sixteen(f'?#{thing}')}",
         f"@lock #{thing + 2} with {sixteen(f'?#{thing + 1}')}",
-        f"@lock #{way} with {sixteen(f'?#{thing + 2}', last=f'!?#{thing + 2}')}",
+        f"@lock #{way} with {sixteen(asked)}",
+        f"@lock #{room} with {sixteen(asked, last='!' + asked)}",
     ]
 
 
@@ -63,23 +65,55 @@ def asked_in_a_row():
     return many_things() + first + [f"@lock #{n} with {sixteen('?#3')}" for n in range(4, THINGS + 2)]
 
 
+def asked_by_sixteen():
+    """A thing, #2, for which the keys of sixteen things ask, for each of which the keys of all others ask."""
+    middle = range(3, 19)
+    first = [f"@lock #{n} with ?#2" for n in middle]
+    key = " && ".join(f"?#{n}" for n in middle)
+    return many_things() + first + [f"@lock #{n} with {key}" for n in range(19, THINGS + 2)]
+
+
+def long_names():
+    """Many things of four long names each, which differ in the last byte alone. The last thing's name has one byte
+    more than the others.
+    """
+    names = ",".join(STEM + last for last in "wxyz")
+    return [f"@create {names}"] * (THINGS - 1) + [f"@create {STEM}bc"]
+
+
 def many_exits():
     """A room with many exits of one name."""
     return ['@dig e to "X"'] + ["@dig e to #2"] * (THINGS - 10)
 
 
+class Row(NamedTuple):
+    """What is shown; its world; the line that is given again and again, and what it is answered; the most that it may
+    take, in seconds of processor time, some times what it takes on an idle machine; and how often it is given.
+    """
+
+    what: str
+    world: Callable
+    step: str
+    right: str
+    most: float = 0.05
+    steps: int = 20
+
+
 LOCK, LOCKED = f"@lock #2 with {sixteen('me')}", f"locked #2 with {sixteen('#1')}"
-# What is shown; its world; the line that is given again and again, and what it is answered.
+NAMED, MEANT = "&&".join([STEM + "b"] * 16), sixteen(f"#{THINGS + 1}")
 ROWS = [
-    ("a way whose key asks at three levels", locked_by_questions, f"go #{THINGS + 3}", "That exit is locked."),
-    ("a lock for which all keys ask", asked_by_all, LOCK, LOCKED),
-    ("its unlocking", asked_by_all, "@unlock #2", "unlocked #2"),
-    ("a question too deep", asked_in_a_row, f"@lock #2 with {sixteen('?#4')}", "That key nests too deep."),
-    ("a lock two levels down", asked_in_a_row, LOCK, LOCKED),
-    ("a thing that would hold itself", in_one_another, f"put #{THINGS + 1} in #2", "It can't hold itself."),
-    ("a recycling", in_one_another, f"@recycle #{THINGS + 1}", "That is in use."),
-    ("a name of many things", many_things, "drop t", "Which one do you mean?"),
-    ("a name of many exits", many_exits, "go e", "Which one do you mean?"),
+    Row("keys that ask at three levels", locked_by_questions, f"go #{THINGS + 3}", "That place is locked."),
+    Row("a lock for which all keys ask", asked_by_all, LOCK, LOCKED),
+    Row("its unlocking", asked_by_all, "@unlock #2", "unlocked #2"),
+    Row("a question too deep", asked_in_a_row, f"@lock #2 with {sixteen('?#4')}", "That key nests too deep."),
+    Row("a lock two levels down", asked_in_a_row, LOCK, LOCKED),
+    Row("a lock below sixteen keys", asked_by_sixteen, "@lock #2 with ?me", "locked #2 with ?#1"),
+    Row("a thing that would hold itself", in_one_another, f"put #{THINGS + 1} in #2", "It can't hold itself."),
+    Row("a recycling", in_one_another, f"@recycle #{THINGS + 1}", "That is in use."),
+    Row("a name of many things", many_things, "drop t", "Which one do you mean?"),
+    Row("a name of many exits", many_exits, "go e", "Which one do you mean?"),
+    # Each name is compared with all others, byte by byte and twice.
+    Row("sixteen long names", long_names, f"@lock #2 with {NAMED}", f"locked #2 with {MEANT}", most=1.0, steps=4),
 ]
 
 
@@ -92,18 +126,24 @@ def played(lines):
     return told.decode().splitlines()[-1], after.ru_utime + after.ru_stime - before.ru_utime - before.ru_stime
 
 
-def why_wrong(world, step, right):
-    """Why a step is answered wrong or takes too long; nothing where it is right."""
-    _, alone = played(world)
-    told, together = played(world + [step] * STEPS)
-    took = (together - alone) / STEPS
-    if told.partition(" ")[2] != right:
-        return f"{told}, and not {right}"
-    return f"{took} s" if took > MOST_SECONDS else ""
+def why_wrong(row):
+    """Why a step is answered wrong or takes too long; nothing where it is right. Where it takes too long it is tried
+    again, since a busy machine charges a program for what others do.
+    """
+    world = row.world()
+    for _ in range(TRIES):
+        _, alone = played(world)
+        told, together = played(world + [row.step] * row.steps)
+        took = (together - alone) / row.steps
+        if told.partition(" ")[2] != row.right:
+            return f"{told}, and not {row.right}"
+        if took <= row.most:
+            return ""
+    return f"{took} s"
 
 
 @part("dear-steps", "the dearest steps that were found in the largest worlds take little time each")
 def dear_steps(count):
-    for what, world, step, right in ROWS:
-        why = why_wrong(world(), step, right)
-        count(f"dear steps: {what}", not why, why)
+    for row in ROWS:
+        why = why_wrong(row)
+        count(f"dear steps: {row.what}", not why, why)

@@ -16,7 +16,6 @@ from harness.server import Client
 REPLY = re.compile(rb"\[(\d+)\] said")
 HEARD = re.compile(rb'\((\d+)\) \w+ says, "(.*)"')
 NAMED = re.compile(rb"[\[(](\d+)[\])] ")
-ENTRY = re.compile(rb"(\d+) \d+ (.*)")
 # How long a round lasts, in seconds; how many lines a client sends at once.
 ROUND_SECONDS, BURSTS = (0.3, 1.0), (1, 3)
 
@@ -40,8 +39,8 @@ def stands(entries, version, text):
     """Whether there is such a version, with this text if it was told."""
     if version > len(entries):
         return False
-    number, what = ENTRY.fullmatch(entries[version - 1]).groups()
-    return int(number) == version and (text is None or re.fullmatch(rb"say #\d+ " + re.escape(text), what) is not None)
+    number, _, kind, *rest = entries[version - 1].split(b" ", 4)
+    return int(number) == version and (text is None or (kind, rest[1:]) == (b"say", [text]))
 
 
 class Player(threading.Thread):

@@ -11,9 +11,9 @@ import tempfile
 from harness.parts import Skipped, part
 from harness.programs import TOP
 
-# Those by which any program can be tried, and those for files.
+# Those by which any program can be tried, call by call; and those for what only a server does.
 LIBRARIES = ("refuse", "fail_ends", "fail_threads")
-FILE_LIBRARIES = ("fail_files", "note_syncs")
+SERVER_LIBRARIES = ("fail_files", "note_syncs", "fail_accept")
 COMPILERS = ("cc", "gcc", "clang")
 
 
@@ -47,7 +47,7 @@ def library(name):
 
 @part("preload", "the libraries that make calls fail are compiled without a warning")
 def preload(count):
-    for name in (*LIBRARIES, *FILE_LIBRARIES):
+    for name in (*LIBRARIES, *SERVER_LIBRARIES):
         try:
             count(f"{name}.c", bool(library(name)))
         except NotCompiled as error:

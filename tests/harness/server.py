@@ -1,6 +1,7 @@
 """A server on a free port of this machine, and its clients. Nothing here waits longer than SECONDS for one line."""
 import os
 import socket
+import struct
 import subprocess
 import tempfile
 
@@ -10,11 +11,11 @@ SECONDS = 10
 
 class Server:
     """`PROGRAM listen WORD..` on a free port, which is its `port`; None where it ended before it said so. With a
-    console it is typed at.
+    console it is typed at. Its errors go to a file, unless it is said where else.
     """
 
-    def __init__(self, program, words=(), environment=None, console=False, **how):
-        self.errors = tempfile.TemporaryFile()
+    def __init__(self, program, words=(), environment=None, console=False, errors=None, **how):
+        self.errors = errors or tempfile.TemporaryFile()
         command = [program, "listen", "--port", "0", "--address", HOST, *words, *["--console"] * console]
         how |= {"stdin": subprocess.PIPE if console else subprocess.DEVNULL}
         how |= {"stdout": subprocess.PIPE, "stderr": self.errors, "bufsize": 0}
@@ -98,4 +99,13 @@ class Client:
         return some
 
     def close(self):
+        self.socket.close()
+
+    def close_half(self):
+        """Sends no more."""
+        self.socket.shutdown(socket.SHUT_WR)
+
+    def reset(self):
+        """Gives the connection up without a word to the other side but a reset."""
+        self.socket.setsockopt(socket.SOL_SOCKET, socket.SO_LINGER, struct.pack("ii", 1, 0))
         self.socket.close()

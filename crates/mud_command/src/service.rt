@@ -35,8 +35,14 @@ pub struct Listening<'a> {
     pub port: u16,
     /// After how many sessions it ends, up to 65,536; 0: it does not.
     pub total: u32,
-    /// After how many seconds without a byte a session ends; 0: it does not.
+    /// Whether only sessions count for that which became a player's.
+    pub count_players: bool,
+    /// How many sessions of one address there may be at once, up to 64; 0: as many as there are places.
+    pub per_address: u32,
+    /// After how many seconds without a line a session ends; 0: it does not.
     pub idle: u32,
+    /// After how many seconds a session ends that is nobody's player; 0: it does not.
+    pub unnamed: u32,
     /// The file of the history that it goes on from, if there is one.
     pub load: Option<&'a str>,
     /// The file of its journal, if it keeps one.
@@ -101,7 +107,10 @@ fn listening_in<'a>(listen: &ArgMatches<'a>) -> Option<Listening<'a>>
         address: listen.get_str("address")?,
         port: listen.get_one::<u16>("port")?,
         total,
+        count_players: listen.get_flag("count-players"),
+        per_address: listen.get_one::<u32>("per-address")?,
         idle: listen.get_one::<u32>("idle")?,
+        unnamed: listen.get_one::<u32>("unnamed")?,
         load: listen.get_str("load"),
         journal: listen.get_str("journal"),
         console: listen.get_flag("console"),
@@ -135,7 +144,10 @@ fn listen<'a>(alloc: Global) -> Result<Command<'a>, AllocError> {
         .arg(port(alloc))?
         .arg(address(alloc))?
         .arg(total(alloc))?
+        .arg(count_players(alloc))?
+        .arg(per_address(alloc))?
         .arg(idle(alloc))?
+        .arg(unnamed(alloc))?
         .arg(load(alloc))?
         .arg(journal(alloc))?
         .arg(console(alloc))?
@@ -166,12 +178,31 @@ fn total<'a>(alloc: Global) -> Arg<'a> {
     )
 }
 
+fn count_players<'a>(alloc: Global) -> Arg<'a> {
+    Arg::new(alloc, "count-players")
+        .long("count-players")
+        .action(ArgAction::SetTrue)
+        .help("Only sessions count for --total that became a player's")
+}
+
+fn per_address<'a>(alloc: Global) -> Arg<'a> {
+    number(alloc, "per-address", 0, 64).default_value("0").help(
+        "How many sessions of one address there may be at once; 0: as many as there are places",
+    )
+}
+
 fn idle<'a>(alloc: Global) -> Arg<'a> {
     number(alloc, "idle", 0, 4_294_967_295)
         .default_value("0")
         .help(
-            "After how many seconds without a byte from its player a session ends; 0: it does not",
+            "After how many seconds without a line from its player a session ends; 0: it does not",
         )
+}
+
+fn unnamed<'a>(alloc: Global) -> Arg<'a> {
+    number(alloc, "unnamed", 0, 4_294_967_295)
+        .default_value("0")
+        .help("After how many seconds a session ends that is nobody's player; 0: it does not")
 }
 
 fn journal<'a>(alloc: Global) -> Arg<'a> {

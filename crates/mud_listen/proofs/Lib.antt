@@ -1,3 +1,4 @@
 mod Keeping
 mod Written
+mod Naming
 mod Crosses

@@ -106,3 +106,12 @@ pub write_fault : (capacity : ℕ) (loaded : List Accepted) (old new : Writer) (
 write_fault capacity loaded old new fault (inl is) = subst (IsListenFault capacity loaded old new) (sym is) tt
 write_fault capacity loaded old new fault (inr (is, failed)) =
     subst (IsListenFault capacity loaded old new) (sym is) failed
+
+-- all was written, which is a part
+pub whole_written : (limits : Limits) (port : ℕ) (loaded history : List Accepted)
+    (held mid now_held : Option (List ℕ)) → MayEnd limits loaded history → Appends held mid (listening_line port)
+    → Appends mid now_held (written_text history) → SettlesInPart limits loaded held now_held
+whole_written limits port loaded history held mid now_held ends one two =
+    let text = written_text history in
+    part_written limits port (length text) loaded history held mid now_held ends one
+    (subst (Appends mid now_held) (sym (take_all (length text) text (omega arith))) two)

@@ -1,6 +1,6 @@
 //! How the sessions end once no connection is taken any more.
 
-use crate::house::House;
+use crate::house::{Ending, House};
 use crate::kind::Kind;
 use crate::rest::rest;
 use crate::stop::StopSign;
@@ -19,34 +19,32 @@ pub(crate) fn see_out<H, D, B, S, K: Kind<H, D, B, S>, R: Wait>(
     house: &House<H, D, B>,
     stop: Option<&StopSign>,
 ) {
-    house.take_no_more();
     if stop.is_none() && house.gate.is_open() {
         return;
     }
-    if wait_for_ending::<H, D, B, S, K, R>(rt, house, stop) {
-        shut_late::<H, D, B, S, K, R>(rt, house);
+    if let Some(ending) = wait_for_ending::<H, D, B, S, K, R>(rt, house, stop) {
+        shut_late::<H, D, B, S, K, R>(rt, house, ending);
     }
 }
 
-// Waits until no session is left, or those that are left are to end; whether they are.
+// Waits until no session is left, or those that are left are to end; why they are, if so.
 fn wait_for_ending<H, D, B, S, K: Kind<H, D, B, S>, R: Wait>(
     rt: &R,
     house: &House<H, D, B>,
     stop: Option<&StopSign>,
-) -> bool {
+) -> Option<Ending> {
     for _ in rt.forever() {
         if let Some(sign) = stop
             && sign.is_set()
         {
             house.stop();
             K::wake_all(rt, house);
-            return true;
         }
-        if house.gate.has_failed(rt) {
-            return true;
+        if let Some(ending) = house.ending(rt) {
+            return Some(ending);
         }
         if K::is_empty(rt, house) {
-            return false;
+            return None;
         }
         rest(rt, LOOK_MILLISECONDS);
     }
@@ -55,12 +53,16 @@ fn wait_for_ending<H, D, B, S, K: Kind<H, D, B, S>, R: Wait>(
 
 // Waits a while until no session is left, and then shuts the sockets of those that are: that ends what their threads
 // read or write there.
-fn shut_late<H, D, B, S, K: Kind<H, D, B, S>, R: Wait>(rt: &R, house: &House<H, D, B>) {
+fn shut_late<H, D, B, S, K: Kind<H, D, B, S>, R: Wait>(
+    rt: &R,
+    house: &House<H, D, B>,
+    ending: Ending,
+) {
     for _ in 0..LAST_LOOKS {
         if K::is_empty(rt, house) {
             return;
         }
         rest(rt, LOOK_MILLISECONDS);
     }
-    K::shut_all(rt, house);
+    K::shut_all(rt, house, ending);
 }

@@ -1,28 +1,27 @@
 //! A connection, and the two threads that share it.
 
+ghost use Rattle.std.specs.Prelude.{◌≤◌, length, IfOk};
+
 use crate::house::{Bell, Bells, Ending, House, Places};
 use crate::kind::Kind;
+use crate::parting::Parting;
+use crate::patience::{Patience, now};
+use crate::place::NoPlace;
 use crate::rest::rest;
-use crate::talk::Talk;
+use crate::talk::{Sayings, Talk};
+use crate::wire::Wire;
 use crossbeam_utils::sync::Parker;
 use log::{Log, info};
 use mud_hall::{Hall, HallName};
-use mud_journal::{Gate, Held};
+use mud_journal::Held;
 use mud_session::Session;
 use std::alloc::Global;
 use std::io::{ErrorKind, Read, Write};
 use std::marker::PhantomData;
-use std::net::{Ipv4Addr, Shutdown, SocketAddr, TcpStream};
+use std::net::{IpAddr, Shutdown, TcpStream};
 use std::sync::{Arc, Mutex, Wait};
 use std::thread::Threads;
-use std::time::Duration;
-
-/// The socket of a connection, and whether the other side was told why all sessions end.
-#[derive(Drop)]
-pub(crate) struct Wire {
-    stream: TcpStream,
-    has_told_ending: Mutex<bool>,
-}
+use std::time::Clock;
 
 /// A connection: its wire and its session. Its reader thread and its notice thread share it.
 #[derive(Drop)]
@@ -33,58 +32,37 @@ pub(crate) struct Connection<S> {
 
 const BUFFER_LEN: usize = 4096;
 
-// How long it is tried to say why all sessions end.
-const ENDING_SECONDS: u64 = 1;
-
 // How long a notice thread sleeps between two looks at what others did.
 const REST_MILLISECONDS: u64 = 5;
-
-impl Wire {
-    /// The wire over a socket.
-    pub(crate) fn new(stream: TcpStream) -> Wire {
-        Wire {
-            stream,
-            has_told_ending: Mutex::new(false),
-        }
-    }
-
-    // Sends all of a text, once what it may name is synced; whether it was taken.
-    fn send<R: Wait>(&self, rt: &R, gate: &Gate, text: Held) -> bool {
-        if text.is_empty() {
-            return true;
-        }
-        let mut stream = &self.stream;
-        match gate.wait_for(rt, text.version()) {
-            Some(pass) => stream.write_all(text.open(&pass).as_slice()).is_ok(),
-            None => {
-                self.tell_ending(rt, Ending::JournalFault);
-                false
-            }
-        }
-    }
-
-    // Says once why all sessions end, where that is taken soon. Who comes second waits until it was said.
-    fn tell_ending<R: Wait>(&self, rt: &R, ending: Ending) {
-        let mut has_told = self.has_told_ending.lock(rt);
-        if *has_told {
-            return;
-        }
-        *has_told = true;
-        let mut stream = &self.stream;
-        let _ = stream.set_write_timeout(Some(Duration::from_secs(ENDING_SECONDS)));
-        let _ = stream.write_all(ending.line().as_bytes());
-    }
-
-    /// Shuts the socket, which ends what another thread reads or writes there.
-    pub(crate) fn shut(&self) {
-        let _ = self.stream.shutdown(Shutdown::Both);
-    }
-}
 
 impl<S> Connection<S> {
     /// A connection with this session.
     pub(crate) fn new(wire: Arc<Wire>, shared: S) -> Connection<S> {
         Connection { wire, shared }
+    }
+
+    // Reads what comes next, and waits no longer than the patience is; how many bytes came. What ends the session is
+    // the end of the other side, too.
+    fn read<C: Clock>(
+        &self,
+        clock: &C,
+        patience: &Patience,
+        buffer: &mut [u8],
+    ) -> Result<usize, Parting>
+        ensures { IfOk result (λ count. count ≤ length buffer.old) }
+    {
+        let mut stream = self.wire.stream();
+        let wait = patience.wait(now(clock))?;
+        if patience.is_limited() && stream.set_read_timeout(wait).is_err() {
+            return Err(Parting::Left);
+        }
+        match stream.read(buffer) {
+            Ok(0) => Err(Parting::Left),
+            Ok(count) => Ok(count),
+            Err(error) if error.kind() == ErrorKind::Interrupted => Ok(0),
+            Err(error) if error.kind() == ErrorKind::WouldBlock => Ok(0),
+            Err(_) => Err(Parting::Left),
+        }
     }
 }
 
@@ -95,77 +73,140 @@ pub(crate) struct Shared<J: HallName> {
     talk: Mutex<Option<Talk<J>>>,
 }
 
+// Whether a byte ends a line.
+fn ends_line(byte: &u8) -> bool {
+    matches!(*byte, b'\r' | b'\n')
+}
+
+// How many entries are synced, as far as sessions count.
+fn synced<R: Wait, H, D, B>(rt: &R, house: &House<H, D, B>) -> u32 {
+    u32::try_from(house.gate.synced(rt)).unwrap_or(u32::MAX)
+}
+
 impl<J: HallName> Connection<Shared<J>> {
-    // Gives bytes to the session, asks for the sync of a change that was accepted, and sends what the session says once
-    // what it may name is synced; whether the session goes on. It asks first: to send may wait for the other side.
-    fn serve<R: Threads + Wait + Sync>(
+    // Sends what the session says once what it may name is synced; whether the session goes on.
+    fn send<R: Wait, C: Clock>(
         &self,
         rt: &R,
+        clock: &C,
         house: &House<Hall<J>, Places<J>, Bells>,
-        at: usize,
-        bytes: &[u8],
+        text: Held<Sayings>,
+        parting: Option<Parting>,
     ) -> bool {
-        let mut guard = self.shared.talk.lock(rt);
-        let Some(talk) = guard.take() else {
+        let is_taken = self.wire.send(rt, clock, &house.gate, text);
+        match parting {
+            Some(parting) => {
+                self.wire.part(rt, parting);
+                false
+            }
+            None => is_taken,
+        }
+    }
+
+    // Has the session, under its lock, look for what others did up to the `most`-th entry, and sends what it says;
+    // whether it goes on. The hall's lock isn't taken for it, however much there is.
+    fn catch_up<R: Wait, C: Clock>(
+        &self,
+        rt: &R,
+        clock: &C,
+        house: &House<Hall<J>, Places<J>, Bells>,
+        most: u32,
+        talk: &mut Option<Talk<J>>,
+    ) -> bool {
+        let Some(before) = talk.take() else {
             return false;
         };
-        let step = talk.feed(rt, &house.hall, house.workers, bytes);
-        *guard = Some(step.talk);
-        if step.has_changed {
-            house.tell_change(rt, at, step.text.version());
-        }
-        self.wire.send(rt, &house.gate, step.text) && step.goes_on
+        let step = before.nudge(&house.hall, house.limits.workers, most);
+        *talk = Some(step.talk);
+        self.send(rt, clock, house, step.text, step.parting)
     }
 
     // Has the session look for what others did, as far as it is synced, and sends what it says; whether the session
     // goes on. How far that is, is asked first: so nothing but the other side is waited for under the session's lock.
-    fn nudge<R: Wait>(&self, rt: &R, house: &House<Hall<J>, Places<J>, Bells>) -> bool {
-        let most = u32::try_from(house.gate.synced(rt)).unwrap_or(u32::MAX);
+    fn nudge<R: Wait, C: Clock>(
+        &self,
+        rt: &R,
+        clock: &C,
+        house: &House<Hall<J>, Places<J>, Bells>,
+    ) -> bool {
+        let most = synced(rt, house);
         let mut guard = self.shared.talk.lock(rt);
+        self.catch_up(rt, clock, house, most, &mut guard)
+    }
+
+    // Gives bytes to the session, which has caught up with the others before, asks for the sync of a change that was
+    // accepted, and sends what the session says once what it may name is synced; whether the session goes on. It asks
+    // first: to send may wait for the other side.
+    fn serve<R: Threads + Wait + Sync, C: Clock>(
+        &self,
+        rt: &R,
+        clock: &C,
+        house: &House<Hall<J>, Places<J>, Bells>,
+        at: usize,
+        patience: &mut Patience,
+        bytes: &[u8],
+    ) -> bool {
+        let most = synced(rt, house);
+        let mut guard = self.shared.talk.lock(rt);
+        if !self.catch_up(rt, clock, house, most, &mut guard) {
+            return false;
+        }
         let Some(talk) = guard.take() else {
             return false;
         };
-        let step = talk.nudge(&house.hall, house.workers, most);
+        let step = talk.feed(rt, &house.hall, house.limits.workers, bytes);
         *guard = Some(step.talk);
-        self.wire.send(rt, &house.gate, step.text) && step.goes_on
+        if step.has_changed {
+            house.tell_change(rt, at, step.text.version());
+            if patience.name() {
+                house.count_player();
+            }
+        }
+        self.send(rt, clock, house, step.text, step.parting)
     }
 
     // Gives the session each line that is in a piece of what comes, and sends what it is answered before the next is
     // looked at: so no more is kept than the answer to one line. Whether the session goes on.
-    fn serve_lines<R: Threads + Wait + Sync>(
+    fn serve_lines<R: Threads + Wait + Sync, C: Clock>(
         &self,
         rt: &R,
+        clock: &C,
         house: &House<Hall<J>, Places<J>, Bells>,
         at: usize,
+        patience: &mut Patience,
         bytes: &[u8],
     ) -> bool {
-        for line in bytes.split_inclusive(|byte| matches!(*byte, b'\r' | b'\n')) {
-            if !self.serve(rt, house, at, line) {
+        for line in bytes.split_inclusive(ends_line) {
+            if !self.serve(rt, clock, house, at, patience, line) {
                 return false;
+            }
+            if line.last().is_some_and(ends_line) {
+                patience.hear(now(clock));
             }
         }
         true
     }
 
-    // Gives the session all that comes, up to the end of either.
-    fn converse<R: Threads + Wait + Sync>(
+    // Gives the session all that comes, up to the end of either; what ends it.
+    fn converse<R: Threads + Wait + Sync, C: Clock>(
         &self,
         rt: &R,
+        clock: &C,
         house: &House<Hall<J>, Places<J>, Bells>,
         at: usize,
-    ) {
+    ) -> Parting {
         let mut buffer = [0u8; BUFFER_LEN];
+        let mut patience = Patience::new(&house.limits, now(clock));
         for _ in rt.forever() {
-            let mut stream = &self.wire.stream;
-            let count = match stream.read(&mut buffer) {
+            let count = match self.read(clock, &patience, &mut buffer) {
                 Ok(count) => count,
-                Err(error) if error.kind() == ErrorKind::Interrupted => continue,
-                Err(_) => return,
+                Err(parting) => return parting,
             };
-            if count == 0 || !self.serve_lines(rt, house, at, &buffer[..count]) {
-                return;
+            if !self.serve_lines(rt, clock, house, at, &mut patience, &buffer[..count]) {
+                return Parting::Left;
             }
         }
+        unreachable!()
     }
 }
 
@@ -176,8 +217,12 @@ pub(crate) struct OfHall<J: HallName> {
 }
 
 impl<J: HallName> Kind<Hall<J>, Places<J>, Bells, Shared<J>> for OfHall<J> {
-    fn take_place<R: Wait>(rt: &R, house: &House<Hall<J>, Places<J>, Bells>) -> Option<usize> {
-        house.take_place(rt)
+    fn take_place<R: Wait>(
+        rt: &R,
+        house: &House<Hall<J>, Places<J>, Bells>,
+        address: IpAddr,
+    ) -> Result<usize, NoPlace> {
+        house.take_place(rt, address)
     }
 
     fn silent() -> Shared<J> {
@@ -197,35 +242,37 @@ impl<J: HallName> Kind<Hall<J>, Places<J>, Bells, Shared<J>> for OfHall<J> {
         connection: &Connection<Shared<J>>,
         at: usize,
     ) -> Option<u32> {
-        let session = Session::new(alloc, true).ok()?;
+        let Ok(session) = Session::new(alloc, true) else {
+            return None;
+        };
         let desk = house.desk(rt, at).ok()?;
         let number = desk.number();
         *connection.shared.talk.lock(rt) = Some(Talk::new(session, desk));
         Some(number)
     }
 
-    // Where the other side's address is gone already, 0.0.0.0:0 stands for it.
-    fn read_all<R: Threads + Wait + Log + Sync>(
+    fn read_all<R: Threads + Wait + Log + Clock + Sync>(
         rt: &R,
         house: &House<Hall<J>, Places<J>, Bells>,
         connection: &Connection<Shared<J>>,
         at: usize,
         number: u32,
     ) {
-        let nobody = SocketAddr::from((Ipv4Addr::UNSPECIFIED, 0));
-        let peer = connection.wire.stream.peer_addr().unwrap_or(nobody);
+        let peer = connection.wire.peer();
         info!(rt; "desk {number}: a session of {peer} begins");
-        if connection.nudge(rt, house) {
-            connection.converse(rt, house, at);
+        if connection.nudge(rt, rt, house) {
+            let parting = connection.converse(rt, rt, house, at);
+            connection.wire.part(rt, parting);
         }
         OfHall::leave(rt, house, connection, at);
-        info!(rt; "desk {number}: the session of {peer} ends");
+        let parting = connection.wire.part(rt, Parting::Left);
+        info!(rt; "desk {number}: the session of {peer} ends: {parting}");
     }
 
     // Where it fails, the shut socket ends the reader thread. Whether all sessions end is looked for before the first
     // sleep, too: who is woken for that is known by then. While it rests, a wake-up is kept and costs whoever wakes it
     // no call: so what is done in a busy world is told together.
-    fn tell_all<R: Wait>(
+    fn tell_all<R: Wait + Clock>(
         rt: &R,
         house: &House<Hall<J>, Places<J>, Bells>,
         connection: &Connection<Shared<J>>,
@@ -239,7 +286,7 @@ impl<J: HallName> Kind<Hall<J>, Places<J>, Bells, Shared<J>> for OfHall<J> {
                 connection.wire.tell_ending(rt, ending);
                 break;
             }
-            if !connection.nudge(rt, house) {
+            if !connection.nudge(rt, rt, house) {
                 break;
             }
             rest(rt, REST_MILLISECONDS);
@@ -274,14 +321,14 @@ impl<J: HallName> Kind<Hall<J>, Places<J>, Bells, Shared<J>> for OfHall<J> {
         house.wake_all(rt);
     }
 
-    fn shut_all<R: Wait>(rt: &R, house: &House<Hall<J>, Places<J>, Bells>) {
-        house.shut_all(rt);
+    fn shut_all<R: Wait>(rt: &R, house: &House<Hall<J>, Places<J>, Bells>, ending: Ending) {
+        house.shut_all(rt, ending);
     }
 }
 
 /// Refuses a connection for which there is no place.
-pub(crate) fn refuse(stream: TcpStream) {
+pub(crate) fn refuse(stream: TcpStream, no_place: NoPlace) {
     let mut stream = stream;
-    let _ = stream.write_all(b"(server full)\r\n");
+    let _ = stream.write_all(no_place.line().as_bytes());
     let _ = stream.shutdown(Shutdown::Both);
 }

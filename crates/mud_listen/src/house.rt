@@ -2,13 +2,16 @@
 
 ghost use Rattle.std.specs.Prelude.{◌≡◌, ◌≤◌, IfOk, length};
 
-use crate::connection::Wire;
-use crate::place::Place;
+use crate::limits::Limits;
+use crate::parting::Parting;
+use crate::place::{NoPlace, Place};
+use crate::wire::Wire;
 use crossbeam_utils::sync::Unparker;
 use mud_hall::{Desk, Fault, Hall, HallName};
 use mud_journal::Gate;
 use std::alloc::{AllocError, Global};
-use std::sync::atomic::{AtomicBool, Ordering};
+use std::net::IpAddr;
+use std::sync::atomic::{AtomicBool, AtomicU32, Ordering};
 use std::sync::{Arc, Mutex, Wait};
 
 /// Places for sessions. Each has a lock of its own, under which nothing else is locked.
@@ -39,18 +42,18 @@ pub(crate) enum Ending {
     JournalFault,
 }
 
-/// A hall, the places for its sessions, their bells, how many workers answer a question, how far the journal is synced,
-/// and whether it is to end.
+/// A hall, the places for its sessions, their bells, what the server keeps to, how far the journal is synced, how many
+/// sessions became a player's, and whether all are to end.
 #[derive(Drop)]
 pub(crate) struct House<H, D, B> {
     pub(crate) hall: H,
     places: D,
     bells: B,
-    pub(crate) workers: u32,
+    pub(crate) limits: Limits,
     pub(crate) gate: Gate,
-    takes_no_more: AtomicBool,
+    players: AtomicU32,
     stops: AtomicBool,
-    ghost few: { workers ≤ 8 },
+    ghost few: { limits.workers ≤ 8 },
 }
 
 // This many free places.
@@ -84,14 +87,14 @@ impl Ending {
 }
 
 impl<H, D, B> House<H, D, B> {
-    /// No connection is taken any more.
-    pub(crate) fn take_no_more(&self) {
-        self.takes_no_more.store(true, Ordering::SeqCst);
+    /// A session became a player's.
+    pub(crate) fn count_player(&self) {
+        self.players.fetch_add(1, Ordering::SeqCst);
     }
 
-    /// Whether no connection is taken any more.
-    pub(crate) fn takes_no_more(&self) -> bool {
-        self.takes_no_more.load(Ordering::SeqCst)
+    /// How many sessions became a player's; after 4,294,967,295 it begins anew.
+    pub(crate) fn players(&self) -> u32 {
+        self.players.load(Ordering::SeqCst)
     }
 
     /// All sessions are to end, since the server does.
@@ -112,37 +115,52 @@ impl<H, D, B> House<H, D, B> {
 }
 
 impl<J: HallName> House<Hall<J>, Places<J>, Bells> {
-    /// The hall, as many free places as there may be sessions at once, how many workers answer a question, and how far
-    /// the journal is synced.
+    /// The hall, as many free places as there may be sessions at once, and how far the journal is synced.
     pub(crate) fn new(
         alloc: Global,
         hall: Hall<J>,
-        sessions: u32,
-        workers: u32,
+        limits: Limits,
         gate: Gate,
     ) -> Result<House<Hall<J>, Places<J>, Bells>, AllocError>
-        requires { workers ≤ 8 }
-        ensures { IfOk result (λ house. length house.places.list.items ≡ sessions) }
+        requires { limits.workers ≤ 8 }
+        ensures { IfOk result (λ house. length house.places.list.items ≡ limits.sessions) }
     {
         Ok(House {
             hall,
-            places: free_places(alloc, sessions)?,
-            bells: silent_bells(alloc, sessions)?,
-            workers,
+            places: free_places(alloc, limits.sessions)?,
+            bells: silent_bells(alloc, limits.sessions)?,
+            limits,
             gate,
-            takes_no_more: AtomicBool::new(false),
+            players: AtomicU32::new(0),
             stops: AtomicBool::new(false),
         })
     }
 
-    /// Takes the free place of the lowest number, if there is one.
-    pub(crate) fn take_place<R: Wait>(&self, rt: &R) -> Option<usize> {
+    /// Takes the free place of the lowest number for a session of this address.
+    pub(crate) fn take_place<R: Wait>(&self, rt: &R, address: IpAddr) -> Result<usize, NoPlace> {
+        let most = self.limits.per_address;
+        if 0 < most && most <= self.sessions_of(rt, address) {
+            return Err(NoPlace::TooMany);
+        }
         for (at, place) in self.places.list.iter().enumerate() {
-            if place.lock(rt).take() {
-                return Some(at);
+            let mut place = place.lock(rt);
+            if place.address().is_none() {
+                place.take(address);
+                return Ok(at);
             }
         }
-        None
+        Err(NoPlace::Full)
+    }
+
+    // How many sessions are of this address.
+    fn sessions_of<R: Wait>(&self, rt: &R, address: IpAddr) -> u32 {
+        let mut count = 0u32;
+        for place in &self.places.list {
+            if place.lock(rt).address() == Some(address) {
+                count = count.saturating_add(1);
+            }
+        }
+        count
     }
 
     /// The desk of a place, or a new one where it has none.
@@ -160,7 +178,7 @@ impl<J: HallName> House<Hall<J>, Places<J>, Bells> {
     /// Whether no place is taken.
     pub(crate) fn is_empty<R: Wait>(&self, rt: &R) -> bool {
         for place in &self.places.list {
-            if place.lock(rt).is_taken() {
+            if place.lock(rt).address().is_some() {
                 return false;
             }
         }
@@ -204,10 +222,11 @@ impl<J: HallName> House<Hall<J>, Places<J>, Bells> {
         }
     }
 
-    /// Shuts the sockets of all sessions.
-    pub(crate) fn shut_all<R: Wait>(&self, rt: &R) {
+    /// Shuts the sockets of all sessions, which are to end for this.
+    pub(crate) fn shut_all<R: Wait>(&self, rt: &R, ending: Ending) {
         for bell in &self.bells.list {
             if let Some(bell) = &*bell.lock(rt) {
+                bell.wire.part(rt, Parting::of_all(ending));
                 bell.wire.shut();
             }
         }
@@ -241,9 +260,9 @@ impl<J: HallName> House<Hall<J>, Places<J>, Bells> {
             hall,
             places,
             bells: _,
-            workers: _,
+            limits: _,
             gate: _,
-            takes_no_more: _,
+            players: _,
             stops: _,
         } = self;
         let mut desks = Vec::new(alloc);

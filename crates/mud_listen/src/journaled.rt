@@ -15,9 +15,8 @@ use crate::house::{Bells, House, Places};
 use crate::kind::Kind;
 use crate::limits::Limits;
 use crate::listen::{port_of, resumed, serve_house};
-use crate::rest::rest;
 use crate::scribe::Scribe;
-use crate::stop::{StopSign, own_address};
+use crate::stop::StopSign;
 use crate::writing::{write_entries, write_port};
 use log::Log;
 use mud_chron::Entry;
@@ -27,13 +26,11 @@ use mud_journal::{Disk, Found, Gate, Journal, JournalFault};
 use std::alloc::{AllocError, Global};
 use std::io::Write;
 use std::marker::Brand;
-use std::net::{Net, TcpListener, TcpStream};
+use std::net::TcpListener;
 use std::sync::Wait;
 use std::thread;
 use std::thread::{JoinHandle, Scope, Threads};
-
-// How long the thread that writes the journal waits between two tries to end an `accept`.
-const CALL_MILLISECONDS: u64 = 50;
+use std::time::Clock;
 
 // Begins the thread that serves the connections; it tells whether all were served that were to be. At its end nobody
 // asks for more of the journal.
@@ -45,45 +42,33 @@ fn begin_serving<
     B: Sync + 's,
     S: Send + Sync + Drop + 's,
     K: Kind<H, D, B, S> + Send + Sync + 's,
-    R: Threads + Wait + Log + Sync + 's,
+    R: Threads + Wait + Log + Clock + Sync + 's,
 >(
     scope: &Scope<'s, E>,
     rt: &'s R,
     alloc: Global,
     house: &'s House<H, D, B>,
-    listener: &'s TcpListener,
+    listener: TcpListener,
     limits: Limits,
     stop: Option<&'s StopSign>,
 ) -> Option<JoinHandle<bool>> {
     scope
         .spawn(move || {
-            let served = serve_house::<H, D, B, S, K, R>(rt, alloc, house, listener, limits, stop);
+            let is_served = serve_house::<H, D, B, S, K, R>(
+                rt, alloc, house, listener, limits, stop,
+            );
             house.gate.close(rt);
-            served.is_ok()
+            is_served
         })
         .ok()
 }
 
-// Connects to the listener until no connection is taken any more: nothing else ends an `accept`, and a try may fail.
-fn end_accepting<H, D, B, R: Wait + Net>(rt: &R, house: &House<H, D, B>, listener: &TcpListener) {
-    for _ in rt.forever() {
-        if house.takes_no_more() {
-            return;
-        }
-        if let Some(address) = own_address(listener) {
-            let _ = TcpStream::connect(rt, address);
-        }
-        rest(rt, CALL_MILLISECONDS);
-    }
-}
-
 // Writes the journal as it is asked for, until the gate is closed, and wakes the notice threads after each sync. Where
-// it fails, they are woken, too, and so is the thread that takes connections.
+// it fails, they are woken, too; the thread that takes connections looks for that by itself.
 #[tactic(auto, using(crate::proofs::Keeping::prefix_trans))]
-fn write_all<J: HallName, D: Disk + Drop, R: Wait + Net>(
+fn write_all<J: HallName, D: Disk + Drop, R: Wait>(
     rt: &R,
     house: &House<Hall<J>, Places<J>, Bells>,
-    listener: &TcpListener,
     scribe: &mut Scribe<J, D>,
 ) -> Result<(), JournalFault>
     ensures longer { IsPrefix scribe.old.entries scribe.new.entries }
@@ -100,7 +85,6 @@ fn write_all<J: HallName, D: Disk + Drop, R: Wait + Net>(
             Err(fault) => {
                 house.gate.fail(rt);
                 house.wake_all(rt);
-                end_accepting(rt, house, listener);
                 return Err(fault);
             }
         }
@@ -108,25 +92,25 @@ fn write_all<J: HallName, D: Disk + Drop, R: Wait + Net>(
     unreachable!()
 }
 
-// Begins the thread that serves the connections, writes the journal, and waits until that thread has ended. Where the
-// journal has no fault, only the listener's ends it early.
+// Begins the thread that serves the connections, writes the journal, and waits until that thread has ended; the
+// journal, and whether all were served that were to be.
 fn serve_and_write<
     's,
     J: HallName + Send + Sync + 's,
     D: Disk + Drop,
     E,
-    R: Threads + Wait + Net + Log + Sync + 's,
+    R: Threads + Wait + Log + Clock + Sync + 's,
 >(
     scope: &Scope<'s, E>,
     rt: &'s R,
     alloc: Global,
     house: &'s House<Hall<J>, Places<J>, Bells>,
-    listener: &'s TcpListener,
+    listener: TcpListener,
     limits: Limits,
     stop: Option<&'s StopSign>,
     scribe: Scribe<J, D>,
-) -> Result<Scribe<J, D>, ListenFault>
-    ensures longer { IfOk result (λ s. IsPrefix scribe.entries s.entries) }
+) -> Result<(Scribe<J, D>, bool), ListenFault>
+    ensures longer { IfOk result (λ s. IsPrefix scribe.entries s.0.entries) }
     ensures fault { IfErr result (λ f. (capacity : ℕ) (loaded : List Accepted) (old new : Writer)
         → IsListenFault capacity loaded old new f) }
 {
@@ -136,27 +120,27 @@ fn serve_and_write<
         return Err(ListenFault::OutOfMemory);
     };
     let mut scribe = scribe;
-    let written = write_all(rt, house, listener, &mut scribe);
+    let written = write_all(rt, house, &mut scribe);
     let is_served = serving.join(rt);
     written?;
-    if is_served {
-        Ok(scribe)
-    } else {
-        Err(ListenFault::Accept)
-    }
+    Ok((scribe, is_served))
 }
 
 // Serves the connections in other threads, and writes the journal in this one.
-fn serve_journaled<J: HallName + Send + Sync, D: Disk + Drop, R: Threads + Wait + Net + Log + Sync>(
+fn serve_journaled<
+    J: HallName + Send + Sync,
+    D: Disk + Drop,
+    R: Threads + Wait + Log + Clock + Sync,
+>(
     rt: &R,
     alloc: Global,
     house: &House<Hall<J>, Places<J>, Bells>,
-    listener: &TcpListener,
+    listener: TcpListener,
     limits: Limits,
     stop: Option<&StopSign>,
     scribe: Scribe<J, D>,
-) -> Result<Scribe<J, D>, ListenFault>
-    ensures longer { IfOk result (λ s. IsPrefix scribe.entries s.entries) }
+) -> Result<(Scribe<J, D>, bool), ListenFault>
+    ensures longer { IfOk result (λ s. IsPrefix scribe.entries s.0.entries) }
     ensures fault { IfErr result (λ f. (capacity : ℕ) (loaded : List Accepted) (old new : Writer)
         → IsListenFault capacity loaded old new f) }
 {
@@ -165,26 +149,28 @@ fn serve_journaled<J: HallName + Send + Sync, D: Disk + Drop, R: Threads + Wait 
     })
 }
 
-// Whether a server may end well: after this many sessions, or at a sign.
-fn can_end_well(stop: Option<&StopSign>, total: u32) -> bool
+// Whether a server has ended well, of which is known whether all were served that were to be: after this many sessions,
+// or at a sign.
+fn is_well_ended(is_served: bool, stop: Option<&StopSign>, total: u32) -> bool
     ensures { IsTrue result → IfNone stop.entry (0 < total) }
 {
     match stop {
-        Some(_) => true,
-        None => 0 < total,
+        Some(_) => is_served,
+        None => is_served && 0 < total,
     }
 }
 
-// Serves in the hall, which J names, and settles. What the hall began with is in the journal.
-fn serve_all<J: HallName + Send + Sync, D: Disk + Drop, R: Threads + Wait + Net + Log + Sync>(
+// Serves in the hall, which J names, and settles; the history, the journal, and whether all were served that were to
+// be. What the hall began with is in the journal.
+fn serve_all<J: HallName + Send + Sync, D: Disk + Drop, R: Threads + Wait + Log + Clock + Sync>(
     rt: &R,
     alloc: Global,
     hall: NewHall,
-    listener: &TcpListener,
+    listener: TcpListener,
     limits: Limits,
     stop: Option<&StopSign>,
     journal: Journal<D>,
-) -> Result<(Vec<Entry>, Journal<D>), ListenFault>
+) -> Result<(Vec<Entry>, Journal<D>, bool), ListenFault>
     requires cells { hall.cells ≡ J.cells }
     requires loaded { hall.loaded ≡ J.loaded }
     requires workers { limits.workers ≤ 8 }
@@ -195,7 +181,7 @@ fn serve_all<J: HallName + Send + Sync, D: Disk + Drop, R: Threads + Wait + Net 
     ensures ends { IfOk result (λ s. MayEnd limits J.loaded s.0.items) }
     ensures journaled { IfOk result (λ s. Holds (D.kept s.1.disk) s.0.items) }
     ensures limit { IfOk result (λ s. length s.0.items ≤ 65536) }
-    ensures total { OnOk result (IfNone stop.entry (0 < limits.total)) }
+    ensures total { IfOk result (λ s. IsTrue s.2 → IfNone stop.entry (0 < limits.total)) }
     ensures fault { IfErr result (λ f. (capacity : ℕ) (loaded : List Accepted) (old new : Writer)
         → IsListenFault capacity loaded old new f) }
 {
@@ -203,27 +189,28 @@ fn serve_all<J: HallName + Send + Sync, D: Disk + Drop, R: Threads + Wait + Net 
     let reader = hall.reader(rt)?;
     let scribe = Scribe::new(alloc, journal, reader);
     let gate = Gate::new(&scribe.receipt());
-    let house = House::new(alloc, hall, limits.sessions, limits.workers, gate)?;
-    let written = serve_journaled::<J, D, R>(rt, alloc, &house, listener, limits, stop, scribe)?;
-    if !can_end_well(stop, limits.total) {
-        return Err(ListenFault::Accept);
-    }
+    let house = House::new(alloc, hall, limits, gate)?;
+    let (written, is_served) = serve_journaled::<J, D, R>(
+        rt, alloc, &house, listener, limits, stop, scribe,
+    )?;
     let Ok((hall, desks)) = house.into_parts(alloc) else {
         return Err(ListenFault::OutOfMemory);
     };
-    settle_journaled(rt, alloc, limits, hall, desks, written)
+    let (history, journal) = settle_journaled(rt, alloc, limits, hall, desks, written)?;
+    let is_well = is_well_ended(is_served, stop, limits.total);
+    Ok((history, journal, is_well))
 }
 
 // The same in a hall that has no name yet: one call picks it.
-fn serve<D: Disk + Drop, R: Threads + Wait + Net + Log + Sync>(
+fn serve<D: Disk + Drop, R: Threads + Wait + Log + Clock + Sync>(
     rt: &R,
     alloc: Global,
     hall: NewHall,
-    listener: &TcpListener,
+    listener: TcpListener,
     limits: Limits,
     stop: Option<&StopSign>,
     journal: Journal<D>,
-) -> Result<(Vec<Entry>, Journal<D>), ListenFault>
+) -> Result<(Vec<Entry>, Journal<D>, bool), ListenFault>
     requires workers { limits.workers ≤ 8 }
     requires capacity { limits.capacity ≤ 65536 }
     requires holds { Holds (D.kept journal.disk) hall.loaded }
@@ -232,7 +219,7 @@ fn serve<D: Disk + Drop, R: Threads + Wait + Net + Log + Sync>(
     ensures ends { IfOk result (λ s. MayEnd limits hall.loaded s.0.items) }
     ensures journaled { IfOk result (λ s. Holds (D.kept s.1.disk) s.0.items) }
     ensures limit { IfOk result (λ s. length s.0.items ≤ 65536) }
-    ensures total { OnOk result (IfNone stop.entry (0 < limits.total)) }
+    ensures total { IfOk result (λ s. IsTrue s.2 → IfNone stop.entry (0 < limits.total)) }
     ensures fault { IfErr result (λ f. (capacity : ℕ) (loaded : List Accepted) (old new : Writer)
         → IsListenFault capacity loaded old new f) }
 {
@@ -273,10 +260,10 @@ fn begun<D: Disk + Drop>(
 /// last that is synced. With Ok the journal has the whole history that is written.
 ///
 /// `Load` comes before anything is written, also to the journal. After `Journal` all sessions have ended.
-pub fn listen_journaled<D: Disk + Drop, R: Threads + Wait + Net + Log + Sync, W: Write>(
+pub fn listen_journaled<D: Disk + Drop, R: Threads + Wait + Log + Clock + Sync, W: Write>(
     rt: &R,
     alloc: Global,
-    listener: &TcpListener,
+    listener: TcpListener,
     limits: Limits,
     loaded: Vec<Entry>,
     found: Found<D>,
@@ -297,10 +284,14 @@ pub fn listen_journaled<D: Disk + Drop, R: Threads + Wait + Net + Log + Sync, W:
 {
     let more = copies(alloc, &loaded[found.len()..])?;
     let hall = resumed(alloc, limits.capacity, loaded)?;
-    let port = port_of(listener)?;
+    let port = port_of(&listener)?;
     let journal = begun(alloc, found, &more)?;
     write_port(alloc, out, port)?;
-    let (history, journal) = serve(rt, alloc, hall, listener, limits, stop, journal)?;
+    let (history, journal, is_well) = serve(rt, alloc, hall, listener, limits, stop, journal)?;
     write_entries(alloc, out, history.as_slice())?;
-    Ok(journal)
+    if is_well {
+        Ok(journal)
+    } else {
+        Err(ListenFault::Accept)
+    }
 }

@@ -3,19 +3,26 @@
 ghost use Rattle.std.specs.Thread.{IsSync};
 
 use crate::connection::Connection;
-use crate::house::{Bell, House};
+use crate::house::{Bell, Ending, House};
+use crate::place::NoPlace;
 use crossbeam_utils::sync::Parker;
 use log::Log;
 use std::alloc::Global;
+use std::net::IpAddr;
 use std::sync::Wait;
 use std::thread::Threads;
+use std::time::Clock;
 
 /// What the threads of a server do with its hall `H`, the places `D` for its sessions, the bells `B` of their notice
 /// threads, and a talk `S`, the session of one connection. Threads are begun over these four apart: that threads may
 /// share each of them is shown for each by itself.
 pub(crate) trait Kind<H, D, B, S> {
-    /// Takes the free place of the lowest number, if there is one.
-    fn take_place<R: Wait>(rt: &R, house: &House<H, D, B>) -> Option<usize>;
+    /// Takes the free place of the lowest number for a session of this address.
+    fn take_place<R: Wait>(
+        rt: &R,
+        house: &House<H, D, B>,
+        address: IpAddr,
+    ) -> Result<usize, NoPlace>;
 
     /// The talk of a connection whose session has not begun.
     fn silent() -> S;
@@ -35,7 +42,7 @@ pub(crate) trait Kind<H, D, B, S> {
 
     /// The reader thread of the session at a place, at the desk of this number: it sends the greeting, gives the
     /// session all that comes, and brings it down.
-    fn read_all<R: Threads + Wait + Log + Sync>(
+    fn read_all<R: Threads + Wait + Log + Clock + Sync>(
         rt: &R,
         house: &House<H, D, B>,
         connection: &Connection<S>,
@@ -45,7 +52,7 @@ pub(crate) trait Kind<H, D, B, S> {
         requires { IsSync R.row };
 
     /// The notice thread of a session: each time it is woken, the session looks for what others did.
-    fn tell_all<R: Wait>(
+    fn tell_all<R: Wait + Clock>(
         rt: &R,
         house: &House<H, D, B>,
         connection: &Connection<S>,
@@ -64,6 +71,6 @@ pub(crate) trait Kind<H, D, B, S> {
     /// Wakes the notice threads of all sessions.
     fn wake_all<R: Wait>(rt: &R, house: &House<H, D, B>);
 
-    /// Shuts the sockets of all sessions.
-    fn shut_all<R: Wait>(rt: &R, house: &House<H, D, B>);
+    /// Shuts the sockets of all sessions, which are to end for this.
+    fn shut_all<R: Wait>(rt: &R, house: &House<H, D, B>, ending: Ending);
 }

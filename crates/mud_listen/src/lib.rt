@@ -6,9 +6,11 @@
 //!
 //! ```
 //! let listener = TcpListener::bind(&rt, ("127.0.0.1", 4000))?;
-//! let limits = Limits { sessions: 64, total: 2, workers: 0, capacity: 1000, idle: 0 };
+//! let limits = Limits {
+//!     sessions: 64, per_address: 0, total: 2, counts_players: false, workers: 0, capacity: 1000, idle: 0, unnamed: 0,
+//! };
 //! let mut sink = Sink::new(io::writer(&rt));
-//! listen_on(&rt, rt.alloc(), &listener, limits, Vec::new(rt.alloc()), None, &mut sink)?;
+//! listen_on(&rt, rt.alloc(), listener, limits, Vec::new(rt.alloc()), None, &mut sink)?;
 //! ```
 //!
 //! Proved: what is written. With Ok it is the line that names a port, and the text of a history that can be loaded
@@ -17,6 +19,7 @@
 //! is served at all, that a change wakes anybody or that a desk is handed back: tests show it.
 #![tactic(auto)]
 
+mod arrivals;
 mod closing;
 mod connection;
 mod ending;
@@ -26,15 +29,19 @@ mod journaled;
 mod kind;
 mod limits;
 mod listen;
+mod options;
+mod parting;
+mod patience;
 mod place;
 mod rest;
 mod scribe;
 mod stop;
 mod talk;
+mod wire;
 mod writing;
 
 pub use fault::ListenFault;
 pub use journaled::listen_journaled;
 pub use limits::Limits;
 pub use listen::listen_on;
-pub use stop::{StopSign, own_address};
+pub use stop::StopSign;

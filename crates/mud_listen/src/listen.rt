@@ -1,37 +1,36 @@
 //! The server: connections, their threads, and the settlement.
 
 ghost use Rattle.std.specs.Prelude.{◌≡◌, ◌≤◌, ◌<◌, length, true, Err, IfOk, IfErr, OnOk, OnErr};
-ghost use Rattle.std.specs.Prelude.{ℕ, List, IfNone, IsTrue};
+ghost use Rattle.std.specs.Prelude.{ℕ, List, IfNone, IsSome, IsTrue};
 ghost use Rattle.mud_ends.specs.Ends.{Writer};
 ghost use Rattle.mud_chron.specs.Entry.{Accepted};
 ghost use Rattle.mud_listen.specs.Listening.{MayEnd, Settles, SettlesInPart, IsListenFault};
 
+use crate::arrivals::{Arrival, Arrivals};
 use crate::closing::see_out;
-use crate::connection::{Connection, OfHall, Shared, Wire, refuse};
+use crate::connection::{Connection, OfHall, Shared, refuse};
 use crate::ending::settle;
 use crate::fault::ListenFault;
 use crate::house::{Bell, House};
 use crate::kind::Kind;
 use crate::limits::Limits;
 use crate::stop::StopSign;
+use crate::wire::{Wire, set_up};
 use crate::writing::{write_entries, write_port};
 use crossbeam_utils::sync::Parker;
 use log::Log;
 use mud_chron::Entry;
 use mud_ends::Sink;
 use mud_hall::{HallName, LoadFault, NewHall};
-use mud_journal::{Gate, JournalFault};
+use mud_journal::Gate;
 use std::alloc::Global;
-use std::io::{ErrorKind, Write};
+use std::io::Write;
 use std::marker::Brand;
-use std::net::{TcpListener, TcpStream};
+use std::net::{SocketAddr, TcpListener, TcpStream};
 use std::sync::{Arc, Wait};
 use std::thread;
 use std::thread::{Scope, Threads};
-use std::time::Duration;
-
-// After how long a write of which the other side takes nothing ends its session.
-const WRITE_SECONDS: u64 = 60;
+use std::time::Clock;
 
 // What the threads of a new session are given.
 #[derive(Drop)]
@@ -74,7 +73,7 @@ fn open<H, D, B, S: Drop, K: Kind<H, D, B, S>, R: Wait>(
 }
 
 // The reader thread of a session. What the bound says of `R`, a clause of the kind asks: so it is called from here.
-fn read_all<H, D, B, S, K: Kind<H, D, B, S>, R: Threads + Wait + Log + Sync>(
+fn read_all<H, D, B, S, K: Kind<H, D, B, S>, R: Threads + Wait + Log + Clock + Sync>(
     rt: &R,
     house: &House<H, D, B>,
     connection: &Connection<S>,
@@ -93,7 +92,7 @@ fn begin<
     B: Sync + 's,
     S: Send + Sync + Drop + 's,
     K: Kind<H, D, B, S> + Send + Sync + 's,
-    R: Threads + Wait + Log + Sync + 's,
+    R: Threads + Wait + Log + Clock + Sync + 's,
 >(
     scope: &Scope<'s, E>,
     rt: &'s R,
@@ -126,20 +125,7 @@ fn begin<
     true
 }
 
-// Sends each reply at once, and bounds how long a read waits for a byte, where there is a bound, and how long a write
-// waits until one is taken; whether that could be set.
-fn is_set_up(stream: &TcpStream, idle: u32) -> bool {
-    let read = match idle {
-        0 => None,
-        seconds => Some(Duration::from_secs(u64::from(seconds))),
-    };
-    let write = Some(Duration::from_secs(WRITE_SECONDS));
-    stream.set_nodelay(true).is_ok()
-        && stream.set_read_timeout(read).is_ok()
-        && stream.set_write_timeout(write).is_ok()
-}
-
-// Serves a connection, or refuses it where there is no place; whether a session began.
+// Serves a connection, or refuses it where there is no place for it; whether a session began.
 fn welcome<
     's,
     E,
@@ -148,36 +134,59 @@ fn welcome<
     B: Sync + 's,
     S: Send + Sync + Drop + 's,
     K: Kind<H, D, B, S> + Send + Sync + 's,
-    R: Threads + Wait + Log + Sync + 's,
+    R: Threads + Wait + Log + Clock + Sync + 's,
 >(
     scope: &Scope<'s, E>,
     rt: &'s R,
     alloc: Global,
     house: &'s House<H, D, B>,
     stream: TcpStream,
+    peer: SocketAddr,
 ) -> bool {
-    match K::take_place(rt, house) {
-        Some(at) => begin::<E, H, D, B, S, K, R>(scope, rt, alloc, house, at, stream),
-        None => {
-            refuse(stream);
+    if !set_up(&stream) {
+        return false;
+    }
+    match K::take_place(rt, house, peer.ip()) {
+        Ok(at) => begin::<E, H, D, B, S, K, R>(scope, rt, alloc, house, at, stream),
+        Err(no_place) => {
+            refuse(stream, no_place);
             false
         }
     }
 }
 
-// Whether no session may begin any more: the sign is set, or as many have begun as the total says.
-fn is_done(stop: Option<&StopSign>, total: u32, begun: u32) -> bool
+// Whether there is a sign, and it is set.
+fn is_set(stop: Option<&StopSign>) -> bool
+    ensures { IsTrue result → IsSome stop.entry }
+{
+    match stop {
+        Some(sign) => sign.is_set(),
+        None => false,
+    }
+}
+
+// Whether no session may begin any more: the sign is set, or as many count as the total says.
+fn is_done(stop: Option<&StopSign>, total: u32, count: u32) -> bool
     ensures { IsTrue result → IfNone stop.entry (0 < total) }
 {
     match stop {
         Some(sign) if sign.is_set() => true,
-        _ => 0 < total && total <= begun,
+        _ => 0 < total && total <= count,
     }
 }
 
-// Takes connections until no session may begin any more. A connection that the other side gave up before it was taken
-// is none, nor is one that is taken after the sign was set. Where the journal takes no more, the next connection is
-// the last.
+// How many sessions count for the total, of so many that began.
+fn counted<H, D, B>(house: &House<H, D, B>, limits: Limits, begun: u32) -> u32 {
+    if limits.counts_players {
+        house.players()
+    } else {
+        begun
+    }
+}
+
+// Takes connections until no session may begin any more, and closes the listener; whether it came to that. If not, the
+// listener can never give a connection again, or the journal takes no more. A connection that is taken after the sign
+// was set is none.
 fn accept_all<
     's,
     E,
@@ -186,39 +195,33 @@ fn accept_all<
     B: Sync + 's,
     S: Send + Sync + Drop + 's,
     K: Kind<H, D, B, S> + Send + Sync + 's,
-    R: Threads + Wait + Log + Sync + 's,
+    R: Threads + Wait + Log + Clock + Sync + 's,
 >(
     scope: &Scope<'s, E>,
     rt: &'s R,
     alloc: Global,
     house: &'s House<H, D, B>,
-    listener: &TcpListener,
+    arrivals: Arrivals,
     limits: Limits,
     stop: Option<&StopSign>,
-) -> Result<(), ListenFault>
-    ensures ok { OnOk result (IfNone stop.entry (0 < limits.total)) }
-    ensures fault { IfErr result (λ f. (capacity : ℕ) (loaded : List Accepted) (old new : Writer)
-        → IsListenFault capacity loaded old new f) }
+) -> bool
+    ensures { IsTrue result → IfNone stop.entry (0 < limits.total) }
 {
+    let mut arrivals = arrivals;
     let mut begun = 0u32;
     for _ in rt.forever() {
-        if is_done(stop, limits.total, begun) {
-            return Ok(());
+        if is_done(stop, limits.total, counted(house, limits, begun)) {
+            return true;
         }
-        match listener.accept() {
-            Ok(_) if is_done(stop, limits.total, begun) => return Ok(()),
-            Ok(_) if house.gate.has_failed(rt) => {
-                return Err(ListenFault::Journal(JournalFault::Disk));
-            }
-            Ok((stream, _)) => {
-                if is_set_up(&stream, limits.idle)
-                    && welcome::<E, H, D, B, S, K, R>(scope, rt, alloc, house, stream)
-                {
+        match arrivals.next(rt) {
+            Arrival::Never => return false,
+            _ if house.gate.has_failed(rt) => return false,
+            Arrival::Connection(stream, peer) if !is_set(stop) => {
+                if welcome::<E, H, D, B, S, K, R>(scope, rt, alloc, house, stream, peer) {
                     begun = begun.saturating_add(1);
                 }
             }
-            Err(error) if error.kind() == ErrorKind::ConnectionAborted => continue,
-            Err(_) => return Err(ListenFault::Accept),
+            _ => continue,
         }
     }
     unreachable!()
@@ -233,92 +236,98 @@ fn take_and_see_out<
     B: Sync + 's,
     S: Send + Sync + Drop + 's,
     K: Kind<H, D, B, S> + Send + Sync + 's,
-    R: Threads + Wait + Log + Sync + 's,
+    R: Threads + Wait + Log + Clock + Sync + 's,
 >(
     scope: &Scope<'s, E>,
     rt: &'s R,
     alloc: Global,
     house: &'s House<H, D, B>,
-    listener: &TcpListener,
+    arrivals: Arrivals,
     limits: Limits,
     stop: Option<&StopSign>,
-) -> Result<(), ListenFault>
-    ensures ok { OnOk result (IfNone stop.entry (0 < limits.total)) }
-    ensures fault { IfErr result (λ f. (capacity : ℕ) (loaded : List Accepted) (old new : Writer)
-        → IsListenFault capacity loaded old new f) }
+) -> bool
+    ensures { IsTrue result → IfNone stop.entry (0 < limits.total) }
 {
-    let taken = accept_all::<E, H, D, B, S, K, R>(scope, rt, alloc, house, listener, limits, stop);
+    let is_served = accept_all::<E, H, D, B, S, K, R>(
+        scope, rt, alloc, house, arrivals, limits, stop,
+    );
     see_out::<H, D, B, S, K, R>(rt, house, stop);
-    taken
+    is_served
 }
 
-/// Serves the connections, and waits until all sessions have ended.
+/// Serves the connections of a listener, closes it once no session may begin any more, and waits until all sessions
+/// have ended; whether it came to that. If not, the listener can never give a connection again, or the journal takes no
+/// more.
 pub(crate) fn serve_house<
     H: Sync,
     D: Sync,
     B: Sync,
     S: Send + Sync + Drop,
     K: Kind<H, D, B, S> + Send + Sync,
-    R: Threads + Wait + Log + Sync,
+    R: Threads + Wait + Log + Clock + Sync,
 >(
     rt: &R,
     alloc: Global,
     house: &House<H, D, B>,
-    listener: &TcpListener,
+    listener: TcpListener,
     limits: Limits,
     stop: Option<&StopSign>,
-) -> Result<(), ListenFault>
-    ensures ok { OnOk result (IfNone stop.entry (0 < limits.total)) }
-    ensures fault { IfErr result (λ f. (capacity : ℕ) (loaded : List Accepted) (old new : Writer)
-        → IsListenFault capacity loaded old new f) }
+) -> bool
+    ensures { IsTrue result → IfNone stop.entry (0 < limits.total) }
 {
-    thread::scope(thread::scope_env(), rt, |scope| {
-        take_and_see_out::<_, H, D, B, S, K, R>(scope, rt, alloc, house, listener, limits, stop)
+    let Some(arrivals) = Arrivals::new(listener) else {
+        return false;
+    };
+    thread::scope(thread::scope_env(), rt, move |scope| {
+        take_and_see_out::<_, H, D, B, S, K, R>(scope, rt, alloc, house, arrivals, limits, stop)
     })
 }
 
-// Serves in the hall, which J names, and settles.
-fn serve_all<J: HallName + Send + Sync, R: Threads + Wait + Log + Sync>(
+// Serves in the hall, which J names, and settles; the history, and whether all were served that were to be.
+fn serve_all<J: HallName + Send + Sync, R: Threads + Wait + Log + Clock + Sync>(
     rt: &R,
     alloc: Global,
     hall: NewHall,
-    listener: &TcpListener,
+    listener: TcpListener,
     limits: Limits,
     stop: Option<&StopSign>,
-) -> Result<Vec<Entry>, ListenFault>
+) -> Result<(Vec<Entry>, bool), ListenFault>
     requires cells { hall.cells ≡ J.cells }
     requires loaded { hall.loaded ≡ J.loaded }
     requires workers { limits.workers ≤ 8 }
     requires capacity { limits.capacity ≤ 65536 }
-    ensures ends { IfOk result (λ history. MayEnd limits J.loaded history.items) }
-    ensures limit { IfOk result (λ history. length history.items ≤ 65536) }
-    ensures total { OnOk result (IfNone stop.entry (0 < limits.total)) }
+    ensures ends { IfOk result (λ s. MayEnd limits J.loaded s.0.items) }
+    ensures limit { IfOk result (λ s. length s.0.items ≤ 65536) }
+    ensures total { IfOk result (λ s. IsTrue s.1 → IfNone stop.entry (0 < limits.total)) }
     ensures fault { IfErr result (λ f. (capacity : ℕ) (loaded : List Accepted) (old new : Writer)
         → IsListenFault capacity loaded old new f) }
 {
     let hall = hall.named::<J>();
-    let house = House::new(alloc, hall, limits.sessions, limits.workers, Gate::open())?;
-    serve_house::<_, _, _, Shared<J>, OfHall<J>, R>(rt, alloc, &house, listener, limits, stop)?;
+    let house = House::new(alloc, hall, limits, Gate::open())?;
+    let is_served = serve_house::<_, _, _, Shared<J>, OfHall<J>, R>(
+        rt, alloc, &house, listener, limits, stop,
+    );
     let Ok((hall, desks)) = house.into_parts(alloc) else {
         return Err(ListenFault::OutOfMemory);
     };
-    settle(rt, alloc, limits, hall, desks)
+    let history = settle(rt, alloc, limits, hall, desks)?;
+    Ok((history, is_served))
 }
 
 // The same in a hall that has no name yet: one call picks it.
-fn serve<R: Threads + Wait + Log + Sync>(
+fn serve<R: Threads + Wait + Log + Clock + Sync>(
     rt: &R,
     alloc: Global,
     hall: NewHall,
-    listener: &TcpListener,
+    listener: TcpListener,
     limits: Limits,
     stop: Option<&StopSign>,
-) -> Result<Vec<Entry>, ListenFault>
+) -> Result<(Vec<Entry>, bool), ListenFault>
     requires workers { limits.workers ≤ 8 }
     requires capacity { limits.capacity ≤ 65536 }
-    ensures ends { IfOk result (λ history. MayEnd limits hall.loaded history.items) }
-    ensures limit { IfOk result (λ history. length history.items ≤ 65536) }
-    ensures total { OnOk result (IfNone stop.entry (0 < limits.total)) }
+    ensures ends { IfOk result (λ s. MayEnd limits hall.loaded s.0.items) }
+    ensures limit { IfOk result (λ s. length s.0.items ≤ 65536) }
+    ensures total { IfOk result (λ s. IsTrue s.1 → IfNone stop.entry (0 < limits.total)) }
     ensures fault { IfErr result (λ f. (capacity : ℕ) (loaded : List Accepted) (old new : Writer)
         → IsListenFault capacity loaded old new f) }
 {
@@ -355,19 +364,21 @@ pub(crate) fn port_of(listener: &TcpListener) -> Result<u16, ListenFault>
 
 /// Serves the connections of a listener, each by a session of its own at a desk of one hall, which goes on from the
 /// entries that were loaded. First it writes `listening on` and the port. A connection for which there is no place is
-/// told `(server full)` and closed; it counts for no session, nor does one for which memory or threads ran out before
-/// its session begins. Where `limits.total` is over 0, the server ends once that many sessions have begun and all of
-/// them have ended. Once the sign is set and a connection is made, it ends, too: no session begins any more, each is
-/// told `(server stops)`, and its socket is shut, two seconds later at the latest. At its end the server settles the
-/// hall, tries the history as a load would, and writes it in format 2 (docs/HISTORY.md).
+/// told `(server full)`, or `(too many sessions)` where its address has as many as it may have, and closed; it counts
+/// for no session, nor does one for which memory or threads ran out before its session begins. Where `limits.total` is
+/// over 0, the listener is closed once that many sessions have begun, or became a player's where only those count, and
+/// the server ends once all sessions have ended. Once the sign is set, it ends, too: the listener is closed, each
+/// session is told `(server stops)`, and its socket is shut, two seconds later at the latest. At its end the server
+/// settles the hall, tries the history as a load would, and writes it in format 2 (docs/HISTORY.md).
 ///
-/// `Load` comes before anything is written. `Accept` comes where no connection can be taken any more: the sessions
-/// that run end in their own way before it is answered. `Settle` comes where the desks made no history that can be
-/// loaded again.
-pub fn listen_on<R: Threads + Wait + Log + Sync, W: Write>(
+/// `Load` comes before anything is written. `Accept` comes before that, too, where the listener has no port, and else
+/// where it can never give a connection again: the sessions that run end in their own way, and the history is written
+/// before it is answered. Any other fault of an `accept` is logged once, and passed over. `Settle` comes where the
+/// desks made no history that can be loaded again.
+pub fn listen_on<R: Threads + Wait + Log + Clock + Sync, W: Write>(
     rt: &R,
     alloc: Global,
-    listener: &TcpListener,
+    listener: TcpListener,
     limits: Limits,
     loaded: Vec<Entry>,
     stop: Option<&StopSign>,
@@ -383,8 +394,13 @@ pub fn listen_on<R: Threads + Wait + Log + Sync, W: Write>(
     ensures total { OnOk result (IfNone stop.entry (0 < limits.total)) }
 {
     let hall = resumed(alloc, limits.capacity, loaded)?;
-    let port = port_of(listener)?;
+    let port = port_of(&listener)?;
     write_port(alloc, out, port)?;
-    let history = serve(rt, alloc, hall, listener, limits, stop)?;
-    write_entries(alloc, out, history.as_slice())
+    let (history, is_served) = serve(rt, alloc, hall, listener, limits, stop)?;
+    write_entries(alloc, out, history.as_slice())?;
+    if is_served {
+        Ok(())
+    } else {
+        Err(ListenFault::Accept)
+    }
 }

@@ -1,11 +1,31 @@
 //! A place for one session at a time.
 
 use mud_hall::{Desk, HallName};
+use std::net::IpAddr;
 
-/// A place for one session at a time: whether a session has it, and the desk of the last session.
+/// Why there is no place for a connection.
+#[derive(Clone, Copy)]
+pub(crate) enum NoPlace {
+    /// All are taken.
+    Full,
+    /// As many as may be are of its address.
+    TooMany,
+}
+
+impl NoPlace {
+    /// What the connection is told.
+    pub(crate) fn line(self) -> &'static str {
+        match self {
+            NoPlace::Full => "(server full)\r\n",
+            NoPlace::TooMany => "(too many sessions)\r\n",
+        }
+    }
+}
+
+/// A place for one session at a time: the address of the session that has it, and the desk of the last session.
 #[derive(Drop)]
 pub(crate) struct Place<J: HallName> {
-    is_taken: bool,
+    address: Option<IpAddr>,
     desk: Option<Desk<J>>,
 }
 
@@ -13,21 +33,19 @@ impl<J: HallName> Place<J> {
     /// A free place without a desk.
     pub(crate) fn new() -> Place<J> {
         Place {
-            is_taken: false,
+            address: None,
             desk: None,
         }
     }
 
-    /// Takes the place, if it was free.
-    pub(crate) fn take(&mut self) -> bool {
-        let was_free = !self.is_taken;
-        self.is_taken = true;
-        was_free
+    /// A session of this address takes it.
+    pub(crate) fn take(&mut self, address: IpAddr) {
+        self.address = Some(address);
     }
 
-    /// Whether a session has it.
-    pub(crate) fn is_taken(&self) -> bool {
-        self.is_taken
+    /// The address of the session that has it, if one has.
+    pub(crate) fn address(&self) -> Option<IpAddr> {
+        self.address
     }
 
     /// The desk that it keeps, for its session.
@@ -42,7 +60,7 @@ impl<J: HallName> Place<J> {
 
     /// No session has it any more. A desk that it keeps stays.
     pub(crate) fn free(&mut self) {
-        self.is_taken = false;
+        self.address = None;
     }
 
     /// The desk that it keeps, at the end.

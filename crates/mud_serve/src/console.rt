@@ -2,17 +2,11 @@
 
 use mud_listen::StopSign;
 use std::io::{Eprint, ErrorKind, Read};
-use std::net::{Net, SocketAddr, TcpStream};
 use std::rt::Runtime;
-use std::sync::atomic::AtomicU64;
-use std::sync::{Mutex, Wait};
-use std::time::Duration;
+use std::sync::Wait;
 
 // How many bytes are read at once.
 const PIECE_LEN: usize = 512;
-
-// How long it takes from one knock at the listener to the next.
-const KNOCK_MILLISECONDS: u64 = 100;
 
 /// A line as far as it was typed: its first bytes, and how many it has. No line takes more memory than another.
 #[derive(Drop)]
@@ -82,48 +76,8 @@ fn read_all<R: Runtime + Wait>(rt: &R) {
     }
 }
 
-// Sleeps until the next knock: nobody changes the word on which it waits.
-fn rest<R: Wait>(rt: &R) {
-    AtomicU64::new(0).park_timeout(rt, 0, Duration::from_millis(KNOCK_MILLISECONDS));
-}
-
-/// The console of a server: the sign that it sets, and where the server listens, once that is known.
-#[derive(Drop)]
-pub(crate) struct Console {
-    sign: StopSign,
-    listener: Mutex<Option<SocketAddr>>,
-}
-
-impl Console {
-    /// A console at which nothing was typed.
-    pub(crate) fn new() -> Console {
-        Console {
-            sign: StopSign::new(),
-            listener: Mutex::new(None),
-        }
-    }
-
-    /// The sign that it sets.
-    pub(crate) fn sign(&self) -> &StopSign {
-        &self.sign
-    }
-
-    /// The server listens there.
-    pub(crate) fn find<R: Wait>(&self, rt: &R, address: Option<SocketAddr>) {
-        *self.listener.lock(rt) = address;
-    }
-
-    /// Reads the console until the server is to end, and sets the sign. Then it connects to the listener, again and
-    /// again until the program ends: that ends the `accept` in which the server waits.
-    pub(crate) fn watch<R: Runtime + Net<Stream = TcpStream> + Wait>(&self, rt: &R) {
-        read_all(rt);
-        self.sign.set();
-        for _ in rt.forever() {
-            let address = *self.listener.lock(rt);
-            if let Some(address) = address {
-                let _ = TcpStream::connect(rt, address);
-            }
-            rest(rt);
-        }
-    }
+/// Reads the console until the server is to end, and sets the sign.
+pub(crate) fn watch<R: Runtime + Wait>(rt: &R, sign: &StopSign) {
+    read_all(rt);
+    sign.set();
 }

@@ -5,25 +5,22 @@
 #![tactic(auto)]
 
 mod console;
+mod logbook;
 mod serving;
 mod stop;
 
-ghost use Rattle.mud_command.specs.Service.{IsServed};
-
-use crate::console::Console;
+use crate::console::watch;
+use crate::logbook::Logbook;
 use crate::serving::{answer, listen};
 use crate::stop::Stop;
-use log::Log;
-use mud_command::{CommandFault, KIT, Service, service_of, show, words_of};
+use log::{Level, Logged};
+use mud_command::{CommandFault, KIT, Listening, Service, service_of, show, words_of};
+use mud_listen::StopSign;
 use std::alloc::Global;
-use std::fs::File;
 use std::io::{Eprint, Print};
-use std::net::{Net, TcpListener, TcpStream};
 use std::process::ExitCode;
-use std::rt::{Files, Runtime};
 use std::sync::{Arc, Wait};
 use std::thread;
-use std::thread::Threads;
 
 // The block of memory that is freed before all else.
 const FREED_BYTES: usize = 1 << 20;
@@ -37,49 +34,65 @@ fn main(rt: HostRuntime) -> ExitCode {
         Ok(service) => service,
         Err(fault) => return unasked(&rt, fault),
     };
-    if !has_console(service) {
-        return run(&rt, service, None);
-    }
-    let Ok(console) = Arc::new(rt.alloc(), Console::new()) else {
-        return stopped(&rt, Stop::OutOfMemory);
-    };
-    let Ok(theirs) = Arc::try_clone(&console) else {
-        return stopped(&rt, Stop::OutOfMemory);
-    };
-    // Nobody waits for this thread: the program ends while it reads.
-    match thread::spawn(&rt, move || theirs.watch(&rt)) {
-        Ok(_) => run(&rt, service, Some(&console)),
-        Err(_) => stopped(&rt, Stop::OutOfMemory),
-    }
-}
-
-// Whether what is typed may end the service.
-fn has_console(service: Service<'_>) -> bool {
-    match service {
-        Service::Listen(listening) => listening.console,
-        _ => false,
-    }
-}
-
-// Does what was asked for.
-fn run<
-    R: Runtime
-        + AllocGlobal
-        + Threads
-        + Wait
-        + Log
-        + Sync
-        + Net<Listener = TcpListener, Stream = TcpStream>
-        + Files<File = File>,
->(rt: &R, service: Service<'_>, console: Option<&Console>) -> ExitCode
-    requires { IsServed service }
-{
     keep_freed(rt.alloc());
-    let ended = match service {
-        Service::Version => tell_version(rt),
-        Service::Script(limits) => answer(rt, limits),
-        Service::Listen(listening) => listen(rt, listening, console),
+    let listening = match service {
+        Service::Version => return status_of(&rt, tell_version(&rt)),
+        Service::Script(limits) => return status_of(&rt, answer(&rt, limits)),
+        Service::Listen(listening) => listening,
     };
+    let Some(staff) = Staff::new(rt, rt.alloc()) else {
+        return stopped(&rt, Stop::OutOfMemory);
+    };
+    let Staff {
+        book,
+        their_book,
+        sign,
+        their_sign,
+    } = staff;
+    // Nobody waits for these two threads: the program ends while they wait.
+    if thread::spawn(&rt, move || their_book.write_all()).is_err()
+        || listening.console && thread::spawn(&rt, move || watch(&rt, &their_sign)).is_err()
+    {
+        return stopped(&rt, Stop::OutOfMemory);
+    }
+    let logged = Logged::new(rt, Level::Info, &*book);
+    let ended = listen(&logged, listening, sign_for(listening, &sign));
+    book.settle();
+    status_of(&rt, ended)
+}
+
+/// What a server shares with the thread that writes its log, and the one that reads the console.
+#[derive(Drop)]
+struct Staff<R> {
+    book: Arc<Logbook<R>>,
+    their_book: Arc<Logbook<R>>,
+    sign: Arc<StopSign>,
+    their_sign: Arc<StopSign>,
+}
+
+impl<R: AllocGlobal + Eprint + Wait + Drop> Staff<R> {
+    // An empty log and a sign that isn't set, each for two threads; none where memory ran out.
+    fn new(rt: R, alloc: Global) -> Option<Staff<R>> {
+        let book = Arc::new(alloc, Logbook::new(rt)).ok()?;
+        let their_book = Arc::try_clone(&book).ok()?;
+        let sign = Arc::new(alloc, StopSign::new()).ok()?;
+        let their_sign = Arc::try_clone(&sign).ok()?;
+        Some(Staff {
+            book,
+            their_book,
+            sign,
+            their_sign,
+        })
+    }
+}
+
+// The sign that the console sets, where there is a console.
+fn sign_for<'s>(listening: Listening<'_>, sign: &'s StopSign) -> Option<&'s StopSign> {
+    if listening.console { Some(sign) } else { None }
+}
+
+// The status of the program after what was asked for was done, or stopped.
+fn status_of<R: Eprint>(rt: &R, ended: Result<(), Stop>) -> ExitCode {
     match ended {
         Ok(()) => ExitCode::SUCCESS,
         Err(stop) => stopped(rt, stop),

@@ -3,14 +3,13 @@
 ghost use Rattle.std.specs.Prelude.{◌≡◌, ◌≤◌, IfOk, length};
 ghost use Rattle.mud_command.specs.Service.{AreWithin};
 
-use crate::console::Console;
 use crate::stop::Stop;
 use log::Log;
 use mud_chron::Entry;
 use mud_command::{Limits, Listening};
 use mud_ends::{Sink, Source};
 use mud_journal::found;
-use mud_listen::{StopSign, listen_journaled, listen_on, own_address};
+use mud_listen::{StopSign, listen_journaled, listen_on};
 use mud_load::loaded;
 use mud_session::script;
 use std::fs::File;
@@ -20,6 +19,7 @@ use std::net::{Net, TcpListener, TcpStream};
 use std::rt::{Files, Runtime};
 use std::sync::Wait;
 use std::thread::Threads;
+use std::time::Clock;
 
 // The most sessions at once.
 const SESSIONS: u32 = 64;
@@ -104,22 +104,14 @@ fn limits_of(listening: Listening<'_>) -> mud_listen::Limits
 {
     mud_listen::Limits {
         sessions: SESSIONS,
+        per_address: listening.per_address,
         total: listening.total,
+        counts_players: listening.count_players,
         workers: listening.limits.workers,
         capacity: listening.limits.capacity,
         idle: listening.idle,
+        unnamed: listening.unnamed,
     }
-}
-
-// The sign that the console sets, where there is one, which is told where the server listens.
-fn sign_of<'c, R: Wait>(
-    rt: &R,
-    console: Option<&'c Console>,
-    listener: &TcpListener,
-) -> Option<&'c StopSign> {
-    let console = console?;
-    console.find(rt, own_address(listener));
-    Some(console.sign())
 }
 
 /// Serves connections. The files of the journal and of the history are read before the port is taken.
@@ -130,14 +122,15 @@ pub(crate) fn listen<
         + Threads
         + Wait
         + Log
+        + Clock
         + Sync
         + Net<Listener = TcpListener, Stream = TcpStream>,
->(rt: &R, listening: Listening<'_>, console: Option<&Console>) -> Result<(), Stop>
+>(rt: &R, listening: Listening<'_>, sign: Option<&StopSign>) -> Result<(), Stop>
     requires { AreWithin listening.limits }
 {
     match listening.journal {
-        None => keep_nothing(rt, listening, console),
-        Some(name) => keep_journal(rt, listening, console, name),
+        None => keep_nothing(rt, listening, sign),
+        Some(name) => keep_journal(rt, listening, sign, name),
     }
 }
 
@@ -148,19 +141,19 @@ fn keep_nothing<
         + Threads
         + Wait
         + Log
+        + Clock
         + Sync
         + Net<Listener = TcpListener, Stream = TcpStream>,
->(rt: &R, listening: Listening<'_>, console: Option<&Console>) -> Result<(), Stop>
+>(rt: &R, listening: Listening<'_>, sign: Option<&StopSign>) -> Result<(), Stop>
     requires { AreWithin listening.limits }
 {
     let entries = begun(rt, listening.load)?;
     let listener = bound(rt, listening)?;
-    let sign = sign_of(rt, console, &listener);
     let mut sink = Sink::new(io::writer(rt));
     match listen_on(
         rt,
         rt.alloc(),
-        &listener,
+        listener,
         limits_of(listening),
         entries,
         sign,
@@ -179,9 +172,10 @@ fn keep_journal<
         + Threads
         + Wait
         + Log
+        + Clock
         + Sync
         + Net<Listener = TcpListener, Stream = TcpStream>,
->(rt: &R, listening: Listening<'_>, console: Option<&Console>, name: &str) -> Result<(), Stop>
+>(rt: &R, listening: Listening<'_>, sign: Option<&StopSign>, name: &str) -> Result<(), Stop>
     requires { AreWithin listening.limits }
 {
     let (found, had, torn) = match found(rt, name) {
@@ -191,12 +185,11 @@ fn keep_journal<
     tell_torn(rt, torn);
     let entries = begun_after(rt, listening.load, had)?;
     let listener = bound(rt, listening)?;
-    let sign = sign_of(rt, console, &listener);
     let mut sink = Sink::new(io::writer(rt));
     match listen_journaled(
         rt,
         rt.alloc(),
-        &listener,
+        listener,
         limits_of(listening),
         entries,
         found,

@@ -12,6 +12,8 @@ mod hall;
 #[cfg(test)]
 mod histories;
 #[cfg(test)]
+mod journal;
+#[cfg(test)]
 mod listen;
 #[cfg(test)]
 mod rows;

@@ -13,11 +13,11 @@ use std::net::{Ipv4Addr, Net, SocketAddr, TcpListener, TcpStream};
 use std::sync::Wait;
 use std::test::Fail;
 use std::thread::Threads;
-use std::time::Duration;
+use std::time::{Clock, Duration};
 use std::{io, thread};
 
-// A listener on a free port of this machine alone.
-fn bound<R: Net<Listener = TcpListener, Stream = TcpStream>>(
+/// A listener on a free port of this machine alone.
+pub(crate) fn bound<R: Net<Listener = TcpListener, Stream = TcpStream>>(
     rt: &R,
 ) -> io::Result<(TcpListener, SocketAddr)> {
     let listener = TcpListener::bind(rt, SocketAddr::from((Ipv4Addr::LOCALHOST, 0)))?;
@@ -109,8 +109,8 @@ fn seen<R: Net<Listener = TcpListener, Stream = TcpStream> + AllocGlobal>(
     }
 }
 
-// Plays the rows `CLIENT WHAT => LINE` one after the other; the first that goes otherwise, with what was seen.
-fn play<R: Net<Listener = TcpListener, Stream = TcpStream> + AllocGlobal>(
+/// Plays the rows `CLIENT WHAT => LINE` one after the other; the first that goes otherwise, with what was seen.
+pub(crate) fn play<R: Net<Listener = TcpListener, Stream = TcpStream> + AllocGlobal>(
     rt: &R,
     address: SocketAddr,
     rows: &str,
@@ -140,8 +140,8 @@ fn entries(alloc: Global, history: &str) -> Result<Vec<Entry>, Fail> {
     Ok(read_history(alloc, history.as_bytes())?)
 }
 
-// How a server ended.
-fn ended(alloc: Global, served: &Result<(), ListenFault>) -> Result<String, AllocError> {
+/// How a server ended.
+pub(crate) fn ended(alloc: Global, served: &Result<(), ListenFault>) -> Result<String, AllocError> {
     match served {
         Ok(()) => String::from_str(alloc, "done"),
         Err(fault) => format!(in alloc; "{fault}"),
@@ -150,7 +150,13 @@ fn ended(alloc: Global, served: &Result<(), ListenFault>) -> Result<String, Allo
 
 // What the clients see of a server and how it ends, and its port. What it writes is in `out`.
 fn served<
-    R: Net<Listener = TcpListener, Stream = TcpStream> + AllocGlobal + Threads + Wait + Log + Sync,
+    R: Net<Listener = TcpListener, Stream = TcpStream>
+        + AllocGlobal
+        + Threads
+        + Wait
+        + Log
+        + Clock
+        + Sync,
     W: Write + Send,
 >(rt: &R, limits: Limits, history: &str, rows: &str, out: &mut W) -> Result<(String, u16), Fail>
     requires sessions { limits.sessions ≤ 64 }
@@ -168,7 +174,7 @@ fn served<
             requires sessions { limits.sessions ≤ 64 }
             requires workers { limits.workers ≤ 8 }
             requires capacity { (1 ≤ limits.capacity) × (limits.capacity ≤ 65536) }
-        { listen_on(rt, alloc, &listener, limits, loaded, None, &mut sink) },
+        { listen_on(rt, alloc, listener, limits, loaded, None, &mut sink) },
         || play(rt, address, rows),
     );
     let (played, ended) = (played?, ended(alloc, &served)?);
@@ -177,7 +183,13 @@ fn served<
 
 // The same, with what it writes behind the line that names its port.
 fn outcome<
-    R: Net<Listener = TcpListener, Stream = TcpStream> + AllocGlobal + Threads + Wait + Log + Sync,
+    R: Net<Listener = TcpListener, Stream = TcpStream>
+        + AllocGlobal
+        + Threads
+        + Wait
+        + Log
+        + Clock
+        + Sync,
 >(rt: &R, limits: Limits, history: &str, rows: &str) -> Result<String, Fail>
     requires sessions { limits.sessions ≤ 64 }
     requires workers { limits.workers ≤ 8 }
@@ -193,16 +205,21 @@ fn outcome<
     Ok(format!(in alloc; "{served}; {text}")?)
 }
 
-// The limits of a server of so many sessions at once, and so many in all.
-fn limits(sessions: u32, total: u32, capacity: u32) -> Limits
-    ensures { result ≡ record { sessions = sessions; total = total; workers = 0; capacity = capacity; idle = 0 } }
+/// The limits of a server of so many sessions at once, and so many in all.
+pub(crate) fn limits(sessions: u32, total: u32, capacity: u32) -> Limits
+    ensures sessions { result.sessions ≡ sessions }
+    ensures workers { result.workers ≡ 0 }
+    ensures capacity { result.capacity ≡ capacity }
 {
     Limits {
         sessions,
+        per_address: 0,
         total,
+        counts_players: false,
         workers: 0,
         capacity,
         idle: 0,
+        unnamed: 0,
     }
 }
 
@@ -384,44 +401,32 @@ fn a_writer_fails(rt: HostRuntime) -> Result<(), Fail> {
     Ok(())
 }
 
-// No connection can be taken.
-#[test]
-fn a_listener_fails(rt: HostRuntime) -> Result<(), Fail> {
-    let (listener, _) = bound(&rt)?;
-    listener.set_nonblocking(true)?;
-    let mut sink = Sink::new(Vec::new(rt.alloc()));
-    let none = Vec::new(rt.alloc());
-    let served = listen_on(
-        &rt,
-        rt.alloc(),
-        &listener,
-        limits(64, 1, 16),
-        none,
-        None,
-        &mut sink,
-    );
-    assert_eq!(rt; served, Err(ListenFault::Accept));
-    Ok(())
-}
-
-// A server that nobody visits, and that has no total, ends by its sign once somebody knocks.
+// A server that nobody visits, and that has no total, ends by its sign, which another thread sets. It writes the
+// history of the empty world.
 #[test]
 fn a_sign_ends_a_server(rt: HostRuntime) -> Result<(), Fail> {
+    let alloc = rt.alloc();
     let (listener, address) = bound(&rt)?;
     let sign = StopSign::new();
-    sign.set();
-    let _knock = TcpStream::connect(&rt, address)?;
-    let mut sink = Sink::new(Vec::new(rt.alloc()));
-    let none = Vec::new(rt.alloc());
-    let served = listen_on(
+    let mut written = Vec::new(alloc);
+    let mut sink = Sink::new(&mut written);
+    let none = Vec::new(alloc);
+    let (served, ()) = thread::join(
         &rt,
-        rt.alloc(),
-        &listener,
-        limits(64, 0, 16),
-        none,
-        Some(&sign),
-        &mut sink,
+        || listen_on(
+            &rt,
+            alloc,
+            listener,
+            limits(64, 0, 16),
+            none,
+            Some(&sign),
+            &mut sink,
+        ),
+        || sign.set(),
     );
     assert_eq!(rt; served, Ok(()));
+    let port = address.port();
+    let wanted = format!(in alloc; "listening on {port}\nmud history 2\nend 0\n")?;
+    assert_eq!(rt; str::from_utf8(&written)?, wanted.as_str());
     Ok(())
 }

@@ -5,7 +5,7 @@ use Rattle.mud_journal.specs.Disk.{Holds}
 use Rattle.mud_listen.specs.Listening.{IsListenFault}
 use Rattle.mud_listen.proofs.Keeping.{all_loaded}
 use Rattle.mud_listen.proofs.Written.{any_err, end_of, none_written, front_written, line_written, part_written}
-use Rattle.mud_listen.proofs.Written.{write_fault, all_journaled}
+use Rattle.mud_listen.proofs.Written.{write_fault, all_journaled, whole_written}
 use Rattle.mud_listen.proofs.journaled.listen_journaled.Goals as goal
 
 pub returns-in_err-hall-clause-front : goal.returns-in_err-hall-clause-front
@@ -62,12 +62,15 @@ returns-in_err-write_entries-clause-front g c =
     any_err c.from_residual-in_err-write_entries.result
     (part_written _ c.in_ok-port.port front.0 _ _ _ _ _ ends c.in_ok-write_port.ensures.ok front.1)
 
-pub returns-clause-ok : goal.returns-clause-ok
-returns-clause-ok g c =
+pub returns-then-is_well-clause-ok : goal.returns-then-is_well-clause-ok
+returns-then-is_well-clause-ok g c =
     let ends =
     end_of _ _ _ _ _ c.in_ok-hall.ensures.loaded c.as_slice.ensures.value c.in_ok-history.ensures.ends in
     all_journaled _ c.in_ok-port.port _ _ _ _ _ _ ends c.in_ok-write_port.ensures.ok c.in_ok-write_entries.ensures.ok
     (subst (Holds _) (sym c.as_slice.ensures.value) c.in_ok-history.ensures.journaled)
 
-pub returns-clause-total : goal.returns-clause-total
-returns-clause-total g c = c.in_ok-history.ensures.total
+pub returns-clause-front : goal.returns-clause-front
+returns-clause-front g c =
+    let ends =
+    end_of _ _ _ _ _ c.in_ok-hall.ensures.loaded c.as_slice.ensures.value c.in_ok-history.ensures.ends in
+    whole_written _ c.in_ok-port.port _ _ _ _ _ ends c.in_ok-write_port.ensures.ok c.in_ok-write_entries.ensures.ok

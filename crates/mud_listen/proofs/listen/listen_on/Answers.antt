@@ -1,8 +1,7 @@
 use Rattle.std.proofs.Common.{rules}
-use Rattle.std.proofs.lemmas.Result.{on_ok_weaker, on_err_weaker}
 use Rattle.mud_listen.specs.Listening.{IsListenFault}
 use Rattle.mud_listen.proofs.Written.{any_err, end_of, none_written, front_written, line_written}
-use Rattle.mud_listen.proofs.Written.{part_written, all_written}
+use Rattle.mud_listen.proofs.Written.{part_written, all_written, whole_written}
 use Rattle.mud_listen.proofs.listen.listen_on.Goals as goal
 
 pub returns-in_err-hall-clause-front : goal.returns-in_err-hall-clause-front
@@ -36,22 +35,22 @@ returns-in_err-history-clause-front g c =
     any_err c.from_residual-in_err-history.result
     (line_written _ c.in_ok-port.port _ _ _ c.in_ok-write_port.ensures.ok)
 
-pub returns-clause-ok : goal.returns-clause-ok
-returns-clause-ok g c =
+pub returns-in_err-write_entries-clause-front : goal.returns-in_err-write_entries-clause-front
+returns-in_err-write_entries-clause-front g c =
     let ends =
     end_of _ _ _ _ _ c.in_ok-hall.ensures.loaded c.as_slice.ensures.value c.in_ok-history.ensures.ends in
-    on_ok_weaker c.write_entries.result
-    (λ written. all_written _ c.in_ok-port.port _ _ _ _ _ ends c.in_ok-write_port.ensures.ok written)
-    c.write_entries.ensures.ok
+    let front = c.in_err-write_entries.ensures.front in
+    any_err c.from_residual-in_err-write_entries.result
+    (part_written _ c.in_ok-port.port front.0 _ _ _ _ _ ends c.in_ok-write_port.ensures.ok front.1)
+
+pub returns-then-is_served-clause-ok : goal.returns-then-is_served-clause-ok
+returns-then-is_served-clause-ok g c =
+    let ends =
+    end_of _ _ _ _ _ c.in_ok-hall.ensures.loaded c.as_slice.ensures.value c.in_ok-history.ensures.ends in
+    all_written _ c.in_ok-port.port _ _ _ _ _ ends c.in_ok-write_port.ensures.ok c.in_ok-write_entries.ensures.ok
 
 pub returns-clause-front : goal.returns-clause-front
 returns-clause-front g c =
     let ends =
     end_of _ _ _ _ _ c.in_ok-hall.ensures.loaded c.as_slice.ensures.value c.in_ok-history.ensures.ends in
-    on_err_weaker c.write_entries.result
-    (λ written. part_written _ c.in_ok-port.port written.0 _ _ _ _ _ ends c.in_ok-write_port.ensures.ok written.1)
-    c.write_entries.ensures.front
-
-pub returns-clause-total : goal.returns-clause-total
-returns-clause-total g c = on_ok_weaker c.write_entries.result (λ written. c.in_ok-history.ensures.total)
-    c.write_entries.ensures.ok
+    whole_written _ c.in_ok-port.port _ _ _ _ _ ends c.in_ok-write_port.ensures.ok c.in_ok-write_entries.ensures.ok

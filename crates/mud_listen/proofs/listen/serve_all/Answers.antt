@@ -7,22 +7,22 @@ use Rattle.mud_listen.specs.contracts.connection.Shared as Shared
 use Rattle.mud_listen.proofs.Crosses.{shared_send, shared_sync, places_sync}
 use Rattle.mud_listen.proofs.listen.serve_all.Goals as goal
 
-pub serve_house-requires-sync-H : goal.serve_house-requires-sync-H
-serve_house-requires-sync-H g c κs within =
+pub serve_house-is_served-requires-sync-H : goal.serve_house-is_served-requires-sync-H
+serve_house-is_served-requires-sync-H g c κs within =
     record {
       shared = (hall_sync (param 0 g.row.J) g.J.HallName c.type_bounds.send-J c.type_bounds.sync-J).shared;
     }
 
-pub serve_house-requires-sync-D : goal.serve_house-requires-sync-D
-serve_house-requires-sync-D g c κs within =
+pub serve_house-is_served-requires-sync-D : goal.serve_house-is_served-requires-sync-D
+serve_house-is_served-requires-sync-D g c κs within =
     record { shared = (places_sync (param 0 g.row.J) g.J.HallName c.type_bounds.send-J).shared }
 
-pub serve_house-requires-sync-S : goal.serve_house-requires-sync-S
-serve_house-requires-sync-S g c κs within =
+pub serve_house-is_served-requires-sync-S : goal.serve_house-is_served-requires-sync-S
+serve_house-is_served-requires-sync-S g c κs within =
     record { shared = (shared_sync (param 0 g.row.J) g.J.HallName c.type_bounds.send-J).shared }
 
-pub serve_house-requires-send-S : goal.serve_house-requires-send-S
-serve_house-requires-send-S g c κs within =
+pub serve_house-is_served-requires-send-S : goal.serve_house-is_served-requires-send-S
+serve_house-is_served-requires-send-S g c κs within =
     let R = Shared.the_row (param 0 g.row.J) g.J.HallName in
     let sent : IsSend R = shared_send (param 0 g.row.J) g.J.HallName c.type_bounds.send-J in
     record {

@@ -1,0 +1,335 @@
+"""Guests who would hold up a server, and what each gets: who leaves it no descriptor, takes all places, never says who
+he is, sends no line, comes and leaves, reads nothing while much is done, or leaves the log no room. Each row plays one
+of them against the built server.
+"""
+import errno
+import re
+import resource
+import socket
+import subprocess
+import time
+from concurrent.futures import ThreadPoolExecutor
+
+from harness.journal import FIRST, ended
+from harness.parts import part
+from harness.preload import library
+from harness.programs import program
+from harness.server import HOST, Client, Server
+
+GREETING = b"Welcome. Type: connect NAME"
+TOO_MANY = b"(too many sessions)"
+OTHER_HOST = "127.0.0.2"
+NOP = b"\xff\xf1"
+LISTENING_FAULT = b"mud_serve: cannot listen\n"
+NONE_FOR_NOW = b"no connection can be taken for now"
+
+OF_SOME_DESK = rb"mud history 2\n1 (\d+) player #2 \"Ann\"\n2 \1 say #2 hi\nend 2\n"
+
+# How soon what is promised at once has come, and after how many seconds a limit of one second has been noticed.
+SOON, NOTICED = 2, (0.8, 2.5)
+# The descriptors that a server has, and how many who come it can't serve then.
+DESCRIPTORS, WAITING = 24, 40
+# Faults of a call for a connection after which the next may give one, and those after which none can.
+PASSING = [errno.EMFILE, errno.ENFILE, errno.ENOBUFS, errno.ENOMEM, errno.ECONNABORTED, errno.EPROTO, errno.EPERM]
+PASSING += [errno.ENETDOWN, errno.EHOSTUNREACH, errno.ETIMEDOUT, errno.EINTR, errno.EAGAIN, errno.EIO]
+LASTING = [errno.EBADF, errno.EINVAL, errno.ENOTSOCK]
+# How many say something behind the back of one who reads nothing, and how long another's answer may take meanwhile.
+SAID, PIECE, LONGEST_WAIT = 30_000, 500, 0.3
+# How many come and leave while nobody reads the log.
+VISITS = 1_500
+
+
+def listening(*words, **how):
+    return Server(program("mud_serve"), words, console=True, **how)
+
+
+def greeted(port, seconds=10):
+    """A client that has read its greeting."""
+    client = Client(port, seconds)
+    line = client.line()
+    if line != GREETING:
+        raise ConnectionError(f"it is greeted by {line}")
+    return client
+
+
+def named(port, name=b"Ann"):
+    """A client whose session is a player's."""
+    client = greeted(port)
+    client.send(b"connect " + name)
+    answer = client.line()
+    if b"welcome" not in answer:
+        raise ConnectionError(f"it is answered {answer}")
+    return client
+
+
+def from_other_host(port):
+    """A client of another address."""
+    client = Client.__new__(Client)
+    client.socket = socket.create_connection((HOST, port), timeout=10, source_address=(OTHER_HOST, 0))
+    client.kept = b""
+    return client
+
+
+def is_soon(condition, seconds=SOON):
+    """Whether it comes true within seconds."""
+    end = time.monotonic() + seconds
+    while time.monotonic() < end:
+        if condition():
+            return True
+        time.sleep(0.02)
+    return condition()
+
+
+def stop(server):
+    """What a server gives that is stopped at its console."""
+    server.type(b"stop\n")
+    return server.end()
+
+
+def parting(server, client):
+    """What ended the session of a client, as the log says, once it does."""
+    host, port = client.socket.getsockname()
+    mark = f"the session of {host}:{port} ends: ".encode()
+    is_soon(lambda: mark in server.said())
+    rest = server.said().partition(mark)[2]
+    return rest.partition(b"\n")[0].decode()
+
+
+def seconds_to_end(client, meanwhile=lambda: None, longest=10):
+    """After how many seconds the server ends the connection; None where it goes on."""
+    began = time.monotonic()
+    client.socket.settimeout(0.25)
+    while time.monotonic() < began + longest:
+        try:
+            if client.line() is None:
+                return time.monotonic() - began
+        except TimeoutError:
+            pass
+        try:
+            meanwhile()
+        except ConnectionError:
+            return time.monotonic() - began
+    return None
+
+
+def why_descriptors():
+    """More come than the server has descriptors: it goes on, says so once, and serves who comes later."""
+    few = lambda: resource.setrlimit(resource.RLIMIT_NOFILE, (DESCRIPTORS, DESCRIPTORS))
+    with listening(preexec_fn=few) as server:
+        crowd = [Client(server.port) for _ in range(WAITING)]
+        if not is_soon(lambda: NONE_FOR_NOW in server.said()):
+            return "the log says nothing"
+        time.sleep(0.5)
+        told = server.said().count(NONE_FOR_NOW)
+        for client in crowd:
+            client.close()
+        client = named(server.port)
+        client.send(b"say hi")
+        answer = client.line()
+        given = stop(server)
+        # which desk is free depends on who is served first
+        is_whole = given[0] == 0 and re.fullmatch(OF_SOME_DESK, given[1])
+        return "" if (answer, told) == (b"[2] said", 1) and is_whole else f"{answer}, {told}, {given}"
+
+
+def why_accept(number, times):
+    """Calls for a connection fail so often, by this number: the next client is served."""
+    environment = {"LD_PRELOAD": library("fail_accept"), "ACCEPT_ERROR": str(number), "ACCEPT_TIMES": str(times)}
+    with listening(environment=environment) as server:
+        greeted(server.port).close()
+        given = stop(server)
+        return "" if given == (0, ended(FIRST)) else f"{given}"
+
+
+def why_no_more(number):
+    """No call can ever give a connection: the history is written before the fault is told."""
+    environment = {"LD_PRELOAD": library("fail_accept"), "ACCEPT_ERROR": str(number), "ACCEPT_TIMES": "1000000"}
+    with Server(program("mud_serve"), environment=environment) as server:
+        given = server.end(), server.said()
+        return "" if given == ((3, ended(FIRST)), LISTENING_FAULT) else f"{given}"
+
+
+def why_per_address():
+    """One address has as many sessions as it may: one more is refused and counts for none, another address's is not."""
+    with listening("--per-address", "2", "--total", "4") as server:
+        first, second, third = greeted(server.port), greeted(server.port), Client(server.port)
+        refused = third.line(), third.line()
+        other = from_other_host(server.port)
+        welcome = other.line()
+        first.close()
+        is_served = is_soon(lambda: Client(server.port).line() == GREETING)
+        for client in (second, other):
+            client.close()
+        status, _ = server.end()
+        given = refused, welcome, is_served, status
+        return "" if given == ((TOO_MANY, None), GREETING, True, 0) else f"{given}"
+
+
+def why_unnamed():
+    """Who does not say who he is leaves his place; who has said it keeps his."""
+    with listening("--unnamed", "1") as server:
+        player, nobody = named(server.port), greeted(server.port)
+        took = seconds_to_end(nobody, lambda: nobody.send(b"look"))
+        word = parting(server, nobody)
+        time.sleep(0.5)
+        player.send(b"@version")
+        answer = player.line()
+        is_soon_enough = took is not None and NOTICED[0] < took < NOTICED[1]
+        is_right = is_soon_enough and (word, answer) == ("unnamed", b"[1] version")
+        return "" if is_right else f"{took}, {word}, {answer}"
+
+
+def why_idle(sent):
+    """With `--idle 1` one who sends this four times a second is ended, and one who sends lines is not."""
+    with listening("--idle", "1") as server:
+        player, silent = named(server.port), greeted(server.port)
+
+        def both():
+            player.send(b"@version")
+            player.line()
+            silent.give(sent)
+
+        took = seconds_to_end(silent, both)
+        word = parting(server, silent)
+        is_right = took is not None and NOTICED[0] < took < NOTICED[1] and word == "idle"
+        return "" if is_right else f"{took}, {word}"
+
+
+def why_unprobed():
+    """The system asks whether the other side is there: within a minute at first."""
+    with listening() as server:
+        client = greeted(server.port)
+        local, remote = f"{server.port:04X}", f"{client.socket.getsockname()[1]:04X}"
+        if not is_soon(lambda: timer(local, remote)[0] == "02"):
+            return f"no timer runs: {timer(local, remote)}"
+        left = int(timer(local, remote)[1], 16) / 100
+        return "" if 0 < left <= 60 else f"it asks after {left} s"
+
+
+def timer(local, remote):
+    """Which timer of a connection runs in the system, and how long it has left, in hundredths of a second."""
+    with open("/proc/net/tcp", encoding="ascii") as file:
+        for row in file.read().splitlines()[1:]:
+            words = row.split()
+            if words[1].endswith(f":{local}") and words[2].endswith(f":{remote}"):
+                return words[5].split(":")
+    return "none", "0"
+
+
+def is_refused(port):
+    """Whether the system refuses a connection."""
+    try:
+        Client(port).close()
+    except ConnectionRefusedError:
+        return True
+    return False
+
+
+def why_total():
+    """Once the total has begun, who comes is refused by the system, and who plays goes on."""
+    with listening("--total", "1") as server:
+        player = named(server.port)
+        was_refused = is_soon(lambda: is_refused(server.port))
+        player.send(b"quit")
+        answer, (status, _) = player.line(), server.end()
+        given = was_refused, answer, status
+        return "" if given == (True, b"[1] bye", 0) else f"{given}"
+
+
+def why_counted():
+    """Who comes and leaves does not count with `--count-players`; who becomes a player does, once."""
+    with listening("--total", "2", "--count-players") as server:
+        for _ in range(5):
+            greeted(server.port).close()
+        one = named(server.port, b"Ann")
+        one.send(b"say hi")
+        goes_on = one.line() == b"[2] said" and not is_refused(server.port)
+        other = named(server.port, b"Bob")
+        was_refused = is_soon(lambda: is_refused(server.port))
+        for client in (one, other):
+            client.send(b"quit")
+        status, _ = server.end()
+        given = goes_on, was_refused, status
+        return "" if given == (True, True, 0) else f"{given}"
+
+
+def say_much(client):
+    """Says so much, and reads each answer."""
+    for _ in range(SAID // PIECE):
+        client.give(b"say hello\r\n" * PIECE)
+        said = 0
+        while said < PIECE:
+            said += b"said" in client.line()
+
+
+def why_behind():
+    """One who has read nothing for long types a line: he catches up without holding up another."""
+    with listening() as server:
+        late, one, other = named(server.port, b"Late"), named(server.port, b"Ann"), named(server.port, b"Bob")
+        other.close()
+        late.socket.setsockopt(socket.SOL_SOCKET, socket.SO_RCVBUF, 4096)
+        say_much(one)
+        late.send(b"say late")
+        waits = []
+        for _ in range(50):
+            began = time.monotonic()
+            one.send(b"say on")
+            while b"said" not in one.line():
+                pass
+            waits.append(time.monotonic() - began)
+            time.sleep(0.01)
+        return "" if max(waits) < LONGEST_WAIT else f"another waits for {max(waits)} s"
+
+
+def why_log():
+    """Nobody reads the log: all are served, and the next lines that go out say how many were dropped."""
+    with listening(errors=subprocess.PIPE) as server:
+        for _ in range(VISITS):
+            greeted(server.port).close()
+        with ThreadPoolExecutor() as threads:
+            reading = threads.submit(server.process.stderr.read)
+            server.type(b"stop\n")
+            status, text = server.process.wait(timeout=10), reading.result(timeout=10)
+        lines = text.splitlines()
+        dropped = [int(line.split()[1]) for line in lines if line.endswith(b"lines of the log were dropped")]
+        told = sum(b" session of " in line for line in lines)
+        is_right = status == 0 and dropped and told + sum(dropped) == 2 * VISITS
+        return "" if is_right else f"status {status}, {told} lines, {dropped} dropped, of {2 * VISITS}"
+
+
+def why_partings():
+    """The log names what ended each session."""
+    with listening() as server:
+        quits, closes, resets, stays = (named(server.port, name) for name in (b"Ann", b"Bob", b"Cid", b"Dan"))
+        quits.send(b"quit")
+        closes.close_half()
+        resets.reset()
+        words = [parting(server, client) for client in (quits, closes)]
+        server.type(b"stop\n")
+        status, _ = server.end()
+        words.append(parting(server, stays))
+        given = words, server.said().count(b"ends: left\n"), status
+        return "" if given == (["left", "left", "server stops"], 3, 0) else f"{given}"
+
+
+@part("guests", "guests who would hold up a server hold nobody, and the log names what ended each")
+def guests(count):
+    def show(what, why):
+        count(f"guests: {what}", not why, why)
+
+    show("more come than there are descriptors", why_descriptors())
+    for number in PASSING:
+        show(f"calls for a connection fail by {errno.errorcode[number]}", why_accept(number, 5))
+    for number in LASTING:
+        show(f"no call gives a connection any more, by {errno.errorcode[number]}", why_no_more(number))
+    show("one address has as many sessions as it may", why_per_address())
+    show("one does not say who he is", why_unnamed())
+    rows = [("nothing", b""), ("requests", NOP), ("a line without an end", b"x"), ("parts of requests", b"\xff\xfaxx")]
+    for what, sent in rows:
+        show(f"with --idle one sends {what}", why_idle(sent))
+    show("the system asks whether a peer is there", why_unprobed())
+    show("one comes behind the total", why_total())
+    show("those who leave unnamed don't count", why_counted())
+    show("one reads nothing while much is said", why_behind())
+    show("nobody reads the log", why_log())
+    show("the log names what ended a session", why_partings())

@@ -2,6 +2,7 @@
 leaves the file as it is. What is printed at its end is the journal and the last line of a history.
 """
 import os
+import shutil
 import subprocess
 import tempfile
 import time
@@ -18,6 +19,8 @@ FIRST = b"mud history 2\n"
 LAST_LINE = b"2 1 say #2 hi\n"
 ANN = FIRST + b'1 1 player #2 "Ann"\n' + LAST_LINE
 MOST = 65_536
+# A user who owns nothing.
+NOBODY = 65_534
 
 
 def said(count):
@@ -170,6 +173,30 @@ def why_no_file(path):
         return "" if given == ((3, b""), b"mud_serve: cannot open journal: file\n") else f"{given}"
 
 
+def why_no_right():
+    """What went otherwise where who starts the server may not write the journal; nothing where it is refused."""
+    with Place(ANN) as place:
+        path = shutil.copy(program("mud_serve"), place.folder.name)
+        for name, mode in ((place.path, 0o444), (place.folder.name, 0o755), (path, 0o755)):
+            os.chmod(name, mode)
+        nobody = {"user": NOBODY, "group": NOBODY, "extra_groups": []} if os.geteuid() == 0 else {}
+        with Server(path, ["--journal", place.path], **nobody) as server:
+            given = server.end(), server.said(), place.text()
+            return "" if given == ((3, b""), b"mud_serve: cannot open journal: file\n", ANN) else f"{given}"
+
+
+def why_no_port():
+    """What went otherwise where another server has the port; nothing where the journal is left as it is."""
+    torn = ANN + b"3 1 sa"
+    with Place(torn) as place, Server(program("mud_serve")) as first:
+        words = ["--port", str(first.port), "--address", HOST, "--journal", place.path]
+        command = [program("mud_serve"), "listen", *words]
+        ran = subprocess.run(command, stdin=subprocess.DEVNULL, capture_output=True, timeout=SECONDS, check=False)
+        given = ran.returncode, ran.stdout, ran.stderr, place.text()
+        right = 3, b"", told_of(6) + b"mud_serve: cannot listen\n", torn
+        return "" if given == right else f"{given}"
+
+
 @part("journal", "a server goes on from its journal, or says why not and leaves the file as it is")
 def journal(count):
     def show(what, why):
@@ -179,6 +206,8 @@ def journal(count):
         show(f"{what} is refused", why_taken(text, words, right))
     show("a folder is refused", why_no_file("/"))
     show("a file in no folder is refused", why_no_file("/no-such-folder/journal"))
+    show("a file that may not be written is refused", why_no_right())
+    show("another server has the port", why_no_port())
     show("an empty file is a new journal", why_lost(b"", FIRST))
     show("no file is a new journal", why_lost(None, FIRST))
     before = ANN.removesuffix(LAST_LINE)

@@ -1,0 +1,16 @@
+-- What one side writes is what the other reads.
+use Rattle.std.proofs.Common.{[], ◌∷◌, None, Some, refl, ap, arith}
+use Rattle.websocket.specs.Content.{text}
+use Rattle.websocket.proofs.RoundTripLemmas.{read_step_written}
+use Rattle.mud_web.specs.Channel.{opened, typed_by}
+use Rattle.mud_web.specs.Laws.{client, TextsArrive, MessagesType}
+
+pub texts_arrive : TextsArrive
+texts_arrive [] rest valid some small = absurd (some refl)
+texts_arrive (b ∷ bs) rest valid some small =
+    read_step_written client (text (b ∷ bs)) None rest refl refl refl tt valid tt tt tt small
+
+pub messages_type : MessagesType
+messages_type bs key rest valid fits mask =
+    let read = read_step_written opened (text bs) (Some key) rest refl refl refl mask valid tt fits fits (omega (arith, fits)) in
+    (read.0, read.1, ap typed_by read.2)

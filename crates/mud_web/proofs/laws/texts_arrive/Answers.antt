@@ -1,0 +1,5 @@
+use Rattle.mud_web.proofs.Arriving.{texts_arrive}
+use Rattle.mud_web.proofs.laws.texts_arrive.Goals as goal
+
+pub returns : goal.returns
+returns c = texts_arrive

@@ -1,0 +1,95 @@
+-- The server's side of a web socket behind its handshake (RFC 6455, sections 5 and 7): what the messages of the client
+-- type, what is replied by itself, and how a text leaves.
+use Rattle.std.specs.Prelude.{◌≡◌, ℕ, Bool, false, List, [], ◌∷◌, ◌++◌, Option, None, Some, Ok, Err}
+use Rattle.std.specs.List.{flat_map}
+use Rattle.websocket.specs.declared.error.Error.{Error}
+use Rattle.websocket.specs.declared.protocol.config.Role.TheVariants.{Server}
+use Rattle.websocket.specs.declared.protocol.state.WebSocketState.TheVariants.{Active}
+use Rattle.websocket.specs.declared.protocol.frame.coding.OpCode.TheVariants as Op
+use Rattle.websocket.specs.declared.protocol.frame.coding.Data.TheVariants.{Text}
+use Rattle.websocket.specs.Content.{Content, text}
+use Rattle.websocket.specs.Frame.{encode_frame}
+use Rattle.websocket.specs.Connection.{Connection, Effect, Outgoing, whole_header}
+use Rattle.websocket.specs.Stream.{read_all}
+use Rattle.mud_web.specs.declared.channel.TheConstants.{MOST_MESSAGE}
+use Rattle.mud_web.specs.Closing.{closes_for}
+
+-- a connection of a server to which no frame came yet: a message and a frame have 4,096 bytes at most, and a frame
+-- without a mask is refused
+abbrev pub opened : Connection
+opened = record {
+  role = Server;
+  state = Active;
+  fragments = None;
+  config = record {
+    max_message_size = Some MOST_MESSAGE;
+    max_frame_size = Some MOST_MESSAGE;
+    accept_unmasked_frames = false;
+  };
+}
+
+-- what a channel is: the state of the protocol, the bytes behind the last whole frame, and whether it has ended
+pub record Standing : Type 0 where
+  pub conn : Connection
+  pub unread : List ℕ
+  pub has_ended : Bool
+
+-- a text message types its bytes and LF, and no other message types anything
+abbrev pub typed_by : Option Content → List ℕ
+typed_by (Some (text bs)) = bs ++ 10 ∷ []
+typed_by other = []
+
+-- what all these frames type, in order
+abbrev pub typed : List Effect → List ℕ
+typed effects = flat_map (λ e. typed_by e.message) effects
+
+-- what is typed by all bytes that came
+abbrev pub typed_of : List ℕ → List ℕ
+typed_of bytes = typed (read_all opened bytes).effects
+
+-- a reply is one frame, without a mask (5.1)
+abbrev pub reply_by : Option Outgoing → List ℕ
+reply_by None = []
+reply_by (Some frame) = encode_frame (whole_header frame.opcode None) frame.payload
+
+-- what is replied to all these frames, in order: to a ping its pong, to a close its close
+abbrev pub replies : List Effect → List ℕ
+replies effects = flat_map (λ e. reply_by e.reply) effects
+
+-- a text leaves as one text message of one frame, without a mask; no text, no frame
+abbrev pub framed : List ℕ → List ℕ
+framed [] = []
+framed (b ∷ bs) = encode_frame (whole_header (Op.Data Text) None) (b ∷ bs)
+
+-- the channel stands where these bytes, and no others, came to it: all frames of them were read, in whatever pieces
+-- they came, and neither side closed
+pub record StandsAfter (channel : Standing) (bytes : List ℕ) : Type 0 where
+  pub is : (read_all opened bytes).end ≡ Ok (channel.conn, channel.unread)
+  pub goes_on : channel.has_ended ≡ false
+
+-- these are the frames that the bytes finish, behind the earlier ones
+abbrev pub Finishes : (earlier bytes : List ℕ) → List Effect → Type 0
+Finishes earlier bytes fresh =
+    (read_all opened (earlier ++ bytes)).effects ≡ (read_all opened earlier).effects ++ fresh
+
+-- what is typed grows by what the frames type that the bytes finish, and what is replied by the replies to them and
+-- then by this end
+pub record Grows (earlier bytes typed_old typed_new replies_old replies_new end : List ℕ) : Type 0 where
+  pub fresh : List Effect
+  pub finishes : Finishes earlier bytes fresh
+  pub types : typed_new ≡ typed_old ++ typed fresh
+  pub answers : replies_new ≡ replies_old ++ replies fresh ++ end
+
+-- the channel takes these bytes in, whatever bytes came earlier
+pub record TakesIn (old new : Standing) (bytes typed_old typed_new replies_old replies_new : List ℕ) : Type 0 where
+  pub stands : (earlier : List ℕ) → StandsAfter old earlier → StandsAfter new (earlier ++ bytes)
+  pub grows : (earlier : List ℕ) → StandsAfter old earlier
+      → Grows earlier bytes typed_old typed_new replies_old replies_new []
+
+-- the same up to the frame that ends the connection with this error: nothing of that frame is typed, and the close that
+-- the error asks for is replied
+pub record EndsWith (old : Standing) (bytes typed_old typed_new replies_old replies_new : List ℕ)
+    (e : Error) : Type 0 where
+  pub ends : (earlier : List ℕ) → StandsAfter old earlier → (read_all opened (earlier ++ bytes)).end ≡ Err e
+  pub grows : (earlier : List ℕ) → StandsAfter old earlier
+      → Grows earlier bytes typed_old typed_new replies_old replies_new (closes_for e)

@@ -1,0 +1,51 @@
+-- How a channel is closed: the codes of RFC 6455, section 7.4.1, and their frames.
+use Rattle.std.specs.Prelude.{ℕ, List, [], Option, None, Some, is_some, if◌then◌else◌}
+use Rattle.websocket.specs.declared.error.Error.{Error}
+use Rattle.websocket.specs.declared.error.Error.TheVariants as Cause
+use Rattle.websocket.specs.declared.protocol.state.WebSocketState.{WebSocketState}
+use Rattle.websocket.specs.declared.protocol.frame.coding.CloseCode.{CloseCode}
+use Rattle.websocket.specs.declared.protocol.frame.coding.CloseCode.TheVariants as Code
+use Rattle.websocket.specs.declared.protocol.frame.coding.OpCode.TheVariants as Op
+use Rattle.websocket.specs.declared.protocol.frame.coding.Control.TheVariants.{Close}
+use Rattle.websocket.specs.Content.{close_payload}
+use Rattle.websocket.specs.Frame.{encode_frame}
+use Rattle.websocket.specs.Connection.{whole_header, closing_state}
+use Rattle.mud_web.specs.declared.closing.Ending.{Ending}
+use Rattle.mud_web.specs.declared.closing.Ending.TheVariants.{Normal, GoingAway, ProtocolError, InvalidData, TooBig}
+use Rattle.mud_web.specs.declared.closing.Ending.TheVariants.{InternalError}
+
+-- the code of an ending: 1000, 1001, 1002, 1007, 1009, 1011
+abbrev pub code_of : Ending → CloseCode
+code_of Normal = Code.Normal
+code_of GoingAway = Code.Away
+code_of ProtocolError = Code.Protocol
+code_of InvalidData = Code.Invalid
+code_of TooBig = Code.Size
+code_of InternalError = Code.Error
+
+-- the close frame with this code and no reason, without a mask
+abbrev pub close_frame : CloseCode → List ℕ
+close_frame code = encode_frame (whole_header (Op.Control Close) None) (close_payload (Some (code, [])))
+
+-- the ending that an error of the protocol asks for: a broken rule 1002, a text that is not UTF-8 1007, a message or a
+-- frame over the limit 1009; behind the close of the other side none is due
+abbrev pub ending_of : Error → Option Ending
+ending_of (Cause.Protocol e) = Some ProtocolError
+ending_of Cause.Utf8 = Some InvalidData
+ending_of (Cause.Capacity e) = Some TooBig
+ending_of Cause.OutOfMemory = Some InternalError
+ending_of Cause.ConnectionClosed = None
+ending_of Cause.AlreadyClosed = None
+
+-- the close frame of an ending, if there is one
+abbrev pub closes : Option Ending → List ℕ
+closes None = []
+closes (Some ending) = close_frame (code_of ending)
+
+-- what is sent where reading ends with this error
+abbrev pub closes_for : Error → List ℕ
+closes_for e = closes (ending_of e)
+
+-- a close is sent once: where one was sent already, or the connection has failed behind one, nothing is
+abbrev pub closes_once : WebSocketState → Ending → List ℕ
+closes_once state ending = if is_some (closing_state state) then close_frame (code_of ending) else []

@@ -1,0 +1,25 @@
+-- What was seen of the fields named Origin. Only private clauses, and one for the answer's text, cite it.
+use Rattle.std.specs.Prelude.{◌≡◌, ℕ, Bool, true, false, List, [], ◌∷◌, ◌++◌}
+use Rattle.mud_web.specs.declared.asking.Asked.{Asked}
+use Rattle.mud_web.specs.declared.asking.Asked.TheVariants.{More, Page, Play, Refused}
+use Rattle.mud_web.specs.declared.asking.Seen.{Seen}
+use Rattle.mud_web.specs.declared.asking.Seen.TheVariants.{Nothing, Own, Foreign}
+
+-- these are the values of the fields named Origin so far
+abbrev pub IsSeen : Seen → List (List ℕ) → (origin : List ℕ) → Type 0
+IsSeen Nothing found origin = found ≡ []
+IsSeen Own found origin = found ≡ origin ∷ []
+IsSeen Foreign found origin = (more : List (List ℕ)) → ¬ (found ++ more ≡ origin ∷ [])
+
+-- whether exactly one was seen, and it is the origin
+abbrev pub is_own : Seen → Bool
+is_own Own = true
+is_own Nothing = false
+is_own Foreign = false
+
+-- a fact on the key that is answered, where one is
+abbrev pub IfPlay : Asked → (List ℕ → Type 0) → Type 0
+IfPlay (Play accept len) P = P accept
+IfPlay More P = Unit {0}
+IfPlay Page P = Unit {0}
+IfPlay (Refused refusal) P = Unit {0}

@@ -1,0 +1,272 @@
+//! A channel: the server's side of a web socket behind its handshake.
+
+ghost use Rattle.std.specs.Prelude.{◌≡◌, ◌↔◌, ◌≤◌, ℕ, List, ◌++◌, ◌∷◌, [], length, drop, true, false, Err};
+ghost use Rattle.std.specs.Prelude.{IsUtf8, IfOk, IfErr, OnOk, OnErr, IfSome, option_map};
+ghost use Rattle.websocket.specs.Content.{IsReceivedInside, HasValidText, received_content};
+ghost use Rattle.websocket.specs.Connection.{IsDoneSending, can_write};
+ghost use Rattle.mud_web.specs.Channel.{StandsAfter, TakesIn, EndsWith, typed_by, framed};
+ghost use Rattle.mud_web.specs.declared.fault.Fault.TheVariants.{Over};
+ghost use Rattle.mud_web.specs.Closing.{ending_of, closes_once};
+ghost use Rattle.mud_web.specs.Steps.{Steps, Refuses, IfOver, IsNoEnd, IsTyped, closes_in};
+
+use crate::closing::Ending;
+use crate::fault::{Fault, SendFault};
+use std::alloc::{AllocError, Global};
+use std::marker::Model;
+use std::str;
+use websocket::error::Error;
+use websocket::protocol::{
+    CloseFrame, FrameStatus, Message, NoMask, Received, Role, Step, WebSocketConfig,
+    WebSocketContext,
+};
+
+/// The most bytes that a message of the client may have, and each of its frames.
+pub const MOST_MESSAGE: usize = 4096;
+
+/// The server's side of a web socket behind its handshake: it does no input or output itself. It keeps at most what
+/// came of one frame and of one message, besides the bytes that it is fed.
+#[derive(Drop)]
+pub struct Channel {
+    context: WebSocketContext,
+    unread: Vec<u8>,
+    has_ended: bool,
+}
+
+impl Model for Channel {
+    ghost use Rattle.std.specs.Prelude.{◌≡◌};
+    ghost use Rattle.websocket.specs.declared.protocol.config.Role.TheVariants.{Server};
+    ghost use Rattle.mud_web.specs.Channel.{Standing};
+
+    ghost Value = { Standing };
+
+    ghost view = { λ c. record { conn = c.context; unread = c.unread.items; has_ended = c.has_ended } };
+
+    ghost invariant = { λ c. c.context.role ≡ Server };
+}
+
+impl Channel {
+    /// A channel to which nothing came.
+    pub fn new(alloc: Global) -> Channel
+        ensures { StandsAfter result [] }
+    {
+        let config = WebSocketConfig {
+            max_message_size: Some(MOST_MESSAGE),
+            max_frame_size: Some(MOST_MESSAGE),
+            accept_unmasked_frames: false,
+        };
+        Channel {
+            context: WebSocketContext::new(alloc, Role::Server, config),
+            unread: Vec::new(alloc),
+            has_ended: false,
+        }
+    }
+
+    /// Whether it takes nothing more.
+    pub fn ended(&self) -> bool
+        ensures { result ≡ self.now.has_ended }
+    {
+        self.has_ended
+    }
+
+    /// Takes in the next bytes of the connection. The text messages that are whole now are added to `typed`, each with
+    /// LF behind it, and the frames that are due as replies to `replies`: pongs, the close that answers a close, and
+    /// the close that an error asks for (RFC 6455, sections 5.5 and 7.1.7). After an error the channel takes nothing
+    /// more. Where the error is want of memory, `typed` and `replies` are of no use.
+    pub fn feed(
+        &mut self,
+        bytes: &[u8],
+        typed: &mut Vec<u8>,
+        replies: &mut Vec<u8>,
+    ) -> Result<(), Fault>
+        ensures ok { OnOk result (TakesIn self.old self.new bytes.now typed.old.items typed.new.items
+            replies.old.items replies.new.items) }
+        ensures over { IfErr result (λ fault. IfOver fault (EndsWith self.old bytes.now
+            typed.old.items typed.new.items replies.old.items replies.new.items)) }
+        ensures err { OnErr result (self.new.has_ended ≡ true) }
+        ensures ended { self.old.has_ended ≡ true → (result ≡ Err Fault.Ended) × (self.new ≡ self.old)
+            × (typed.new.items ≡ typed.old.items) × (replies.new.items ≡ replies.old.items) }
+        ensures ended_only { result ≡ Err Fault.Ended → self.old.has_ended ≡ true }
+    {
+        if self.has_ended {
+            return Err(Fault::Ended);
+        }
+        match self.read_all(bytes, typed, replies) {
+            Ok(()) => Ok(()),
+            Err(fault) => {
+                self.has_ended = true;
+                Err(fault)
+            }
+        }
+    }
+
+    // Takes in bytes where it has not ended.
+    fn read_all(
+        &mut self,
+        bytes: &[u8],
+        typed: &mut Vec<u8>,
+        replies: &mut Vec<u8>,
+    ) -> Result<(), Fault>
+        requires { self.old.has_ended ≡ false }
+        ensures ok { OnOk result (TakesIn self.old self.new bytes.now typed.old.items typed.new.items
+            replies.old.items replies.new.items) }
+        ensures over { IfErr result (λ fault. IfOver fault (EndsWith self.old bytes.now
+            typed.old.items typed.new.items replies.old.items replies.new.items)) }
+        ensures no_end { IfErr result IsNoEnd }
+    {
+        self.unread.extend_from_slice(bytes)?;
+        for _ in 0..u64::MAX {
+            match self.step(typed, replies) {
+                Ok(more) => {
+                    if !more {
+                        return Ok(());
+                    }
+                }
+                Err(fault) => return Err(self.fail(fault, replies)),
+            }
+        }
+        Err(Fault::OutOfMemory)
+    }
+
+    // Takes the frame at the front of what is unread, if it is whole.
+    fn step(&mut self, typed: &mut Vec<u8>, replies: &mut Vec<u8>) -> Result<bool, Fault>
+        ensures took { IfOk result (Steps self.old self.new typed.old.items typed.new.items
+            replies.old.items replies.new.items) }
+        ensures over { IfErr result (λ fault. IfOver fault (Refuses self.old self.new typed.old.items typed.new.items
+            replies.old.items replies.new.items)) }
+        ensures no_end { IfErr result IsNoEnd }
+    {
+        match self
+            .context
+            .read(self.unread.as_mut_slice(), replies, &mut NoMask)
+        {
+            Ok(FrameStatus::Partial(_)) => Ok(false),
+            Ok(FrameStatus::Complete(step)) => {
+                let consumed = step.consumed;
+                match type_message(typed, step, &self.unread) {
+                    Ok(()) => {}
+                    Err(_) => return Err(Fault::OutOfMemory),
+                }
+                drop_front(&mut self.unread, consumed);
+                Ok(true)
+            }
+            Err(Error::OutOfMemory) => Err(Fault::OutOfMemory),
+            Err(error) => Err(Fault::Over(error)),
+        }
+    }
+
+    // Adds the close that a fault asks for; the fault, or want of memory.
+    fn fail(&mut self, fault: Fault, replies: &mut Vec<u8>) -> Fault
+        requires { IsNoEnd fault }
+        ensures over { IfOver result (λ e. (fault ≡ Over e)
+            × (replies.new.items ≡ replies.old.items ++ closes_in self.old.conn.state (ending_of e))) }
+        ensures no_end { IsNoEnd result }
+    {
+        let ending = match fault {
+            Fault::Over(error) => Ending::of(error),
+            _ => Some(Ending::InternalError),
+        };
+        let Some(ending) = ending else {
+            return fault;
+        };
+        match self.send_close(ending, replies) {
+            Ok(()) => fault,
+            Err(_) => Fault::OutOfMemory,
+        }
+    }
+
+    /// Adds a text to `out`, as a text message of one frame; no text, no frame. After an error nothing has changed.
+    pub fn send(&mut self, text: &[u8], out: &mut Vec<u8>) -> Result<(), SendFault>
+        ensures ok { OnOk result (out.new.items ≡ out.old.items ++ framed text.now) }
+        ensures same { self.new ≡ self.old }
+        ensures err { OnErr result (out.new.items ≡ out.old.items) }
+        ensures not_text { result ≡ Err SendFault.NotText → ¬ (IsUtf8 text.now) }
+        ensures closed { result ≡ Err SendFault.Closed → can_write self.old.conn.state ≡ false }
+    {
+        if text.is_empty() {
+            return Ok(());
+        }
+        let Ok(text) = str::from_utf8(text) else {
+            return Err(SendFault::NotText);
+        };
+        match self.context.write(Message::Text(text), out, &mut NoMask) {
+            Ok(()) => Ok(()),
+            Err(Error::OutOfMemory) => Err(SendFault::OutOfMemory),
+            Err(_) => Err(SendFault::Closed),
+        }
+    }
+
+    /// Adds the close frame of an ending to `out`, unless a close was sent already (RFC 6455, section 5.5.1). The
+    /// channel takes nothing more then: what the other side still types is not looked at. The only error is out of
+    /// memory, and nothing is added then.
+    pub fn close(&mut self, ending: Ending, out: &mut Vec<u8>) -> Result<(), AllocError>
+        ensures ok { OnOk result (out.new.items ≡ out.old.items ++ closes_once self.old.conn.state ending) }
+        ensures done { OnOk result (IsDoneSending self.new.conn.state) }
+        ensures ended { self.new.has_ended ≡ true }
+        ensures err { OnErr result (out.new.items ≡ out.old.items) }
+    {
+        self.has_ended = true;
+        self.send_close(ending, out)
+    }
+
+    // Adds the close frame of an ending, unless one was sent already.
+    fn send_close(&mut self, ending: Ending, out: &mut Vec<u8>) -> Result<(), AllocError>
+        ensures ok { OnOk result (out.new.items ≡ out.old.items ++ closes_once self.old.conn.state ending) }
+        ensures done { OnOk result (IsDoneSending self.new.conn.state) }
+        ensures goes_on { self.new.has_ended ≡ self.old.has_ended }
+        ensures err { OnErr result (out.new.items ≡ out.old.items) }
+    {
+        let frame = CloseFrame {
+            code: ending.code(),
+            reason: "",
+        };
+        match self.context.close(Some(frame), out, &mut NoMask) {
+            Ok(()) => Ok(()),
+            Err(_) => Err(AllocError),
+        }
+    }
+}
+
+// The text of a message that is one.
+fn text_of<'a>(received: &'a Received, input: &'a [u8]) -> Option<&'a str>
+    requires inside { IsReceivedInside input.now received.now }
+    requires valid { HasValidText (received_content input.now received.now) }
+    ensures { IsTyped (received_content input.now received.now) (option_map (λ t. t.now) result) }
+{
+    match received.message(input) {
+        Message::Text(text) => Some(text),
+        _ => None,
+    }
+}
+
+// Adds what the message of a step types.
+fn type_message(typed: &mut Vec<u8>, step: Step, input: &[u8]) -> Result<(), AllocError>
+    requires inside { IfSome step.message (IsReceivedInside input.now) }
+    requires valid { IfSome step.message (λ m. HasValidText (received_content input.now m)) }
+    ensures { OnOk result (typed.new.items ≡ typed.old.items
+        ++ typed_by (option_map (received_content input.now) step.message)) }
+{
+    let Some(received) = &step.message else {
+        return Ok(());
+    };
+    match text_of(received, input) {
+        Some(text) => type_line(typed, text.as_bytes()),
+        None => Ok(()),
+    }
+}
+
+// Takes so many bytes off the front.
+fn drop_front(unread: &mut Vec<u8>, count: usize)
+    requires { count ≤ length unread.old.items }
+    ensures { unread.new.items ≡ drop count unread.old.items }
+{
+    unread.drain(..count);
+}
+
+// Adds a text, and LF.
+fn type_line(typed: &mut Vec<u8>, text: &[u8]) -> Result<(), AllocError>
+    ensures { OnOk result (typed.new.items ≡ typed.old.items ++ (text.now ++ 10 ∷ [])) }
+{
+    typed.extend_from_slice(text)?;
+    typed.push(b'\n')?;
+    Ok(())
+}

@@ -1,0 +1,44 @@
+//! Why a channel takes no more, and why a text is not sent.
+
+use std::alloc::AllocError;
+use thiserror::Error;
+use websocket::error;
+
+/// Why a channel takes no more bytes.
+#[derive(Clone, Copy, Debug, PartialEq, Eq, Error)]
+pub enum Fault {
+    /// Memory ran out.
+    #[error("out of memory")]
+    OutOfMemory,
+    /// The other side closed, or broke a rule of the protocol or a limit.
+    #[error("the web socket has ended")]
+    Over(error::Error),
+    /// The channel had ended already.
+    #[error("ended already")]
+    Ended,
+}
+
+impl From<AllocError> for Fault {
+    ghost use Rattle.std.specs.Prelude.{◌≡◌};
+    ghost use Rattle.mud_web.specs.declared.fault.Fault.TheVariants.{OutOfMemory};
+
+    ghost from_gives = { λ _ f. f ≡ OutOfMemory };
+
+    fn from(_error: AllocError) -> Fault {
+        Fault::OutOfMemory
+    }
+}
+
+/// Why a text is not sent.
+#[derive(Clone, Copy, Debug, PartialEq, Eq, Error)]
+pub enum SendFault {
+    /// Memory ran out.
+    #[error("out of memory")]
+    OutOfMemory,
+    /// The text is not UTF-8, so it may not be a text message (RFC 6455, section 5.6).
+    #[error("not UTF-8")]
+    NotText,
+    /// A close was sent or received: no message may follow it (RFC 6455, section 5.5.1).
+    #[error("closed")]
+    Closed,
+}

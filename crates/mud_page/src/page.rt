@@ -1,0 +1,236 @@
+//! The page, as page/make_page.py writes it.
+
+/// The whole answer to a browser that asks for the page: its head, and the page behind it.
+pub const PAGE: &[u8] = b"\
+HTTP/1.1 200 OK\r\nConnection: close\r\nContent-Type: text/html; charset=utf-8\r\nContent-Length: 23868\r\nCon\
+tent-Security-Policy: default-src 'none'; connect-src 'self'; style-src 'sha256-hgtxpVvdHLnGF86mULH4ChLjFAbDs1\
+olc52l3VgshFM='; script-src 'sha256-ymdTzz9r2ryeJi9u4a0HUr1lGATv++c840dEcFfn4oY='; base-uri 'none'; form-actio\
+n 'none'; frame-ancestors 'none'\r\nCross-Origin-Opener-Policy: same-origin\r\nCross-Origin-Resource-Policy: s\
+ame-origin\r\nReferrer-Policy: no-referrer\r\nX-Content-Type-Options: nosniff\r\nX-Frame-Options: DENY\r\nCach\
+e-Control: no-cache\r\n\r\n<!doctype html>\n<html lang=\"en\">\n<head>\n<meta charset=\"utf-8\">\n<meta name=\
+\"viewport\" content=\"width=device-width, initial-scale=1\">\n<title>Seamountcup</title>\n<style>:root { colo\
+r-scheme: light dark; --back: #fbfaf7; --fore: #1b1f24; --dim: #59636e; --edge: #b9c0c8; --field: #ffffff;\n--\
+mark: #8a5a00; --note: #0b5cad; --off: #b3261e; --room: #eef1f4; }\n@media (prefers-color-scheme: dark) { :roo\
+t { --back: #10141a; --fore: #dfe6ee; --dim: #9fabb9; --edge: #3b4754;\n--field: #0a0d11; --mark: #ffd479; --n\
+ote: #9fd6ff; --off: #ff9d9d; --room: #1c2530; } }\n* { box-sizing: border-box; }\nbody { margin: 0; height: 1\
+00vh; height: 100dvh; display: grid;\ngrid-template: auto minmax(0, 1fr) auto / minmax(0, 1fr) 26rem; gap: .5r\
+em; padding: .5rem;\nbackground: var(--back); color: var(--fore);\nfont: 16px/1.45 ui-monospace, \"DejaVu Sans\
+\x20Mono\", Menlo, Consolas, monospace; }\nheader, form { grid-column: 1 / -1; display: flex; gap: .5rem; alig\
+n-items: center; flex-wrap: wrap; }\nh1 { font-size: 1rem; margin: 0; }\n#state { color: var(--dim); flex: 1 1\
+\x208rem; }\n#log { overflow-y: auto; border: 1px solid var(--edge); padding: .5rem; margin: 0; white-space: p\
+re-wrap;\noverflow-wrap: anywhere; }\n#log .mine { color: var(--mark); }\n#log .notice { color: var(--note); }\
+\n#log .off, #log .refusal { color: var(--off); }\n#map { border: 1px solid var(--edge); overflow: auto; paddi\
+ng: .5rem; }\nsummary { cursor: pointer; color: var(--dim); }\n#picture { overflow: auto; }\n#picture:empty::a\
+fter { content: \"Type look to see where you are.\"; color: var(--dim); }\nsvg { display: block; max-width: no\
+ne; font: 11px ui-monospace, \"DejaVu Sans Mono\", Menlo, Consolas, monospace; }\nsvg text { fill: var(--fore)\
+; text-anchor: middle; dominant-baseline: central; }\nsvg rect { fill: var(--room); stroke: var(--dim); }\nsvg\
+\x20g { cursor: pointer; }\nsvg .here rect { stroke: var(--mark); stroke-width: 3; }\nsvg line { stroke: var(-\
+-dim); stroke-width: 1.5; }\nsvg .locked { stroke: var(--off); stroke-dasharray: 5 4; }\nsvg .route { stroke: \
+var(--mark); stroke-width: 4; }\nsvg .way { paint-order: stroke; stroke: var(--back); stroke-width: 4; stroke-\
+linejoin: round; }\n#rooms { margin: .25rem 0; padding: 0; list-style: none; }\n#rooms button { text-align: le\
+ft; width: 100%; border: 0; padding: .25rem; background: none; overflow-wrap: anywhere; }\n#line { flex: 1 1 1\
+0rem; min-width: 0; font: inherit; background: var(--field); color: inherit;\nborder: 1px solid var(--dim); pa\
+dding: .45rem; }\nbutton { font: inherit; background: var(--room); color: inherit; border: 1px solid var(--dim\
+); padding: .4rem .7rem;\ncursor: pointer; }\n:focus-visible { outline: 3px solid var(--mark); outline-offset:\
+\x201px; }\n.unseen { position: absolute; width: 1px; height: 1px; overflow: hidden; clip-path: inset(50%); }\
+\n@media (max-width: 52rem) { body { grid-template: auto auto minmax(0, 1fr) auto / minmax(0, 1fr); }\n#map { \
+grid-row: 2; max-height: 40vh; } #log { grid-row: 3; } form { grid-row: 4; } }\n</style>\n</head>\n<body>\n<he\
+ader>\n<h1>Seamountcup</h1>\n<span id=\"state\" role=\"status\">not connected</span>\n<button id=\"connect\" t\
+ype=\"button\">Connect</button>\n<button id=\"save\" type=\"button\">Save history and proofs</button>\n</heade\
+r>\n<pre id=\"log\" role=\"log\" aria-live=\"polite\" aria-label=\"What the world says\" tabindex=\"0\"></pre>\
+\n<details id=\"map\">\n<summary>Map of what you have seen</summary>\n<div id=\"picture\" aria-hidden=\"true\"\
+></div>\n<details id=\"words\" open>\n<summary>The map as a list. A room's button types the way to it</summary\
+>\n<ul id=\"rooms\"></ul>\n</details>\n</details>\n<form id=\"form\">\n<label class=\"unseen\" for=\"line\">Yo\
+ur line</label>\n<input id=\"line\" maxlength=\"1000\" autocomplete=\"off\" autocapitalize=\"off\" spellcheck=\
+\"false\" enterkeyhint=\"send\"\nautofocus placeholder=\"connect NAME\">\n<button>Send</button>\n</form>\n<scr\
+ipt>\"use strict\";\nconst MOST_TYPED = 1000; // The server takes lines of at most so many characters.\nfuncti\
+on typed(line) {\nreturn line.replace(/\\t/g, \" \").replace(/[^ -~]/g, \"\").slice(0, MOST_TYPED);\n}\nfuncti\
+on words(line) {\nreturn line.trim().split(/ +/).join(\" \");\n}\nclass World {\nconstructor() {\nthis.rooms =\
+\x20new Map(); // The name of each room, by its number.\nthis.exits = new Map(); // Each exit, by its number.\
+\nthis.me = undefined; // The number of the player.\nthis.here = undefined; // The number of the room where he\
+\x20is.\nthis.route = []; // The exits of the last route.\n}\nroom(number, name) {\nthis.rooms.set(number, nam\
+e ?? this.rooms.get(number));\n}\nexit(number, told) {\nthis.exits.set(number, { ...this.exits.get(number), ..\
+.told });\nconst { from, to } = this.exits.get(number);\nif (from !== undefined && !this.rooms.has(from)) this\
+.room(from);\nif (to !== undefined && !this.rooms.has(to)) this.room(to);\n}\nexitsOf(room) {\nreturn [...this\
+.exits].filter(([, exit]) => exit.from === room).map(([number]) => number).sort((a, b) => a - b);\n}\nforget(n\
+umber) {\nthis.rooms.delete(number);\nfor (const [exit, { from, to }] of [...this.exits])\nif (exit === number\
+\x20|| from === number || to === number) this.exits.delete(exit);\nthis.route = this.route.filter((exit) => th\
+is.exits.has(exit));\n}\nexitNamed(text, whole) {\nconst number = text.match(/^#(\\d{1,9})$/);\nif (number) re\
+turn this.exits.has(Number(number[1])) ? Number(number[1]) : undefined;\nconst own = this.exitsOf(this.here).f\
+ilter((exit) => this.exits.get(exit).name !== undefined);\nconst named = (test) => own.filter((exit) => test(t\
+his.exits.get(exit).name.toLowerCase()));\nconst wanted = text.toLowerCase();\nconst same = named((name) => na\
+me === wanted);\nconst found = same.length || whole ? same : named((name) => name.startsWith(wanted));\nreturn\
+\x20found.length === 1 ? found[0] : undefined;\n}\n}\nfunction listed(text) {\nreturn text.split(\", \").map((\
+one) => one.match(/^(.+) #(\\d+)$/)).filter(Boolean)\n.map(([, name, number]) => [Number(number), name]);\n}\n\
+function firstName(text) {\nconst name = text.replace(/\"/g, \"\").split(\",\")[0].trim();\nreturn name === \"\
+\" ? undefined : name;\n}\nfunction readLook(world, line, lines) {\nconst looked = lines[0].match(/^(.+) #(\\d\
++)$/);\nif (!looked) return;\nconst number = Number(looked[2]), name = looked[1];\nconst isHere = /^(look|l)$/\
+i.test(line);\nconst exits = lines.slice(1).map((one) => one.match(/^  exits (.*)$/)).find(Boolean);\nconst wa\
+y = lines.slice(1).map((one) => one.match(/^  from #(\\d+) to #(\\d+) cost \\d+$/)).find(Boolean);\nif (way) w\
+orld.exit(number, { name, from: Number(way[1]), to: Number(way[2]) });\nif (isHere) world.here = number;\nif (\
+isHere || exits || world.rooms.has(number)) readRoom(world, number, name, exits ? listed(exits[1]) : []);\n}\n\
+function readRoom(world, number, name, exits) {\nworld.room(number, name);\nconst now = new Map(exits);\nfor (\
+const exit of world.exitsOf(number)) if (!now.has(exit)) world.forget(exit);\nfor (const [exit, called] of now\
+) world.exit(exit, { name: called, from: number });\n}\nfunction readDug(world, line, text) {\nconst dug = lin\
+e.match(/^@dig +(.*?) +(?:to|at) +(.*)$/i);\nconst [out, back] = (dug ? dug[1] : \"\").split(\"|\").map(firstN\
+ame);\nconst named = dug ? dug[2] : line.replace(/^@dig +/i, \"\");\nconst room = text.match(/room #(\\d+)/), \
+old = named.match(/^\"?#(\\d{1,9})\"?$/);\nconst to = room ? Number(room[1]) : old ? Number(old[1]) : undefine\
+d;\nif (room) world.room(to, firstName(named));\nconst exit = text.match(/exit #(\\d+)/), other = text.match(/\
+exit back #(\\d+)/);\nif (exit) world.exit(Number(exit[1]), { name: out, from: world.here, to });\nif (other) \
+world.exit(Number(other[1]), { name: back, from: to, to: world.here });\n}\nfunction readWalk(world, exit, to)\
+\x20{\nworld.exit(exit, world.here === undefined ? { to, locked: false } : { from: world.here, to, locked: fal\
+se });\nworld.here = to;\n}\nfunction readLocked(world, line) {\nconst go = line.match(/^go +(.*)$/i);\nconst \
+exit = go ? world.exitNamed(go[1], false) : world.exitNamed(line, true);\nif (exit !== undefined) world.exit(e\
+xit, { locked: true });\n}\nfunction readRenamed(world, line, number) {\nconst named = line.match(/^@rename .*\
+\x20(?:to|at) +(.*)$/i);\nconst name = named ? firstName(named[1]) : undefined;\nif (name === undefined) retur\
+n;\nif (world.rooms.has(number)) world.room(number, name);\nif (world.exits.has(number)) world.exit(number, { \
+name });\n}\nfunction readRoute(world, text) {\nconst by = text.match(/^route #\\d+ to #\\d+ cost \\d+ by (.*)\
+$/);\nworld.route = by ? [...by[1].matchAll(/#(\\d+)/g)].map(([, exit]) => Number(exit)) : [];\n}\nfunction re\
+adAnswer(world, line, lines) {\nconst text = lines[0], word = line.split(\" \")[0].toLowerCase();\nconst numbe\
+r = (pattern) => Number(text.match(pattern)[1]);\nif (/^(look|l)$/.test(word)) readLook(world, line, lines);\n\
+else if (/^route /.test(text)) readRoute(world, text);\nelse if (/^welcome #\\d+$/.test(text)) { world.me = nu\
+mber(/#(\\d+)/); world.here = undefined; }\nelse if (/^went by #\\d+ to #\\d+$/.test(text)) readWalk(world, nu\
+mber(/by #(\\d+)/), number(/to #(\\d+)/));\nelse if (/^dug /.test(text)) readDug(world, line, text);\nelse if \
+(/^renamed #\\d+$/.test(text)) readRenamed(world, line, number(/#(\\d+)/));\nelse if (/^recycled #\\d+$/.test(\
+text)) world.forget(number(/#(\\d+)/));\nelse if (/^unlocked #\\d+$/.test(text)) unlock(world, number(/#(\\d+)\
+/));\nelse if (/^That (exit|place) is locked\\.$/.test(text)) readLocked(world, line);\nelse if (word === \"@h\
+istory\") readHistory(world, lines.slice(1));\n}\nfunction unlock(world, number) {\nif (world.exits.has(number\
+)) world.exit(number, { locked: false });\n}\nfunction readHistory(world, lines) {\nif (!/^mud history [12]$/.\
+test(lines[0] ?? \"\")) return;\nconst locked = new Map([...world.exits].map(([exit, { locked }]) => [exit, lo\
+cked]));\nworld.rooms.clear();\nworld.exits.clear();\nworld.room(0, \"The Hall\");\nconst tale = { next: 2, pl\
+aces: new Map([[1, 0]]) };\nfor (const line of lines.slice(1)) {\nconst entry = line.match(/^\\d+ \\d+ (\\S+) \
+#(\\d+)(?: (.*))?$/);\nif (entry) replay(world, tale, entry[1], Number(entry[2]), entry[3] ?? \"\");\n}\nfor (\
+const [exit, was] of locked) if (was && world.exits.has(exit)) world.exit(exit, { locked: was });\nworld.here \
+= world.me === undefined ? world.here : tale.places.get(world.me) ?? world.here;\nworld.route = world.route.fi\
+lter((exit) => world.exits.has(exit));\n}\nfunction replay(world, tale, change, actor, rest) {\nconst object =\
+\x20Number(rest.match(/^#(\\d+)/)?.[1]);\nif (change === \"dig\") replayDig(world, tale, actor, rest);\nelse i\
+f (change === \"make\") tale.next += 1;\nelse if (change === \"player\") tale.places.set(tale.next++, 0);\nels\
+e if (change === \"walk\" && world.exits.has(object)) tale.places.set(actor, world.exits.get(object).to);\nels\
+e if (change === \"recycle\") world.forget(object);\nelse if (change === \"rename\") {\nconst name = firstName\
+(rest.replace(/^#\\d+ /, \"\"));\nif (world.rooms.has(object)) world.room(object, name);\nelse if (world.exits\
+.has(object)) world.exit(object, { name });\n}\n}\nfunction replayDig(world, tale, actor, rest) {\nconst name \
+= (word) => {\nconst names = rest.match(new RegExp(`(?:^| )${word} \"([^\"]*)\"`));\nreturn names ? firstName(\
+names[1]) : undefined;\n};\nconst from = tale.places.get(actor);\nconst old = rest.match(/^old #(\\d+)/);\ncon\
+st to = old ? Number(old[1]) : tale.next++;\nif (!old) world.room(to, name(\"new\"));\nif (name(\"out\") !== u\
+ndefined) world.exit(tale.next++, { name: name(\"out\"), from, to });\nif (name(\"back\") !== undefined) world\
+.exit(tale.next++, { name: name(\"back\"), from: to, to: from });\n}\nconst MOST_PROOFS = 100;\nclass Conversa\
+tion {\nconstructor() {\nthis.world = new World();\nthis.history = undefined; // The last history, as { name, \
+text }.\nthis.proofs = []; // The last proofs, likewise.\nthis.proofCount = 0;\nthis.begin();\n}\nbegin() {\nt\
+his.tail = \"\";\nthis.asked = [];\nthis.answer = undefined;\nthis.hasLeft = false;\nthis.world.here = undefin\
+ed;\n}\nsay(line) {\nif (words(line) !== \"\") this.asked.push(words(line));\n}\ntake(piece) {\nconst lines = \
+(this.tail + piece).split(\"\\r\\n\");\nthis.tail = lines.pop();\nconst shown = lines.map((text) => ({ text, k\
+ind: this.takeLine(text) }));\nif (this.tail === \"\") this.finish();\nreturn shown;\n}\ntakeLine(text) {\nif \
+(/^\\(\\d+\\) /.test(text)) return \"notice\";\nconst numbered = text.match(/^\\[(\\d+)\\] (.*)$/);\nif (numbe\
+red) {\nthis.end();\nthis.answer = { version: Number(numbered[1]), line: this.asked.shift() ?? \"\", lines: [n\
+umbered[2]], read: 0 };\nreturn \"reply\";\n}\nif (/^\\([a-z ]+\\)$/.test(text)) {\nthis.end();\nthis.asked.sh\
+ift();\nreturn \"refusal\";\n}\nif (this.answer) this.answer.lines.push(text);\nreturn \"reply\";\n}\nfinish()\
+\x20{\nconst answer = this.answer;\nif (!answer || answer.read === answer.lines.length) return;\nanswer.read =\
+\x20answer.lines.length;\nreadAnswer(this.world, answer.line, answer.lines);\nif (/^quit$/i.test(answer.line) \
+&& answer.lines[0] === \"bye\") this.hasLeft = true;\n}\nend() {\nif (!this.answer) return;\nthis.finish();\nt\
+his.keep();\nthis.answer = undefined;\n}\nkeep() {\nconst { version, line, lines } = this.answer, word = line.\
+split(\" \")[0].toLowerCase();\nconst text = lines.slice(1).join(\"\\n\") + \"\\n\";\nif (word === \"@history\
+\" && /^mud history/.test(lines[1] ?? \"\"))\nthis.history = { name: `history-${version}.txt`, text };\nif (wo\
+rd !== \"proof\" || lines.length < 2) return;\nthis.proofCount += 1;\nthis.proofs.push({ name: `proof-${versio\
+n}-${this.proofCount}.txt`, text });\nif (this.proofs.length > MOST_PROOFS) this.proofs.shift();\n}\nfiles() {\
+\nthis.end();\nreturn this.history ? [this.history, ...this.proofs] : [...this.proofs];\n}\n}\nconst MOST_DRAW\
+N = 150; // Rooms on the picture; the list has all.\nconst LETTER = 6.8, TALL = 14; // A letter's width, and a\
+\x20line's height.\nconst MOST_LETTERS = 18; // Letters of a label.\nconst CELL = { wide: 220, tall: 110 }, BO\
+X = { wide: 150, tall: 34 };\nconst STUB = 62; // How far a way is drawn whose end is not known.\nconst APART \
+= 5; // How far a way is drawn beside the middle, so that the way back has a line of its own.\nconst STEPS = {\
+\nnorth: [0, -1], south: [0, 1], east: [1, 0], west: [-1, 0], northeast: [1, -1], northwest: [-1, -1],\nsouthe\
+ast: [1, 1], southwest: [-1, 1], up: [1, -1], down: [-1, 1], n: [0, -1], s: [0, 1], e: [1, 0], w: [-1, 0],\nne\
+: [1, -1], nw: [-1, -1], se: [1, 1], sw: [-1, 1], u: [1, -1], d: [-1, 1],\n};\nfunction stepOf(exit) {\nreturn\
+\x20STEPS[(exit.name ?? \"\").toLowerCase()] ?? [1, 0];\n}\nfunction short(text) {\nreturn text.length > MOST_\
+LETTERS ? text.slice(0, MOST_LETTERS - 2) + \"..\" : text;\n}\nfunction roomLabel(world, number) {\nreturn `${\
+short(world.rooms.get(number) ?? \"?\")} #${number}`;\n}\nfunction cells(world) {\nconst at = new Map(), taken\
+\x20= new Set();\nconst put = (room, x, y, dx, dy) => {\nwhile (taken.has(`${x} ${y}`)) [x, y] = [x + dx, y + \
+dy];\nat.set(room, [x, y]);\ntaken.add(`${x} ${y}`);\n};\nconst starts = [...world.rooms.keys()].sort((a, b) =\
+> (b === world.here) - (a === world.here) || a - b);\nfor (const start of starts) {\nif (at.has(start) || at.s\
+ize >= MOST_DRAWN) continue;\nput(start, 0, at.size ? Math.max(...[...at.values()].map(([, y]) => y)) + 1 : 0,\
+\x201, 0);\nspread(world, at, start, put);\n}\nreturn at;\n}\nfunction spread(world, at, start, put) {\nconst \
+queue = [start];\nwhile (queue.length) {\nconst room = queue.shift(), [x, y] = at.get(room);\nfor (const numbe\
+r of world.exitsOf(room)) {\nconst exit = world.exits.get(number);\nif (exit.to === undefined || at.has(exit.t\
+o) || at.size >= MOST_DRAWN) continue;\nconst [dx, dy] = stepOf(exit);\nput(exit.to, x + dx, y + dy, dx, dy);\
+\nqueue.push(exit.to);\n}\n}\n}\nfunction around(x, y, wide, tall) {\nreturn { x: x - wide / 2, y: y - tall / \
+2, wide, tall };\n}\nfunction overlap(a, b) {\nreturn a.x < b.x + b.wide && b.x < a.x + a.wide && a.y < b.y + \
+b.tall && b.y < a.y + a.tall;\n}\nfunction* spots(x1, y1, x2, y2) {\nfor (const part of [0.34, 0.42, 0.5, 0.27\
+, 0.58, 0.66, 0.2])\nfor (const [dx, dy] of [[0, 0], [0, -TALL], [0, TALL], [-46, 0], [46, 0], [0, -2 * TALL],\
+\x20[0, 2 * TALL]])\nyield [x1 + (x2 - x1) * part + dx, y1 + (y2 - y1) * part + dy];\n}\nfunction beside(x1, y\
+1, x2, y2) {\nconst part = APART / Math.hypot(x2 - x1, y2 - y1), dx = (y1 - y2) * part, dy = (x2 - x1) * part;\
+\nreturn [x1 + dx, y1 + dy, x2 + dx, y2 + dy];\n}\nfunction endsOf(exit, middle) {\nconst [x1, y1] = middle(ex\
+it.from);\nif (exit.to !== undefined && exit.to !== exit.from && middle(exit.to)) return beside(x1, y1, ...mid\
+dle(exit.to));\nconst [dx, dy] = exit.to === exit.from ? [0, 1] : stepOf(exit);\nreturn [x1, y1, x1 + dx * (BO\
+X.wide / 2 + STUB / 2), y1 + dy * STUB];\n}\nfunction exitLabel(exit) {\nreturn short(exit.name ?? \"?\") + (e\
+xit.locked ? \" (locked)\" : \"\") + (exit.to === exit.from ? \" (back here)\" : \"\");\n}\nfunction picture(w\
+orld) {\nconst at = cells(world), xs = [...at.values()].map(([x]) => x), ys = [...at.values()].map(([, y]) => \
+y);\nconst left = Math.min(0, ...xs), top = Math.min(0, ...ys);\nconst middle = (room) => {\nconst cell = at.g\
+et(room);\nreturn cell && [(cell[0] - left + 0.5) * CELL.wide, (cell[1] - top + 0.5) * CELL.tall];\n};\nconst \
+boxes = [...at.keys()].map((room) => ({\nroom, label: roomLabel(world, room), isHere: room === world.here, ...\
+around(...middle(room), BOX.wide, BOX.tall),\n}));\nconst drawn = [...world.exits].filter(([, exit]) => at.has\
+(exit.from)).sort(([a], [b]) => a - b);\nconst ways = [], labels = [];\nfor (const [number, exit] of drawn) {\
+\nconst [x1, y1, x2, y2] = endsOf(exit, middle);\nconst isRoute = world.route.includes(number);\nways.push({ e\
+xit: number, x1, y1, x2, y2, isLocked: exit.locked === true, isRoute });\nconst text = exitLabel(exit);\nfor (\
+const [x, y] of spots(x1, y1, x2, y2)) {\nconst label = { exit: number, text, isRoute, ...around(x, y, text.le\
+ngth * LETTER, TALL) };\nif ([...boxes, ...labels].some((other) => overlap(label, other))) continue;\nlabels.p\
+ush(label);\nbreak;\n}\n}\nconst wide = (Math.max(0, ...xs) - left + 1) * CELL.wide, tall = (Math.max(0, ...ys\
+) - top + 1) * CELL.tall;\nreturn { wide, tall, boxes, ways, labels };\n}\nfunction listOf(world) {\nreturn [.\
+..world.rooms.keys()].sort((a, b) => a - b).map((room) => {\nconst ways = world.exitsOf(room).map((number) => \
+wayText(world, number));\nconst here = room === world.here ? \", you are here\" : \"\";\nconst name = `${world\
+.rooms.get(room) ?? \"a room\"} #${room}`;\nreturn { room, text: name + here + (ways.length ? \": \" + ways.jo\
+in(\", \") : \"\") };\n});\n}\nfunction wayText(world, number) {\nconst exit = world.exits.get(number);\nconst\
+\x20to = exit.to === undefined ? \"\" : ` to #${exit.to}`;\nconst notes = (exit.locked ? \" (locked)\" : \"\")\
+\x20+ (world.route.includes(number) ? \" (on the route)\" : \"\");\nreturn (exit.name ?? \"an exit\") + to + n\
+otes;\n}\nconst MOST_LINES = 5000; // Lines that the log keeps.\nconst MOST_HISTORY = 200; // Lines that the a\
+rrow keys go through.\nconst FIRST_WAIT = 1000, MOST_WAIT = 30000; // Milliseconds before the next try to conn\
+ect.\nconst MOST_LISTED = 500; // Rooms in the list.\nconst SMALLEST = 0.8; // How small the map is drawn at m\
+ost, so that it can be read.\nconst HAS_LEFT = 1000; // The close code after `quit` (RFC 6455, section 7.4.1).\
+\nconst part = (id) => document.getElementById(id);\nconst log = part(\"log\"), input = part(\"line\"), state \
+= part(\"state\");\nconst conversation = new Conversation();\nlet isAtEnd = true;\nlog.addEventListener(\"scro\
+ll\", () => {\nisAtEnd = log.scrollTop + log.clientHeight >= log.scrollHeight - 4;\n});\nnew ResizeObserver(to\
+End).observe(log);\nfunction toEnd() {\nif (isAtEnd) log.scrollTop = log.scrollHeight;\n}\nfunction show(text,\
+\x20kind) {\nconst line = document.createElement(\"span\");\nline.className = kind;\nline.textContent = text +\
+\x20\"\\n\";\nlog.append(line);\nwhile (log.childNodes.length > MOST_LINES) log.firstChild.remove();\ntoEnd();\
+\n}\nlet socket, timer, wait = FIRST_WAIT;\nfunction connect() {\nclearTimeout(timer);\nif (socket) {\nsocket.\
+onclose = socket.onmessage = null;\nsocket.close();\n}\nconversation.begin();\nstate.textContent = \"connectin\
+g ..\";\nsocket = new WebSocket(location.origin.replace(/^http/, \"ws\") + \"/play\");\nsocket.onopen = () => \
+{\nstate.textContent = \"connected\";\nwait = FIRST_WAIT;\n};\nsocket.onmessage = (event) => {\nfor (const { t\
+ext, kind } of conversation.take(event.data)) show(text, kind);\ndraw();\n};\nsocket.onclose = closed;\n}\nfun\
+ction closed(event) {\nconversation.end();\nconst isLeft = conversation.hasLeft || event.code === HAS_LEFT;\nc\
+onst seconds = Math.round(wait / 1000);\nshow(`-- disconnected (${event.code}) --`, \"off\");\nstate.textConte\
+nt = isLeft ? \"disconnected\" : `disconnected: next try in ${seconds} s`;\nif (isLeft) return;\ntimer = setTi\
+meout(connect, wait);\nwait = Math.min(MOST_WAIT, wait * 2);\n}\nfunction say(line) {\nif (!socket || socket.r\
+eadyState !== WebSocket.OPEN) return show(\"-- not connected --\", \"off\");\nshow(\"> \" + line, \"mine\");\n\
+socket.send(line);\nconversation.say(line);\n}\nfunction shape(name, attributes, text) {\nconst node = documen\
+t.createElementNS(\"http://www.w3.org/2000/svg\", name);\nfor (const key in attributes) node.setAttribute(key,\
+\x20attributes[key]);\nif (text !== undefined) node.textContent = text;\nreturn node;\n}\nfunction label({ x, \
+y, wide, tall }, text, kind) {\nconst size = { textLength: Math.min(wide, text.length * LETTER), lengthAdjust:\
+\x20\"spacingAndGlyphs\" };\nreturn shape(\"text\", { class: kind, x: x + wide / 2, y: y + tall / 2, ...size }\
+, text);\n}\nfunction roomShape(box) {\nconst group = shape(\"g\", { class: box.isHere ? \"here\" : \"room\" }\
+);\ngroup.append(shape(\"rect\", { x: box.x, y: box.y, width: box.wide, height: box.tall, rx: 5 }));\ngroup.ap\
+pend(label(box, box.label, \"name\"));\ngroup.addEventListener(\"click\", () => typeRoute(box.room));\nreturn \
+group;\n}\nfunction draw() {\nconst { wide, tall, boxes, ways, labels } = picture(conversation.world);\nconst \
+scale = Math.max(SMALLEST, Math.min(1, part(\"picture\").clientWidth / wide));\nconst svg = shape(\"svg\", { w\
+idth: wide * scale, height: tall * scale, viewBox: `0 0 ${wide} ${tall}` });\nfor (const { x1, y1, x2, y2, isL\
+ocked, isRoute } of ways) {\nconst kinds = [isLocked && \"locked\", isRoute && \"route\"].filter(Boolean).join\
+(\" \");\nsvg.append(shape(\"line\", { x1, y1, x2, y2, class: kinds }));\n}\nfor (const box of boxes) svg.appe\
+nd(roomShape(box));\nfor (const one of labels) svg.append(label(one, one.text, \"way\"));\npart(\"picture\").r\
+eplaceChildren(...(boxes.length ? [svg] : []));\nconst here = boxes.find((box) => box.isHere);\nif (here) part\
+(\"picture\").scrollLeft = (here.x + here.wide / 2) * scale - part(\"picture\").clientWidth / 2;\npart(\"rooms\
+\").replaceChildren(...listOf(conversation.world).slice(0, MOST_LISTED).map(roomItem));\n}\nfunction roomItem(\
+{ room, text }) {\nconst item = document.createElement(\"li\"), button = document.createElement(\"button\");\n\
+button.type = \"button\";\nbutton.textContent = text;\nbutton.addEventListener(\"click\", () => typeRoute(room\
+));\nitem.append(button);\nreturn item;\n}\nfunction typeRoute(room) {\ninput.value = `route to #${room}`;\nin\
+put.focus();\n}\nfunction save() {\nconst files = conversation.files();\nif (!files.length) return show(\"-- n\
+othing to save: type @history, or proof route to a room --\", \"off\");\nfor (const { name, text } of files) {\
+\nconst link = document.createElement(\"a\");\nlink.href = URL.createObjectURL(new Blob([text], { type: \"text\
+/plain\" }));\nlink.download = name;\nlink.click();\nsetTimeout(() => URL.revokeObjectURL(link.href), MOST_WAI\
+T);\n}\n}\nconst earlier = [];\nlet place = 0, draft = \"\";\npart(\"form\").addEventListener(\"submit\", (eve\
+nt) => {\nevent.preventDefault();\nconst line = typed(input.value);\nif (line === \"\") return;\nsay(line);\ni\
+f (earlier[earlier.length - 1] !== line) earlier.push(line);\nif (earlier.length > MOST_HISTORY) earlier.shift\
+();\nplace = earlier.length;\ndraft = input.value = \"\";\n});\ninput.addEventListener(\"keydown\", (event) =>\
+\x20{\nif (event.key !== \"ArrowUp\" && event.key !== \"ArrowDown\") return;\nevent.preventDefault();\nif (pla\
+ce === earlier.length) draft = input.value;\nplace = Math.max(0, Math.min(earlier.length, place + (event.key =\
+== \"ArrowUp\" ? -1 : 1)));\ninput.value = place === earlier.length ? draft : earlier[place];\n});\npart(\"con\
+nect\").addEventListener(\"click\", () => {\nwait = FIRST_WAIT;\nconnect();\n});\npart(\"save\").addEventListe\
+ner(\"click\", save);\npart(\"map\").open = window.matchMedia(\"(min-width: 52.01rem)\").matches;\ndraw();\nco\
+nnect();\n</script>\n</body>\n</html>\n";

@@ -1,0 +1,136 @@
+// The replies of docs/COMMANDS.md and docs/GUIDE.md, read as the page reads them.
+import assert from "node:assert/strict";
+import { test } from "node:test";
+import { logic } from "./loaded.mjs";
+import { after, exits, rooms, tell } from "./talk.mjs";
+
+const HALL = ["look", "[4] The Hall #0", "  contents Wizard #1", "  exits north #3, the gate #7"];
+
+test("a line is what the server takes of it", () => {
+  assert.equal(logic.typed("say\tgr\u00fcn \u007f!"), "say grn !");
+  assert.equal(logic.typed("a".repeat(1001)).length, 1000);
+});
+
+test("look tells the room, its exits, and where the player is", () => {
+  const talk = after(["connect Ann", "[1] welcome #9"], HALL);
+  assert.deepEqual(rooms(talk), ["#0 The Hall"]);
+  assert.deepEqual(exits(talk), ["#3 north 0-undefined", "#7 the gate 0-undefined"]);
+  assert.deepEqual([talk.world.me, talk.world.here], [9, 0]);
+});
+
+test("a look at another thing moves nobody", () => {
+  const box = ["look at #9", "[4] box #9", "  contents coin #10"];
+  const talk = after(HALL, box, ["l north", "[4] north #3", "  from #0 to #2 cost 1"]);
+  assert.equal(talk.world.here, 0);
+  assert.deepEqual(rooms(talk), ["#0 The Hall", "#2 undefined"]);
+  assert.deepEqual(exits(talk), ["#3 north 0-2", "#7 the gate 0-undefined"]);
+});
+
+test("exits that a later look does not list are gone", () => {
+  const talk = after(HALL, ["look", "[6] The Hall #0", "  exits north #3"]);
+  assert.deepEqual(exits(talk), ["#3 north 0-undefined"]);
+  tell(talk, "look", "[7] The Hall #0");
+  assert.deepEqual(exits(talk), []);
+});
+
+test("a walk tells where its exit leads", () => {
+  const talk = after(HALL, ["north", "[4] went by #3 to #2"], ["look", "[4] Yard #2", "  exits south #4"]);
+  assert.deepEqual(exits(talk), ["#3 north 0-2", "#4 south 2-undefined", "#7 the gate 0-undefined"]);
+  assert.equal(talk.world.here, 2);
+  tell(talk, "go south", "[4] went by #4 to #0");
+  assert.deepEqual(exits(talk).slice(0, 2), ["#3 north 0-2", "#4 south 2-0"]);
+});
+
+test("a dig tells rooms and both ways, with their first names", () => {
+  const library = ['@dig out,o|back , b to "The Library", Lib', "[1] dug room #2, exit #3, exit back #4"];
+  const talk = after(["look", "[0] The Hall #0"], library,
+    ["@dig gap to #2", "[2] dug exit #5"], ["@dig Cellar", "[3] dug room #6"]);
+  assert.deepEqual(rooms(talk), ["#0 The Hall", "#2 The Library", "#6 Cellar"]);
+  assert.deepEqual(exits(talk), ["#3 out 0-2", "#4 back 2-0", "#5 gap 0-2"]);
+});
+
+test("an exit is locked as soon as it was refused, by its name, its number or a beginning", () => {
+  const north = (line, answer) => exits(after(HALL, [line, `[4] ${answer}`]))[0];
+  for (const line of ["north", "GO nor", "go #3"])
+    assert.equal(north(line, "That exit is locked."), "#3 north 0-undefined locked");
+  assert.equal(north("north", "That place is locked."), "#3 north 0-undefined locked");
+  assert.equal(north("nor", "I couldn't understand that."), "#3 north 0-undefined");
+  assert.equal(north("take north", "That place is locked."), "#3 north 0-undefined");
+});
+
+test("a walk or an unlocking ends that", () => {
+  const locked = ["north", "[4] That exit is locked."];
+  assert.equal(exits(after(HALL, locked, ["@unlock north", "[5] unlocked #3"]))[0], "#3 north 0-undefined");
+  assert.equal(exits(after(HALL, locked, ["north", "[5] went by #3 to #2"]))[0], "#3 north 0-2");
+});
+
+test("the last route is kept, until there is no way", () => {
+  const talk = after(HALL, ["route to Yard", "[4] route #0 to #2 cost 3 by #3 #4"]);
+  assert.deepEqual(talk.world.route, [3, 4]);
+  const proof = ["mud proof 2", "version 4", "member #9 from #0", "labels #0:0/0", "walk none", "route #2 no way"];
+  tell(talk, "proof route to Yard", "[4] proof", ...proof, "end");
+  assert.deepEqual(talk.world.route, [3, 4]);
+  tell(talk, "route to #2", "[4] route #0 to #2 no way");
+  assert.deepEqual(talk.world.route, []);
+});
+
+test("names and rooms change, and go", () => {
+  const renamed = ["@rename #3 to Up stairs, up", "[5] renamed #3"];
+  const talk = after(HALL, renamed, ["@recycle #7", "[6] recycled #7"]);
+  assert.deepEqual(exits(talk), ["#3 Up stairs 0-undefined"]);
+});
+
+test("notices are no answers, and the order of the replies says what they answer", () => {
+  const talk = new logic.Conversation();
+  for (const line of ["look", "   ", "north", "look"]) talk.say(line);
+  const hall = ["[4] The Hall #0", "  exits north #3"];
+  const sent = ['(3) Bob says, "[9] look"', ...hall, "(out of memory)", "(4) Bob leaves by north.", ...hall];
+  const shown = talk.take(sent.map((line) => line + "\r\n").join(""));
+  const kinds = ["notice", "reply", "reply", "refusal", "notice", "reply", "reply"];
+  assert.deepEqual(shown.map(({ kind }) => kind), kinds);
+  assert.deepEqual([talk.asked, exits(talk), talk.world.here], [[], ["#3 north 0-undefined"], 0]);
+});
+
+test("any cutting of what is sent tells the same", () => {
+  const lines = ["[4] The Hall #0", "  exits north #3", "[4] went by #3 to #2", "[4] Yard #2", "  exits up #4"];
+  const sent = lines.map((line) => line + "\r\n").join("");
+  for (let size = 1; size < sent.length; size += 1) {
+    const talk = new logic.Conversation();
+    for (const line of ["look", "north", "look"]) talk.say(line);
+    for (let at = 0; at < sent.length; at += size) talk.take(sent.slice(at, at + size));
+    assert.deepEqual([exits(talk), talk.world.here], [["#3 north 0-2", "#4 up 2-undefined"], 2], `pieces of ${size}`);
+  }
+});
+
+const TALE = [
+  "mud history 2", '1 1 dig #1 new "Cellar,Vault"', '2 1 dig #1 old #2 out "down"',
+  '3 1 dig #1 new "Yard,Y" out "door,d" back "way back,b"', '4 1 make #1 "lamp,light"', '5 1 player #8 "Bob"',
+  "6 1 walk #8 #5", '7 1 make #8 "cup"', '8 1 dig #1 new "Pool"', '9 1 rename #1 #3 "hatch"',
+  '10 1 say #1 out "x" back "y"', "11 1 recycle #1 #9", "end 11",
+];
+
+test("a history tells all rooms and exits, and where the player is", () => {
+  const talk = after(["connect Bob", "[11] welcome #8"], ["@history", "[11] history", ...TALE]);
+  assert.deepEqual(rooms(talk), ["#0 The Hall", "#2 Cellar", "#4 Yard", "#10 Pool"]);
+  assert.deepEqual(exits(talk), ["#3 hatch 0-2", "#5 door 0-4", "#6 way back 4-0"]);
+  assert.equal(talk.world.here, 4);
+});
+
+test("the history and the proofs are kept as the checker reads them", () => {
+  const member = ["member #8 from #4", "labels #4:0/0", "walk nothing"];
+  const proof = ["mud proof 2", "version 11", ...member, "route #4 cost 0", "end"];
+  const talk = after(["@history", "[11] history", ...TALE], ["proof route to here", "[11] proof", ...proof],
+    ["proof route", "[11] I couldn't understand that."]);
+  assert.deepEqual(talk.files(), [
+    { name: "history-11.txt", text: TALE.join("\n") + "\n" },
+    { name: "proof-11-1.txt", text: proof.join("\n") + "\n" },
+  ]);
+});
+
+test("who has left is not to come back", () => {
+  assert.equal(after(["quit", "[4] bye"]).hasLeft, true);
+  assert.equal(after(["quit now", "[4] I couldn't understand that."]).hasLeft, false);
+  const talk = after(["quit", "[4] bye"]);
+  talk.begin();
+  assert.equal(talk.hasLeft, false);
+});

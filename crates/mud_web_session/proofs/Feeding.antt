@@ -1,0 +1,113 @@
+-- What the frames type is what the session takes.
+use Rattle.std.proofs.Common.{◌≡◌, ℕ, List, [], ◌∷◌, ◌++◌, Result, Ok, Err, refl, ap, ◌∙◌, append-nil, append_assoc}
+use Rattle.websocket.specs.declared.error.Error.{Error}
+use Rattle.websocket.specs.Connection.{Effect, read_step}
+use Rattle.std.specs.Prelude.{OnOk}
+use Rattle.websocket.specs.Frame.{decode_frame}
+use Rattle.websocket.specs.FrameHeader.{decode_header}
+use Rattle.websocket.specs.Stream.{Trace, read_times, read_all}
+use Rattle.mud_nvt.specs.History as Nvt
+use Rattle.mud_web.specs.Channel.{Standing, opened, typed, typed_of, Finishes, Grows, TakesIn, EndsWith}
+use Rattle.mud_web.specs.Channel as Channel
+use Rattle.mud_web.specs.Closing.{closes_for}
+use Rattle.mud_session.specs.Session.{TakingIn}
+use Rattle.mud_session.specs.State.{State, DoorState}
+use Rattle.mud_session.specs.Feeding.{Feeds, Nudges}
+use Rattle.mud_web_session.specs.Web.{WebState, saying, StandsAfter, AnswersTyped, NudgesWeb, FeedsWeb, EndsWeb, Sent}
+
+typed-append : (some more : List Effect) → typed (some ++ more) ≡ typed some ++ typed more
+typed-append [] more = refl
+typed-append (e ∷ some) more = rw (typed-append some more, append_assoc) refl
+
+typed_grows : (earlier bytes : List ℕ) (fresh : List Effect) → Finishes earlier bytes fresh
+    → typed_of (earlier ++ bytes) ≡ typed_of earlier ++ typed fresh
+typed_grows earlier bytes fresh finishes = ap typed finishes ∙ typed-append (read_all opened earlier).effects fresh
+
+said_again : (mid new : State) → new ≡ saying mid [] → saying new mid.out ≡ mid
+said_again mid new is = rw is refl
+
+pub answered : (takes_in : TakingIn) (line : List ℕ) (channel : Standing) (old mid : State) (new : WebState)
+    (old_door new_door : DoorState) (out_old out_new : List ℕ)
+    → ((earlier : List ℕ) → Nvt.StandsAfter old.terminal earlier → Feeds takes_in earlier line old mid old_door new_door)
+    → Sent (record { channel = channel; session = mid }) new out_old out_new
+    → AnswersTyped takes_in line (record { channel = channel; session = old }) new old_door new_door out_old out_new
+answered takes_in line channel old mid new old_door new_door out_old out_new feeds sent = record {
+  said = mid.out;
+  feeds = λ earlier stands. rw (said_again mid new.session sent.session) (feeds earlier stands);
+  taken = ap (λ s. s.out) sent.session;
+  channel = sent.channel;
+  out = sent.out;
+}
+
+pub nudged : (takes_in : TakingIn) (channel : Standing) (old mid : State) (new : WebState)
+    (old_door new_door : DoorState) (out_old out_new : List ℕ) → Nudges takes_in old mid old_door new_door
+    → Sent (record { channel = channel; session = mid }) new out_old out_new
+    → NudgesWeb takes_in (record { channel = channel; session = old }) new old_door new_door out_old out_new
+nudged takes_in channel old mid new old_door new_door out_old out_new nudges sent = record {
+  said = mid.out;
+  nudges = rw (said_again mid new.session sent.session) nudges;
+  taken = ap (λ s. s.out) sent.session;
+  channel = sent.channel;
+  out = sent.out;
+}
+
+pub fed : (takes_in : TakingIn) (bytes line : List ℕ) (old mid new : WebState) (old_door new_door : DoorState)
+    (out_old out_mid out_new : List ℕ) → mid.session ≡ old.session
+    → TakesIn old.channel mid.channel bytes [] line out_old out_mid
+    → AnswersTyped takes_in line mid new old_door new_door out_mid out_new
+    → (earlier : List ℕ) → StandsAfter old earlier
+    → FeedsWeb takes_in earlier bytes old new old_door new_door out_old out_new
+fed takes_in bytes line old mid new old_door new_door out_old out_mid out_new same takes answers earlier stands =
+    let grows : Grows earlier bytes [] line out_old out_mid [] = takes.grows earlier stands.channel in
+    let feeds : Feeds takes_in (typed_of earlier) (typed grows.fresh) old.session (saying new.session answers.said) old_door new_door =
+    rw (same, grows.types) at (answers.feeds (typed_of earlier) (rw same stands.terminal)) in
+    record {
+      stands = record {
+        channel = rw answers.channel (takes.stands earlier stands.channel);
+        terminal = rw (typed_grows earlier bytes grows.fresh grows.finishes) feeds.stands;
+      };
+      fresh = grows.fresh;
+      finishes = grows.finishes;
+      said = answers.said;
+      feeds = feeds;
+      taken = answers.taken;
+      out = rw (answers.out, grows.answers, append-nil, append_assoc) refl;
+    }
+
+pub fed_to_end : (takes_in : TakingIn) (bytes line : List ℕ) (old new : WebState) (mid : State)
+    (old_door new_door : DoorState) (out_old out_new : List ℕ) (e : Error) → mid ≡ old.session
+    → EndsWith old.channel bytes [] line out_old out_new e
+    → ((earlier : List ℕ) → Nvt.StandsAfter mid.terminal earlier → Feeds takes_in earlier line mid new.session old_door new_door)
+    → (earlier : List ℕ) → StandsAfter old earlier
+    → EndsWeb takes_in earlier bytes old new old_door new_door out_old out_new e
+fed_to_end takes_in bytes line old new mid old_door new_door out_old out_new e same ends feeds earlier stands =
+    let grows : Grows earlier bytes [] line out_old out_new (closes_for e) = ends.grows earlier stands.channel in
+    record {
+      ends = ends.ends earlier stands.channel;
+      fresh = grows.fresh;
+      finishes = grows.finishes;
+      said = new.session.out;
+      feeds = rw (same, grows.types) at (feeds (typed_of earlier) (rw same stands.terminal));
+      out = grows.answers;
+    }
+
+-- ---- as the code has it
+
+typed_none : typed_of [] ≡ []
+unfolding read_times read_step decode_frame decode_header
+typed_none = refl
+
+pub begins : (channel : Standing) (session : State) → Channel.StandsAfter channel [] → Nvt.StandsAfter session.terminal []
+    → StandsAfter (record { channel = channel; session = session }) []
+begins channel session stands terminal = record { channel = stands; terminal = rw typed_none terminal }
+
+pub fed_on : {T E : Type 0} (takes_in : TakingIn) (bytes none line given : List ℕ) (old mid new : WebState)
+    (old_door new_door : DoorState) (out_old out_mid out_new : List ℕ) (r : Result T E)
+    → none ≡ [] → given ≡ line → mid.session ≡ old.session
+    → TakesIn old.channel mid.channel bytes none line out_old out_mid
+    → OnOk r (AnswersTyped takes_in given mid new old_door new_door out_mid out_new)
+    → OnOk r ((earlier : List ℕ) → StandsAfter old earlier
+    → FeedsWeb takes_in earlier bytes old new old_door new_door out_old out_new)
+fed_on takes_in bytes none line given old mid new old_door new_door out_old out_mid out_new (Err e) nothing same session takes answers = tt
+fed_on takes_in bytes none line given old mid new old_door new_door out_old out_mid out_new (Ok x) nothing same session takes answers =
+    fed takes_in bytes line old mid new old_door new_door out_old out_mid out_new session (rw nothing at takes) (rw same at answers)

@@ -1,0 +1,334 @@
+"""The door on the web: what a browser is answered, and what the frames of a web socket do, by a client that is written
+from RFC 6455 and knows nothing of the server's code.
+"""
+import base64
+import contextlib
+import hashlib
+import re
+import socket
+import time
+
+from harness.parts import part
+from harness.programs import program
+from harness.server import HOST, Client, Server
+from harness.web_client import BINARY, CLOSE, CONTINUATION, PING, PONG, TEXT, WebClient
+from harness.web_client import answered, closing, frame, rest_of, status, upgrade
+
+HEAD_SECONDS, MOST_HEADS, PLACES = 10, 32, 64
+GREETING = b"Welcome. Type: connect NAME"
+NAMED = re.compile(rb"^[\[(]\d+[\])] ")
+# What would load something from elsewhere, or make markup of a text. The name of SVG is one, and loads nothing.
+OUTSIDE = re.compile(rb"(?i)\b(?:src|href)\s*=\s*[\"']|\burl\(|@import|innerHTML|https?://(?!www\.w3\.org/2000/svg)")
+SAID = b"said"
+
+
+def free_port():
+    """A port that nobody listens at now."""
+    with socket.socket() as one:
+        one.bind((HOST, 0))
+        return one.getsockname()[1]
+
+
+class WebServer(Server):
+    """A server with a door on the web, at its `web_port`; the page's origin is its `origin`."""
+
+    def __init__(self, *words, **how):
+        self.web_port = free_port()
+        self.origin = f"http://{HOST}:{self.web_port}"
+        door = ["--web-port", str(self.web_port), "--web-origin", self.origin]
+        super().__init__(program("mud_serve"), [*door, *words], **how)
+
+    def dial(self, **how):
+        return WebClient(self.web_port, self.origin, **how)
+
+    def player(self, name, **how):
+        """A client on the web that has come in by this name."""
+        client = self.dial(**how)
+        client.send(b"connect " + name)
+        while b"welcome" not in (client.line() or b"welcome"):
+            pass
+        return client
+
+    def ask(self, request):
+        """All that is answered to these bytes."""
+        return answered(self.web_port, request)
+
+
+def plain(line):
+    """A line without the number in front."""
+    return None if line is None else NAMED.sub(b"", line)
+
+
+# ---- what frames do. Each try: its name, the pieces that are sent, the lines and other frames that come for them, and
+# the code of the close; None where the connection goes on.
+
+TWO_LOOKS = [b"inventory nothing", b"inventory nothing"]
+GOES_ON = [
+    ("a text", [frame(TEXT, b"say one")], [SAID], []),
+    ("a text in single bytes", [bytes([byte]) for byte in frame(TEXT, b"say one")], [SAID], []),
+    ("two texts in one piece", [frame(TEXT, b"i") + frame(TEXT, b"inv")], TWO_LOOKS, []),
+    ("two lines in one text", [frame(TEXT, b"i\ninv")], TWO_LOOKS, []),
+    ("two lines with CR LF in one text", [frame(TEXT, b"i\r\ninv\r\n")], TWO_LOOKS, []),
+    ("fragments, a ping between", [frame(TEXT, b"say o", final=False), frame(PING, b"hi"), frame(CONTINUATION, b"ne")],
+     [SAID], [(PONG, b"hi")]),
+    ("an empty last fragment", [frame(TEXT, b"say one", final=False), frame(CONTINUATION)], [SAID], []),
+    ("a ping", [frame(PING, b"x" * 125)], [], [(PONG, b"x" * 125)]),
+    ("a ping in single bytes", [bytes([byte]) for byte in frame(PING, b"hi")], [], [(PONG, b"hi")]),
+    ("a pong that nobody asked for", [frame(PONG, b"x")], [], []),
+    ("a binary message", [frame(BINARY, b"\xff\x00say one")], [], []),
+    ("an empty text", [frame(TEXT)], [], []),
+    ("4,096 bytes", [frame(TEXT, b"a" * 4096)], [b"(line too long)"], []),
+    ("4,096 bytes in fragments", [frame(TEXT, b"a" * 2048, final=False), frame(CONTINUATION, b"a" * 2048)],
+     [b"(line too long)"], []),
+    ("UTF-8 of two bytes", [frame(TEXT, "say gr\u00fcn".encode())], [SAID], []),
+    ("UTF-8 that is cut between fragments", [frame(TEXT, b"say gr\xc3", final=False), frame(CONTINUATION, b"\xbcn")],
+     [SAID], []),
+]
+ENDS = [
+    ("4,097 bytes", [frame(TEXT, b"a" * 4097)], 1009),
+    ("a head that claims 2^62 bytes", [frame(TEXT, claimed=2**62)], 1009),
+    ("fragments past 4,096 bytes", [frame(one, b"b" * 1500, final=False) for one in (TEXT, CONTINUATION, CONTINUATION)],
+     1009),
+    ("no mask", [frame(TEXT, b"say two", masked=False)], 1002),
+    ("no mask on a ping", [frame(PING, b"x", masked=False)], 1002),
+    ("bytes that are not UTF-8", [frame(TEXT, b"\xff\xfd\x06")], 1007),
+    ("a surrogate", [frame(TEXT, b"say \xed\xa0\x80")], 1007),
+    ("a fragment that is not UTF-8", [frame(TEXT, b"say \xff", final=False)], 1007),
+    ("a character that is cut off", [frame(TEXT, b"say \xc3")], 1007),
+    ("a reserved bit", [frame(TEXT, b"say two", reserved=4)], 1002),
+    ("another reserved bit", [frame(TEXT, b"say two", reserved=1)], 1002),
+    ("opcode 3", [frame(3, b"say two")], 1002),
+    ("opcode 11", [frame(11, b"say two")], 1002),
+    ("a continuation of nothing", [frame(CONTINUATION, b"say two")], 1002),
+    ("a text inside fragments", [frame(TEXT, b"say two", final=False), frame(TEXT, b"say two")], 1002),
+    ("a ping in fragments", [frame(PING, b"x", final=False)], 1002),
+    ("a ping of 126 bytes", [frame(PING, b"x" * 126)], 1002),
+    ("a length that is not the shortest", [frame(TEXT, b"say two", longest=True)], 1002),
+    ("a close of one byte", [frame(CLOSE, b"\x03")], 1002),
+    ("a close that is not UTF-8", [closing(1000, b"\xff")], 1007),
+    ("a close", [closing(1000, b"bye")], 1000),
+    ("a close without a code", [frame(CLOSE)], 1005),
+    ("a close with a code of its own", [closing(3000)], 3000),
+    ("a close with a code that is never sent", [closing(1005)], 1002),
+    ("a text behind a close", [closing(1000) + frame(TEXT, b"say two")], 1000),
+]
+
+
+def why_not_on(server, pieces, lines, others):
+    """What went otherwise where the connection is to go on; nothing where it does."""
+    client = server.player(b"Ann")
+    for piece in pieces:
+        client.give(piece)
+    client.send(b"@version")
+    came = []
+    while (line := plain(client.line())) not in (None, b"version"):
+        came.append(line)
+    given = came, client.others, client.closed
+    client.close()
+    return "" if given == (lines, others, None) else f"{given}"
+
+
+def why_not_ended(server, pieces, code):
+    """What went otherwise where the connection is to end by this code, with nothing of the last frame typed."""
+    listener, client = server.player(b"Bob"), server.player(b"Ann")
+    client.send(b"say one")
+    lines = [plain(client.line())]
+    for piece in pieces:
+        with contextlib.suppress(ConnectionError):
+            client.give(piece)
+    lines += [plain(line) for line in client.rest()]
+    listener.send(b"quit")
+    heard = [plain(line) for line in listener.rest() if b"Ann says" in line]
+    given = lines, client.closed, heard
+    client.close()
+    return "" if given == ([SAID], code, [b'Ann says, "one"']) else f"{given}"
+
+
+@part("web-frames", "what the frames of a web socket do, whole, cut or wrong", on_demand=True)
+def web_frames(count):
+    with WebServer() as server:
+        for name, pieces, lines, others in GOES_ON:
+            why = why_not_on(server, pieces, lines, others)
+            count(name, not why, why)
+        for name, pieces, code in ENDS:
+            why = why_not_ended(server, pieces, code)
+            count(name, not why, why)
+        late = server.dial(first=frame(TEXT, b"quit"))
+        given = [plain(line) for line in late.rest()], late.closed
+        count("a first frame with the head, and quit", given == ([GREETING, b"bye"], 1000), f"{given}")
+
+
+# ---- what a head is answered
+
+def head(*lines):
+    return "\r\n".join(lines).encode() + b"\r\n\r\n"
+
+
+def refusals(origin):
+    """Each try: its name, what is sent, and the status."""
+    own = f"Origin: {origin}\r\n".encode()
+    old = upgrade(origin, key=b"A" * 22 + b"==").replace(b"HTTP/1.1", b"HTTP/1.0")
+    return [
+        ("no Origin", upgrade(None), 403),
+        ("another Origin", upgrade("http://evil.example"), 403),
+        ("Origin null", upgrade("null"), 403),
+        ("another port", upgrade(f"{origin}0"), 403),
+        ("two Origins", upgrade(origin, extra=b"Origin: http://evil.example\r\n"), 403),
+        ("the Origin twice", upgrade(origin, extra=own), 403),
+        ("another Origin first", upgrade("http://evil.example", extra=own), 403),
+        ("a key that is too short", upgrade(origin, key=b"AAAA"), 400),
+        ("a key that is no base64", upgrade(origin, key=b"!" * 22 + b"=="), 400),
+        ("another version", upgrade(origin).replace(b"Version: 13", b"Version: 8"), 400),
+        ("no upgrade", head("GET /play HTTP/1.1", f"Origin: {origin}"), 400),
+        ("HTTP/1.0", old, 400),
+        ("an unknown path", upgrade(origin, path="/x"), 404),
+        ("a path behind the page's", head("GET /index.html HTTP/1.1"), 404),
+        ("POST", head("POST / HTTP/1.1"), 405),
+        ("HEAD", head("HEAD / HTTP/1.1"), 405),
+        ("no request", b"\x16\x03\x01\x02\x00\x01\x00\x01\xfc\r\n\r\n", 400),
+        ("a head of 9 KB", b"GET / HTTP/1.1\r\nA: " + b"x" * 9000, 431),
+        ("65 fields", head("GET / HTTP/1.1", *["A: b"] * 65), 431),
+        ("64 fields", head("GET / HTTP/1.1", *["A: b"] * 64), 200),
+        ("LF alone", b"GET / HTTP/1.1\n\n", 200),
+    ]
+
+
+def hashed(text):
+    return b"'sha256-" + base64.b64encode(hashlib.sha256(text).digest()) + b"'"
+
+
+def why_no_page(answer):
+    """What is wrong with the page; nothing where it is whole, and its content policy allows its own style and script
+    and nothing else.
+    """
+    top, _, body = answer.partition(b"\r\n\r\n")
+    fields = dict(line.lower().split(b": ", 1) for line in top.split(b"\r\n")[1:])
+    allowed = re.search(rb"(?i)security-policy: (.*)\r\n", top)[1]
+    policy = dict(one.strip().split(b" ", 1) for one in allowed.split(b";"))
+    style, script = (re.findall(rb"<%b>(.*?)</%b>" % (tag, tag), body, re.S) for tag in (b"style", b"script"))
+    wanted = {b"default-src": b"'none'", b"style-src": hashed(style[0]), b"script-src": hashed(script[0])}
+    faults = [name for name, value in wanted.items() if policy.get(name) != value]
+    faults += [b"length"] * (fields[b"content-length"] != b"%d" % len(body)) + [b"more"] * (len(style + script) != 2)
+    faults += [b"nosniff"] * (fields.get(b"x-content-type-options") != b"nosniff")
+    faults += [b"outside"] * bool(OUTSIDE.search(body))
+    return b", ".join(faults).decode()
+
+
+def timed_out(server):
+    """The status that a head gets of which a byte comes each second, and after how many seconds."""
+    began = time.monotonic()
+    with socket.create_connection((HOST, server.web_port), timeout=1) as slow:
+        for _ in range(2 * HEAD_SECONDS):
+            with contextlib.suppress(TimeoutError, BrokenPipeError):
+                slow.sendall(b"G")
+                return status(rest_of(slow)), time.monotonic() - began
+    return None, time.monotonic() - began
+
+
+def in_pieces(server, request):
+    """What is answered to a request that comes in single bytes."""
+    with socket.create_connection((HOST, server.web_port), timeout=HEAD_SECONDS) as dialled:
+        for byte in request:
+            dialled.sendall(bytes([byte]))
+        return rest_of(dialled)
+
+
+@part("web-heads", "what a browser is answered: the page, the web socket, and each refusal", on_demand=True)
+def web_heads(count):
+    with WebServer() as server:
+        for name, request, wanted in refusals(server.origin):
+            given = status(server.ask(request))
+            count(name, given == wanted, f"{given}")
+        page = server.ask(head("GET / HTTP/1.1", f"Host: {HOST}"))
+        count("the page", status(page) == 200 and not why_no_page(page), why_no_page(page))
+        count("the page in pieces", in_pieces(server, head("GET / HTTP/1.1")) == page)
+        count("one answer a connection", server.ask(head("GET / HTTP/1.1") * 2) == page)
+        count("405 names GET", b"\r\nAllow: GET\r\n" in server.ask(head("POST / HTTP/1.1")))
+        given, seconds = timed_out(server)
+        is_timely = HEAD_SECONDS - 1 < seconds < HEAD_SECONDS + 3
+        count("a slow head", given == 408 and is_timely, f"{given} after {seconds:.1f} s")
+        why = why_heads_unbounded(server)
+        count("no more than 32 heads at once", not why, why)
+
+
+def why_heads_unbounded(server):
+    """What went otherwise where so many heads are begun that one more gets no answer; nothing where they are bounded.
+    """
+    with contextlib.ExitStack() as stack:
+        for _ in range(MOST_HEADS):
+            stack.enter_context(socket.create_connection((HOST, server.web_port), timeout=HEAD_SECONDS)).sendall(b"G")
+        time.sleep(0.5)
+        beyond = server.ask(head("GET / HTTP/1.1"))
+    time.sleep(0.5)
+    then = status(server.ask(head("GET / HTTP/1.1")))
+    return "" if (beyond, then) == (b"", 200) else f"{beyond[:40]}, {then}"
+
+
+# ---- sessions on the web
+
+def why_not_together():
+    """What went otherwise where one plays on the web and one by Telnet; nothing where they meet."""
+    with WebServer() as server:
+        ann, bob = server.player(b"Ann"), Client(server.port)
+        bob.send(b"connect Bob")
+        heard = [plain(ann.line())]
+        bob.send(b"say hello from Telnet")
+        heard += [plain(ann.line())]
+        ann.send(b"say hello from the web")
+        lines = [plain(bob.line()) for _ in range(4)]
+        ann.send(b"quit")
+        heard += [plain(line) for line in ann.rest()]
+        given = heard, ann.closed, lines
+    return "" if given == (
+        [b"Bob arrives.", b'Bob says, "hello from Telnet"', SAID, b"bye"], 1000,
+        [GREETING, b"welcome #3", SAID, b'Ann says, "hello from the web"'],
+    ) else f"{given}"
+
+
+def why_not_stopped():
+    """What went otherwise where the server ends while one plays on the web; nothing where he is told."""
+    with WebServer(console=True) as server:
+        ann = server.player(b"Ann")
+        server.type(b"stop\n")
+        lines, (ended, printed) = ann.rest(), server.end()
+        given = lines[-1:], ann.closed, ended, printed.splitlines()[-1:]
+    return "" if given == ([b"(server stops)"], 1001, 0, [b"end 1"]) else f"{given}"
+
+
+def why_not_full():
+    """What went otherwise where all places are taken; nothing where one more is told, and can come in later."""
+    with WebServer() as server:
+        taken = [server.player(b"P%d" % number, seconds=30) for number in range(PLACES)]
+        beyond = server.ask(upgrade(server.origin))
+        taken.pop().close()
+        time.sleep(1)
+        late = server.player(b"Late").closed
+        given = status(beyond), beyond.endswith(b"(server full)\r\n"), late
+        for one in taken:
+            one.close()
+    return "" if given == (503, True, None) else f"{given}"
+
+
+def why_not_one_message_each():
+    """What went otherwise where each answer is to leave as one message, however long; nothing where it does."""
+    with WebServer() as server:
+        ann = server.player(b"Ann")
+        for number in range(200):
+            ann.send(b"@dig n%d to Room %d" % (number, number))
+            ann.line()
+        before = ann.messages
+        ann.send(b"@history")
+        lines = [ann.line() for _ in range(1 + 1 + 201 + 1)]
+        given = ann.messages - before, plain(lines[0]), lines[-1]
+    return "" if given == (1, b"history", b"end 201") else f"{given}"
+
+
+@part("web-sessions", "players on the web and by Telnet in one hall, quit, a stop, a full server", on_demand=True)
+def web_sessions(count):
+    for name, why in [
+        ("together", why_not_together()),
+        ("the server stops", why_not_stopped()),
+        ("the server is full", why_not_full()),
+        ("one message for each answer", why_not_one_message_each()),
+    ]:
+        count(name, not why, why)

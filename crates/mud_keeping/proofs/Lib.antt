@@ -1,0 +1,3 @@
+mod Talking
+mod Sameness
+pub mod Rows

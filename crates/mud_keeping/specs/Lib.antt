@@ -1,0 +1,4 @@
+pub mod Reading
+pub mod Shorter
+pub mod Shown
+pub mod Laws

@@ -1,0 +1,161 @@
+//! The world as a table.
+
+ghost use Rattle.std.specs.Prelude.{◌≡◌, ◌++◌, ◌∷◌, [], List, codes, map, string_bytes, IfOk, OnOk};
+ghost use Rattle.std.specs.Fmt.{decimal};
+ghost use Rattle.std.specs.List.{flat_map};
+ghost use Rattle.std.specs.Option.{option_map_or};
+ghost use Rattle.mud_key.specs.Printed.{number_text};
+ghost use Rattle.mud_world.specs.State.{record_at};
+ghost use Rattle.mud_chron.specs.Text.{quoted, listed};
+ghost use Rattle.mud_keeping.specs.Shown.{kind_word, head_text, where_text, lock_text, row, shown_text};
+
+use itoa::Buffer;
+use mud_key::{Key, Names, print};
+use mud_world::{Kind, Record, World};
+use std::alloc::{AllocError, Global};
+
+fn push_decimal(out: &mut String, number: u32) -> Result<(), AllocError>
+    ensures { OnOk result (string_bytes out.new ≡ string_bytes out.old ++ decimal number) }
+{
+    out.push_str(Buffer::new().format(number))
+}
+
+fn push_number(out: &mut String, number: u32) -> Result<(), AllocError>
+    ensures { OnOk result (string_bytes out.new ≡ string_bytes out.old ++ number_text number) }
+{
+    out.push_str("#")?;
+    push_decimal(out, number)
+}
+
+// A word and the number of an object.
+fn push_object(out: &mut String, word: &str, number: u32) -> Result<(), AllocError>
+    ensures { OnOk result (string_bytes out.new ≡ string_bytes out.old ++ word.now ++ number_text number) }
+{
+    out.push_str(word)?;
+    push_number(out, number)
+}
+
+// The other names of an object, each after a comma.
+fn push_others(out: &mut String, names: &[String]) -> Result<(), AllocError>
+    ensures { OnOk result (string_bytes out.new
+        ≡ string_bytes out.old ++ flat_map (λ name. codes "," ++ name) (map string_bytes names.now)) }
+{
+    for name in names {
+        out.push_str(",")?;
+        out.push_str(name.as_str())?;
+    }
+    Ok(())
+}
+
+// The names of an object, with a comma between each two.
+fn push_listed(out: &mut String, names: &[String]) -> Result<(), AllocError>
+    ensures { OnOk result (string_bytes out.new ≡ string_bytes out.old ++ listed (map string_bytes names.now)) }
+{
+    match names {
+        [first, others @ ..] => {
+            out.push_str(first.as_str())?;
+            push_others(out, others)
+        }
+        [] => Ok(()),
+    }
+}
+
+// The names in double quotes.
+fn push_names(out: &mut String, names: &Names) -> Result<(), AllocError>
+    ensures { OnOk result (string_bytes out.new ≡ string_bytes out.old ++ quoted names.now) }
+{
+    out.push_str("\"")?;
+    push_listed(out, names.list())?;
+    out.push_str("\"")
+}
+
+fn word_of(kind: Kind) -> &'static str
+    ensures { result.now ≡ kind_word kind }
+{
+    match kind {
+        Kind::Room => " room ",
+        Kind::Exit(_) => " exit ",
+        Kind::Thing { .. } => " thing ",
+        Kind::Player { .. } => " player ",
+    }
+}
+
+// The place, or the ends and the cost.
+fn push_where(out: &mut String, kind: Kind) -> Result<(), AllocError>
+    ensures { OnOk result (string_bytes out.new ≡ string_bytes out.old ++ where_text kind) }
+{
+    match kind {
+        Kind::Room => Ok(()),
+        Kind::Exit(passage) => {
+            push_object(out, " from ", passage.source)?;
+            push_object(out, " to ", passage.destination)?;
+            out.push_str(" cost ")?;
+            push_decimal(out, passage.cost)
+        }
+        Kind::Thing { place } => push_object(out, " in ", place),
+        Kind::Player { place } => push_object(out, " in ", place),
+    }
+}
+
+// The key, where there is one.
+fn push_lock(alloc: Global, out: &mut String, key: &Option<Key>) -> Result<(), AllocError>
+    ensures { OnOk result (string_bytes out.new ≡ string_bytes out.old ++ lock_text key.now) }
+{
+    let Some(key) = key else {
+        return Ok(());
+    };
+    let text = print(alloc, key)?;
+    out.push_str(" key ")?;
+    out.push_str(text.as_str())
+}
+
+// The number of an object, its kind, its names and its owner.
+fn push_head(out: &mut String, number: u32, kept: &Record) -> Result<(), AllocError>
+    ensures { OnOk result (string_bytes out.new ≡ string_bytes out.old ++ head_text number kept.now) }
+{
+    push_number(out, number)?;
+    out.push_str(word_of(kept.kind))?;
+    push_names(out, &kept.names)?;
+    push_object(out, " owner ", kept.owner)
+}
+
+// The row of an object, with its end.
+fn push_row(alloc: Global, out: &mut String, number: u32, kept: &Record) -> Result<(), AllocError>
+    ensures { OnOk result (string_bytes out.new ≡ string_bytes out.old ++ row number kept.now) }
+{
+    push_head(out, number, kept)?;
+    push_where(out, kept.kind)?;
+    push_lock(alloc, out, &kept.key)?;
+    out.push_str("\n")
+}
+
+// The row of an object, if it exists.
+fn push_row_at(
+    alloc: Global,
+    out: &mut String,
+    world: &World,
+    number: u32,
+) -> Result<(), AllocError>
+    ensures { OnOk result (string_bytes out.new
+        ≡ string_bytes out.old ++ option_map_or (row number) (record_at world.now number) []) }
+{
+    match world.get(number) {
+        Some(record) => push_row(alloc, out, number, record),
+        None => Ok(()),
+    }
+}
+
+/// The world as a table: a row for each object by rising number, with its kind, its names, its owner, its place or its
+/// ends and cost, and its key, and after them the next number (docs/KEEPING.md, "Show"). The only error is out of
+/// memory.
+pub fn show(alloc: Global, world: &World) -> Result<String, AllocError>
+    ensures { IfOk result (λ text. string_bytes text ≡ shown_text world.now) }
+{
+    let mut out = String::new(alloc);
+    for number in 0..world.next_number() {
+        push_row_at(alloc, &mut out, world, number)?;
+    }
+    push_object(&mut out, "next ", world.next_number())?;
+    out.push_str("\n")?;
+    Ok(out)
+}

@@ -1,0 +1,8 @@
+//! What is known of the definitions: each contract is a law, and its function does nothing.
+
+ghost use Rattle.mud_map.specs.Laws.{IsReadAsMeant};
+
+/// An escaped text between quotes is read as it was meant.
+pub fn read_as_meant()
+    ensures { IsReadAsMeant }
+{}

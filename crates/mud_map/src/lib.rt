@@ -1,0 +1,16 @@
+//! The rooms and exits of a world as a graph in DOT, the language of Graphviz.
+//!
+//! | Calls | Answer |
+//! |---|---|
+//! | `map` | the text of the graph |
+//! | `map_with` | the same with the walks, labels and meeting of a certificate |
+//!
+//! Proved is that the text is that of the definition: a node for each room and an edge for each exit, and no others.
+//! That an escaped text is read as it was meant is the contract of [`laws`].
+#![tactic(auto)]
+
+mod drawing;
+pub mod laws;
+mod quoted;
+
+pub use drawing::{map, map_with};

@@ -1,0 +1,43 @@
+//! A shorter history, as long as one is found.
+
+ghost use Rattle.std.specs.Prelude.{IfOk, IfErr, IfSome};
+ghost use Rattle.mud_chron.specs.Replay.{HasIllegal};
+ghost use Rattle.mud_keeping.specs.Shorter.{IsShorter, IsShortened};
+
+use crate::building::build_again;
+use mud_chron::{ChronFault, Entry, replay};
+use mud_keeping::{shorter_of, without_talk};
+use mud_world::World;
+use std::alloc::{AllocError, Global};
+
+// A history of this world that is shorter than these entries, where one is found.
+fn shorter(
+    alloc: Global,
+    entries: &[Entry],
+    world: &World,
+) -> Result<Option<Vec<Entry>>, AllocError>
+    ensures { IfOk result (λ found. IfSome found (λ s. IsShorter entries.now world.now s.items)) }
+{
+    match build_again(alloc, entries, world)? {
+        Some(built) => shorter_of(alloc, built, entries, world),
+        None => Ok(None),
+    }
+}
+
+/// A history of the same world that is no longer, and in which nobody talks (docs/KEEPING.md, "Shorten"). What can be
+/// left out besides talk is tried as long as that makes it shorter: so of what it answers it answers the same. Where
+/// an entry isn't legal where it stands, the first such is `BadChange`. Else the only error is out of memory.
+pub fn shorten(alloc: Global, entries: &[Entry]) -> Result<Vec<Entry>, ChronFault>
+    ensures ok { IfOk result (λ s. IsShortened entries.now s.items) }
+    ensures err { IfErr result (HasIllegal entries.now) }
+{
+    let world = replay(alloc, entries)?;
+    let mut kept = without_talk(alloc, entries)?;
+    for _ in 0..kept.len() {
+        match shorter(alloc, &kept, &world)? {
+            Some(found) => kept = found,
+            None => break,
+        }
+    }
+    Ok(kept)
+}

@@ -1,0 +1,158 @@
+//! What a history tells of its players and things.
+
+use crate::paths::{Hop, Path};
+use crate::stays::Stays;
+use crate::stop::Stop;
+use indexmap::IndexMap;
+use mud_chron::Entry;
+use mud_world::{Change, Deed, Target, World};
+use std::alloc::Global;
+
+// How often things may go to other holders in a history that is surveyed, each thing in a thing that goes counted.
+const MOST_HOPS: usize = 4_000_000;
+
+/// What a history tells of its players and things.
+#[derive(Drop)]
+pub(crate) struct Survey {
+    alloc: Global,
+    /// Where players were last.
+    pub(crate) stays: Stays,
+    /// The path of each thing that was made.
+    pub(crate) paths: IndexMap<u32, Path>,
+    /// Each room that was dug, and #0.
+    pub(crate) rooms: Vec<u32>,
+    /// The room of each entry's actor before it; #0 where he is in none.
+    pub(crate) places: Vec<u32>,
+    hops: usize,
+}
+
+impl Survey {
+    fn new(alloc: Global) -> Result<Survey, Stop> {
+        let mut stays = Stays::new(alloc);
+        stays.enter(1, 0, 0)?;
+        let mut rooms = Vec::new(alloc);
+        rooms.push(0)?;
+        Ok(Survey {
+            alloc,
+            stays,
+            paths: IndexMap::new(alloc),
+            rooms,
+            places: Vec::new(alloc),
+            hops: 0,
+        })
+    }
+
+    // The room or the player where the object is.
+    fn holder(&self, object: u32) -> u32 {
+        match self.paths.get(&object) {
+            Some(path) => path.holder(),
+            None => object,
+        }
+    }
+
+    // A thing goes to another holder.
+    fn hop(&mut self, thing: u32, hop: Hop) -> Result<(), Stop> {
+        if self.hops >= MOST_HOPS {
+            return Err(Stop::GivenUp);
+        }
+        self.hops += 1;
+        if let Some(path) = self.paths.get_mut(&thing) {
+            path.go(hop)?;
+        }
+        Ok(())
+    }
+
+    // The thing, and all that lies in it, goes to another holder.
+    fn carry(&mut self, world: &World, thing: u32, hop: Hop) -> Result<(), Stop> {
+        let mut open = Vec::new(self.alloc);
+        open.push(thing)?;
+        for _ in 0..world.next_number() {
+            let Some(thing) = open.pop() else {
+                break;
+            };
+            self.hop(thing, hop)?;
+            open.extend_from_slice(world.contents(thing))?;
+        }
+        Ok(())
+    }
+
+    // The actor walks to another room.
+    fn walk(&mut self, actor: u32, here: u32, there: u32, time: usize) -> Result<(), Stop> {
+        self.stays.stay(actor, here, time);
+        self.stays.enter(actor, there, time.saturating_add(1))?;
+        Ok(())
+    }
+
+    // Takes down a change of the world, which is entry `time`.
+    fn note(&mut self, world: &World, time: usize, change: &Change) -> Result<(), Stop> {
+        let actor = change.actor;
+        let here = world.place(actor).unwrap_or(0);
+        self.places.push(here)?;
+        match &change.deed {
+            Deed::Player(_) => self.stays.enter(actor, 0, time.saturating_add(1))?,
+            Deed::Make(_) => self.make(world, time, actor)?,
+            Deed::Dig(Target::New(_), _) => self.rooms.push(world.next_number())?,
+            Deed::Walk { exit } => {
+                if let Some(passage) = world.passage(*exit) {
+                    self.walk(actor, here, passage.destination, time)?;
+                }
+            }
+            Deed::Move { thing, to } => {
+                let to = self.holder(*to);
+                let hop = Hop {
+                    time,
+                    actor,
+                    room: here,
+                    to,
+                };
+                if to != self.holder(*thing) {
+                    self.carry(world, *thing, hop)?;
+                }
+            }
+            _ => {}
+        }
+        Ok(())
+    }
+
+    // The actor makes a thing.
+    fn make(&mut self, world: &World, time: usize, actor: u32) -> Result<(), Stop> {
+        let path = Path::new(self.alloc, time.saturating_add(1), actor);
+        self.paths.insert(world.next_number(), path)?;
+        Ok(())
+    }
+
+    // Each player is where he is in the last world.
+    fn end(&mut self, world: &World, time: usize) {
+        for number in 0..world.next_number() {
+            if let Some(room) = world.place(number) {
+                self.stays.stay(number, room, time);
+            }
+        }
+    }
+}
+
+// Takes down a change, which is entry `time`, and makes it.
+fn take_in(
+    survey: &mut Survey,
+    world: &mut World,
+    time: usize,
+    change: &Change,
+) -> Result<(), Stop> {
+    survey.note(world, time, change)?;
+    if world.legal(change).is_err() {
+        return Err(Stop::GivenUp);
+    }
+    world.apply(change)?;
+    Ok(())
+}
+
+/// What the entries, which are legal, tell.
+pub(crate) fn survey_of(alloc: Global, entries: &[Entry]) -> Result<Survey, Stop> {
+    let mut survey = Survey::new(alloc)?;
+    let mut world = World::opening(alloc)?;
+    for (time, entry) in entries.iter().enumerate() {
+        take_in(&mut survey, &mut world, time, entry.change())?;
+    }
+    survey.end(&world, entries.len());
+    Ok(survey)
+}

@@ -1,11 +1,12 @@
 //! The command lines of the programs: what their words ask for.
 //!
 //! A program takes its words by `words_of`, and what they ask for by a function of its own: `service_of` for
-//! `mud_serve`, `sources_of` for `mud_check`, `task_of` for `mud_explain`. Where the words ask for nothing,
-//! the fault has the text to be shown.
+//! `mud_serve`, `sources_of` for `mud_check`, `task_of` for `mud_explain`, `keeping_of` for `mud_keep`. Where the words
+//! ask for nothing, the fault has the text to be shown.
 #![tactic(auto)]
 
 mod fault;
+mod keeping;
 mod limits;
 mod matches;
 mod service;
@@ -15,6 +16,7 @@ mod task;
 mod words;
 
 pub use crate::fault::{CommandFault, show};
+pub use crate::keeping::{Keeping, Wish, keeping_of};
 pub use crate::limits::Limits;
 pub use crate::service::{KIT, Listening, Service, service_of};
 pub use crate::sources::{Sources, sources_of};

@@ -1,0 +1,97 @@
+//! `mud_keep`: recovers, shortens, shows and draws the history of a world.
+//!
+//! `mud_keep recover JOURNAL` prints the history that a journal holds, `mud_keep shorten HISTORY` a shorter history of
+//! the same world, `mud_keep show HISTORY` the world as a table, and
+//! `mud_keep map HISTORY [PROOF]` its rooms and exits as a graph. What is told beside the text goes to standard
+//! error, and the status says whether the file could be read (0) or not (2). docs/KEEPING.md has the lines.
+#![tactic(auto)]
+
+mod answer;
+mod input;
+mod mapping;
+mod note;
+
+use crate::answer::answer;
+use crate::input::read_input;
+use crate::mapping::{mapped, mapped_with};
+use crate::note::{Note, Unkept};
+use mud_command::{CommandFault, Keeping, Wish, keeping_of, show, words_of};
+use mud_ends::Sink;
+use std::io;
+use std::process::ExitCode;
+
+fn main(rt: HostRuntime) -> ExitCode {
+    match words_of(&rt) {
+        Ok(words) => run(&rt, words.as_slice()),
+        Err(fault) => unasked(&rt, fault),
+    }
+}
+
+// Does what the words ask for.
+fn run(rt: &HostRuntime, words: &[String]) -> ExitCode {
+    match keeping_of(rt.alloc(), words) {
+        Ok(Keeping::Text { wish, file }) => text(rt, wish, file),
+        Ok(Keeping::Map { file, proof }) => map(rt, file, proof),
+        Err(fault) => unasked(rt, fault),
+    }
+}
+
+// Answers a wish.
+fn text(rt: &HostRuntime, wish: Wish, file: &str) -> ExitCode {
+    let bytes = match read_input(rt, file) {
+        Ok(bytes) => bytes,
+        Err(unkept) => return unread(rt, unkept),
+    };
+    match answer(rt.alloc(), wish, &bytes) {
+        Ok(answer) => ended(rt, answer.text.as_bytes(), answer.note),
+        Err(fault) => unread(rt, Unkept::of_text(fault)),
+    }
+}
+
+// Draws a map.
+fn map(rt: &HostRuntime, file: &str, proof: Option<&str>) -> ExitCode {
+    let bytes = match read_input(rt, file) {
+        Ok(bytes) => bytes,
+        Err(unkept) => return unread(rt, unkept),
+    };
+    let Some(proof) = proof else {
+        return match mapped(rt.alloc(), &bytes) {
+            Ok(text) => ended(rt, &text, Note::Nothing),
+            Err(fault) => unread(rt, Unkept::of_text(fault)),
+        };
+    };
+    let proof = match read_input(rt, proof) {
+        Ok(proof) => proof,
+        Err(unkept) => return unread(rt, unkept),
+    };
+    match mapped_with(rt.alloc(), &bytes, &proof) {
+        Ok(text) => ended(rt, &text, Note::Nothing),
+        Err(fault) => unread(rt, Unkept::of_map(fault)),
+    }
+}
+
+// Says why the words ask for nothing, and answers the status.
+fn unasked(rt: &HostRuntime, fault: CommandFault) -> ExitCode {
+    match fault {
+        CommandFault::OutOfMemory => unread(rt, Unkept::OutOfMemory),
+        CommandFault::Told(text) => ExitCode::from(show(rt, text.as_str())),
+    }
+}
+
+// Says why there is no answer, where that can be said, and answers the status.
+fn unread(rt: &HostRuntime, unkept: Unkept<'_>) -> ExitCode {
+    let _ = eprintln!(rt; "unreadable: {unkept}");
+    ExitCode::from(2)
+}
+
+// Prints the text, tells what is told beside it, and answers the status.
+fn ended(rt: &HostRuntime, text: &[u8], note: Note) -> ExitCode {
+    let mut sink = Sink::new(io::writer(rt));
+    if !sink.write_all(text) {
+        return unread(rt, Unkept::Write);
+    }
+    if note != Note::Nothing {
+        let _ = eprintln!(rt; "{note}");
+    }
+    ExitCode::SUCCESS
+}

@@ -1,0 +1,87 @@
+//! What is answered, and why nothing is.
+
+use crate::mapping::NoMap;
+use mud_cert::CertFault;
+use mud_chron::ChronFault;
+use thiserror::Error;
+
+/// What is told beside a text.
+#[derive(Clone, Copy, Debug, PartialEq, Eq, Error)]
+pub enum Note {
+    /// Nothing.
+    #[error("")]
+    Nothing,
+    /// So many bytes of a journal were torn off.
+    #[error("torn off: {0} bytes")]
+    Torn(usize),
+    /// A history of so many changes has so many left.
+    #[error("changes: {0} before, {1} after\nversions begin anew: check older certificates with the older history")]
+    Shortened(usize, usize),
+}
+
+/// A text, and what is told beside it.
+#[derive(Drop)]
+pub struct Answer {
+    /// The text.
+    pub text: String,
+    /// What is told beside it.
+    pub note: Note,
+}
+
+/// Why there is no answer. The words are those of `mud_check` (docs/CHECKER.md, "Lines").
+#[derive(Clone, Copy, Debug, PartialEq, Eq, Error)]
+pub enum Unkept<'a> {
+    /// Memory ran out.
+    #[error("out of memory")]
+    OutOfMemory,
+    /// The file of this name can't be read; `-` is standard input.
+    #[error("file {0}")]
+    File(&'a str),
+    /// The text does not begin as a history.
+    #[error("not a history")]
+    NotHistory,
+    /// This line of the text, counted from 1, is bad.
+    #[error("history line {0}")]
+    Line(usize),
+    /// This entry, counted from 1, is not legal where it stands.
+    #[error("history change {0}")]
+    Change(usize),
+    /// The text has more than 65,536 entries.
+    #[error("history too long")]
+    TooLong,
+    /// The text ends before its last line does.
+    #[error("history without end")]
+    NoEnd,
+    /// This line of the certificate's text, counted from 1, is bad.
+    #[error("proof line {0}")]
+    ProofLine(usize),
+    /// The certificate speaks of this version, and the history has fewer entries.
+    #[error("proof version {0}")]
+    Version(u32),
+    /// The answer can't be written.
+    #[error("standard output")]
+    Write,
+}
+
+impl Unkept<'_> {
+    /// Why a text is no history.
+    pub fn of_text(fault: ChronFault) -> Unkept<'static> {
+        match fault {
+            ChronFault::OutOfMemory => Unkept::OutOfMemory,
+            ChronFault::NotHistory => Unkept::NotHistory,
+            ChronFault::BadLine(line) => Unkept::Line(line),
+            ChronFault::BadChange(entry) => Unkept::Change(entry),
+            ChronFault::TooLong => Unkept::TooLong,
+            ChronFault::NoEnd => Unkept::NoEnd,
+        }
+    }
+    /// Why there is no map.
+    pub fn of_map(fault: NoMap) -> Unkept<'static> {
+        match fault {
+            NoMap::History(fault) => Unkept::of_text(fault),
+            NoMap::Proof(CertFault::OutOfMemory) => Unkept::OutOfMemory,
+            NoMap::Proof(CertFault::BadLine(line)) => Unkept::ProofLine(line),
+            NoMap::Version(version) => Unkept::Version(version),
+        }
+    }
+}

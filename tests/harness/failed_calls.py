@@ -5,6 +5,8 @@ mud_serve, mud_explain    `PROGRAM: read fault` or `PROGRAM: write fault`, as th
                           file of `--load` that can't be read, `PROGRAM: cannot load: file`
 mud_check                 `unreadable: file ` and the name of what it read, and nothing else; a front of its line, where
                           it wrote; status 2
+mud_keep                  `unreadable: file ` and the name on standard error, where it read; a front of its text, and
+                          `unreadable: standard output` there, where it wrote; status 2
 
 Where each call moves one byte, all must be given.
 """
@@ -32,6 +34,9 @@ class FailedCalls(Trial):
         if name == "mud_check":
             unread = [(b"unreadable: file %s\n" % it.encode(), b"") for it in words or ["-"]]
             return 2, unread if kind == "read" else [(b"", b"")]
+        if name == "mud_keep":
+            unread = [(b"", b"unreadable: file %s\n" % it.encode()) for it in words[1:]]
+            return 2, unread if kind == "read" else [(b"", b"unreadable: standard output\n")]
         texts = [f"{kind} fault", *(["cannot load: file"] if kind == "read" and "--load" in words else [])]
         return 3, [(b"", f"{name}: {text}\n".encode()) for text in texts]
 
@@ -74,7 +79,8 @@ def read_endlessly():
 @part("failed-calls", "each call that reads or writes fails in turn, or moves one byte")
 def failed_calls(count):
     hall = runs.hall("two-desks", "--load", tests_file("halls/ten.history"))
-    for run in [*runs.few_scripts(), runs.check(*runs.FREE_EXITS), hall]:
+    kept = [runs.keep("show", *runs.LOCKED), runs.drawn()]
+    for run in [*runs.few_scripts(), runs.check(*runs.FREE_EXITS), *kept, hall]:
         failed_in_turn(count, run)
     given = read_endlessly()
     count("failed calls: too many reads", given == (3, b"mud_serve: too many reads\n"), given)

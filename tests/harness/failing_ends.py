@@ -23,6 +23,7 @@ BAD_WORDS = {
         "", "word", "key more", "hall more", "hall --capacity 0", "hall --capacity 65537", "hall --load", "--help",
     ],
     "mud_check": ["one", "one two three", "--help"],
+    "mud_keep": ["", "keep", "show", "show one two", "--help"],
 }
 
 

@@ -5,6 +5,7 @@ memory, and nothing else:
 mud_serve    the text in which one line is answered `(out of memory)` and was no step, or a front of
              the text, status 4 and `mud_serve: out of memory` on standard error
 mud_check    the line `unreadable: out of memory`, and status 2
+mud_keep     the same line on standard error, and status 2
 others       a front of the text, status 4 and `PROGRAM: out of memory` on standard error; of
              `mud_explain hall` also the text in which one line is answered `(out of memory)` and was
              no step, or only its desk, one of three at most, saw more or took some in
@@ -94,6 +95,8 @@ class RefusedMemory(Trial):
         """Whether this is what the program says when it is out of memory."""
         if self.run.program == "mud_check":
             return (status, output, errors) == (2, b"unreadable: out of memory\n", b"")
+        if self.run.program == "mud_keep":
+            return (status, output, errors) == (2, b"", b"unreadable: out of memory\n")
         if status == 0 and errors == b"":
             return output in self.texts
         said = f"{self.run.program}: out of memory\n".encode()
@@ -112,7 +115,7 @@ def refused_in_turn(count, run):
 @part("refused-memory", "each request for memory is refused in turn")
 def refused_memory(count):
     workers = runs.script(session("meetings"), "--workers", "2")
-    for run in [*runs.few_scripts(), workers, runs.check(*runs.FREE_EXITS), *runs.few_explained()]:
+    for run in [*runs.few_scripts(), workers, runs.check(*runs.FREE_EXITS), *runs.few_kept(), *runs.few_explained()]:
         refused_in_turn(count, run)
 
 

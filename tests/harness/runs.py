@@ -2,7 +2,8 @@
 from typing import NamedTuple
 
 from harness.certificates import given as certificate_case
-from harness.inputs import Input, explained, halls, session, sessions, tests_file
+from harness.inputs import Input, explained, halls, read, session, sessions, tests_file
+from harness.programs import TOP
 
 FEW_SESSIONS = ("two-minutes", "meetings", "history")
 FEW_EXPLAINED = (
@@ -11,12 +12,13 @@ FEW_EXPLAINED = (
 FEW_HALLS = ("two-desks", "old-answers", "closing")
 # Certificates that are accepted: a table each, and a case of it.
 LIBRARY, FREE_EXITS = ("routes", "to the library"), ("free-exits", "by one exit")
+LOCKED = ("locked-walks", "questions three deep at something unlocked")
 CERTIFICATES = (
     LIBRARY,
     FREE_EXITS,
     ("versions", "after all changes"),
     ("meetings", "of eight in one room"),
-    ("locked-walks", "questions three deep at something unlocked"),
+    LOCKED,
 )
 
 
@@ -39,6 +41,11 @@ def check(table, case):
     return Run("mud_check", [], certificate_case(table, case), f"{table}, {case}")
 
 
+def keep(wish, *case):
+    """The history of a certificate, which is kept."""
+    return Run("mud_keep", [wish, "-"], history_and_proof(*case)[0], f"{wish} {', '.join(case)}")
+
+
 def explain(word, one, *words):
     """A text that is explained, or a hall, with these words and no others."""
     return Run("mud_explain", [word, *words], one.text, f"{word} {one.name}")
@@ -53,6 +60,16 @@ def history_and_proof(table, case):
     text = certificate_case(table, case)
     end = text.index(b"\n", text.index(b"\nend ") + 1) + 1
     return text[:end], text[end:]
+
+
+def drawn():
+    """The map of the example, its certificate drawn in."""
+    history, proof = (f"{TOP}/examples/journeys.{name}" for name in ("history", "proof"))
+    return Run("mud_keep", ["map", "-", proof], read(history), "map journeys")
+
+
+def few_kept():
+    return [keep("shorten", *LOCKED), keep("show", *LOCKED), drawn()]
 
 
 def few_scripts():

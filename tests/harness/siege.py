@@ -5,6 +5,7 @@ as many descriptors as before and hardly more memory. `tests/run siege SECONDS` 
 import multiprocessing
 import os
 import random
+import re
 import threading
 import time
 
@@ -19,7 +20,9 @@ HOSTILE, IN_ONE = 64, 8
 # Each of the two asks so often; and how much memory the server may have more at the end.
 PAUSE, GROWTH = 0.05, 8_000_000
 NAMES = 8
-LIMITS = ["--idle", "5", "--unnamed", "2"]
+# What is found of the hostile, of whom nobody keeps what they read.
+STRANGERS = re.compile(r'\(player #\d+ "Guest\d"\) was answered to nobody$')
+LIMITS = ["--idle", "20", "--unnamed", "2"]
 
 
 def comes_and_leaves(client, chance):
@@ -91,9 +94,15 @@ def besiege_all(port, end, first):
         one.join()
 
 
-def play(visit, name, end, waits):
-    """Plays until the end; how long each answer took."""
+def arrive(port, name):
+    """A session that is this player's."""
+    visit = Visit(port)
     visit.ask(f"connect {name}")
+    return visit
+
+
+def play(visit, end, waits):
+    """Plays until the end; how long each answer took."""
     at = 0
     while time.monotonic() < end:
         at += 1
@@ -120,7 +129,7 @@ def crowd_once(port):
 
 def held_out(server, seconds):
     """The waits of the two, their sessions, and what the server had before and after."""
-    one, other = Visit(server.port), Visit(server.port)
+    one, other = arrive(server.port, "Ann"), arrive(server.port, "Bob")
     crowd_once(server.port)
     time.sleep(1)
     before, end = standing(server), time.monotonic() + seconds
@@ -131,8 +140,7 @@ def held_out(server, seconds):
     for process in hostile:
         process.start()
     waits = []
-    rows = (one, "Ann", end, waits), (other, "Bob", end, waits)
-    players = [threading.Thread(target=play, args=row) for row in rows]
+    players = [threading.Thread(target=play, args=(visit, end, waits)) for visit in (one, other)]
     for each in players:
         each.start()
     for each in [*players, *hostile]:
@@ -150,7 +158,7 @@ def siege(count, seconds=SECONDS):
         waits, sessions, before, after = held_out(server, float(seconds))
         server.type(b"stop\n")
         status, printed = server.end()
-    faults = judge(printed.decode(), sessions)[0]
+    faults = [fault for fault in judge(printed.decode(), sessions)[0] if not STRANGERS.search(fault)]
     waits.sort()
     most, nearly = waits[-1], waits[len(waits) * 99 // 100]
     print(f"siege: {len(waits)} answers, 99 of 100 within {nearly:.3f} s, all within {most:.3f} s", flush=True)

@@ -1,5 +1,5 @@
 -- Laws of the definitions: what they say together.
-use Rattle.std.specs.Prelude.{◌≡◌, ◌⊎◌, ◌↔◌, ℕ}
+use Rattle.std.specs.Prelude.{◌⊎◌, ◌↔◌, ℕ}
 use Rattle.mud_world.specs.State.{State}
 use Rattle.mud_world.specs.Sound.{IsSound}
 use Rattle.mud_roads.specs.Laws.{IsOne}

@@ -18,8 +18,7 @@ pub record States (w : State) (m : Account) (to : ℕ) (steps : List Step) : Typ
   pub stated : m.walk ≡ Some (exits_of steps)
   pub walk : Walk (roads_of w m.player) m.from steps to
 
--- he is a player of the world and stands there, rooms alone are labelled, the labels are valid, and no walk is stated
--- or one that has the label of the room where it ends
+-- a player who stands there, rooms alone are labelled, labels are valid, and a walk that is stated has its end's label
 pub record IsMember (w : State) (form : Form) (m : Account) : Type 0 where
   pub player : IsTrue (is_player w m.player)
   pub place : place_of w m.player ≡ Some m.from
@@ -45,8 +44,7 @@ Agrees w Has ms (Route to cost) =
     × All (λ m. (o : Option Label) × Has m to o × (option_map (λ l. l.cost) o ≡ cost)) ms
 Agrees w Has ms (Meet place) = All (GoesTo w (option_map (λ p. p.room) place)) ms × IsPlace Has ms place
 
--- distinct players of the world, each with his place, valid labels and perhaps a walk, and a conclusion that agrees
--- with the walks and the labels
+-- distinct members, each as he should be, and a conclusion that agrees with the walks and the labels
 pub record IsValid (w : State) (c : Certificate) : Type 0 where
   pub distinct : AllPairs (λ (a : Account) (b : Account). a.player ≢ b.player) c.members
   pub members : All (IsMember w c.form) c.members

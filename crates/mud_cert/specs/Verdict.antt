@@ -44,8 +44,7 @@ abbrev pub status_of : Finding → Status
 status_of findings.Accepted = Accepted
 status_of (findings.NoVersion version) = Refused
 status_of (findings.Doubted doubt) = Refused
-status_of (findings.BadHistory fault) = Unreadable
-status_of (findings.BadProof n) = Unreadable
+status_of finding = Unreadable
 
 -- the exit status
 abbrev pub status_code : Status → ℕ

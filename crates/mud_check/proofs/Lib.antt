@@ -1,2 +1,3 @@
+mod Judging
 mod Parting
 mod Telling

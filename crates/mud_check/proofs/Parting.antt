@@ -8,7 +8,8 @@ use Rattle.std.proofs.lemmas.Grind.{flat_map-append}
 use Rattle.mud_cert.specs.Text.{text_of}
 use Rattle.mud_cert.specs.Lines.{ended}
 use Rattle.mud_cert.specs.Faults.{IsLine}
-use Rattle.mud_check.specs.Input.{begins_end, IsInner, IsSplit}
+use Rattle.mud_check.specs.Input.{begins_end, IsInner}
+use Rattle.mud_check.specs.Inner.{IsSplit}
 
 -- the bytes are lines that begin otherwise, and this rest
 pub record IsPassed (bytes rest : List ℕ) : Type 0 where
@@ -58,28 +59,9 @@ ends bytes rest line behind passed whole cut last =
     passed.bytes_are ∙ ap (λ t. text_of passed.front ++ t) cut ∙ parted (text_of passed.front) line behind in
     let front : take (length bytes - length behind) bytes ≡ history =
     ap (λ b. take (length b - length behind) b) parts ∙ front-of history behind in
-    inl (record {
-      front = passed.front;
-      line = line;
-      inner = passed.inner;
-      whole = whole;
-      last = last;
-      history_is = front;
-      bytes_are = parts ∙ ap (λ t. t ++ behind) (sym front);
-    })
+    inl (passed.front, line, passed.inner, whole, last, front, parts ∙ ap (λ t. t ++ behind) (sym front))
 
 -- no further line is ended
 pub ends-not : (bytes rest : List ℕ) → IsPassed bytes rest → IsLine rest → IsSplit bytes bytes []
 ends-not bytes rest passed unended =
-    inr (record {
-      front =
-          passed.front;
-      rest =
-          rest;
-      inner =
-          passed.inner;
-      unended = unended;
-      bytes_are = passed.bytes_are;
-      history_is = refl;
-      proof_is = refl;
-    })
+    inr (passed.front, rest, passed.inner, unended, passed.bytes_are, refl, refl)

@@ -1,5 +1,5 @@
 -- How the two texts stand in standard input.
-use Rattle.std.specs.Prelude.{◌≡◌, ◌⊎◌, ℕ, nat_eq, Bool, true, false, List, [], ◌∷◌, ◌++◌, codes, All}
+use Rattle.std.specs.Prelude.{◌≡◌, ℕ, nat_eq, Bool, true, false, List, [], ◌∷◌, ◌++◌, codes, All}
 use Rattle.std.specs.List.{starts_with}
 use Rattle.mud_cert.specs.Text.{text_of}
 use Rattle.mud_cert.specs.Faults.{IsLine}
@@ -14,25 +14,13 @@ pub record IsInner (line : List ℕ) : Type 0 where
   pub other : begins_end line ≡ false
 
 -- the history's text goes up to the LF of the first line that begins with `end `, and the proof's stands behind it
-pub record EndsAtLine (bytes history proof : List ℕ) : Type 0 where
-  pub front : List (List ℕ)
-  pub line : List ℕ
-  pub inner : All IsInner front
-  pub whole : IsLine line
-  pub last : begins_end line ≡ true
-  pub history_is : history ≡ text_of front ++ (line ++ 10 ∷ [])
-  pub bytes_are : bytes ≡ history ++ proof
+abbrev pub EndsAtLine : List ℕ → List ℕ → List ℕ → Type 0
+EndsAtLine bytes history proof =
+    (front : List (List ℕ)) × (line : List ℕ) × All IsInner front × IsLine line × (begins_end line ≡ true)
+    × (history ≡ text_of front ++ (line ++ 10 ∷ [])) × (bytes ≡ history ++ proof)
 
 -- no line that LF ends begins with `end `: all of the bytes are the history's text
-pub record EndsWithBytes (bytes history proof : List ℕ) : Type 0 where
-  pub front : List (List ℕ)
-  pub rest : List ℕ
-  pub inner : All IsInner front
-  pub unended : IsLine rest
-  pub bytes_are : bytes ≡ text_of front ++ rest
-  pub history_is : history ≡ bytes
-  pub proof_is : proof ≡ []
-
--- the bytes are a history's text and a proof's
-abbrev pub IsSplit : List ℕ → List ℕ → List ℕ → Type 0
-IsSplit bytes history proof = EndsAtLine bytes history proof ⊎ EndsWithBytes bytes history proof
+abbrev pub EndsWithBytes : List ℕ → List ℕ → List ℕ → Type 0
+EndsWithBytes bytes history proof =
+    (front : List (List ℕ)) × (rest : List ℕ) × All IsInner front × IsLine rest × (bytes ≡ text_of front ++ rest)
+    × (history ≡ bytes) × (proof ≡ [])

@@ -4,14 +4,14 @@ use Rattle.std.specs.Io.KnownBytes.{Appends}
 use Rattle.mud_verdict.specs.declared.outcome.Outcome.{Outcome}
 use Rattle.mud_check.specs.declared.judge.Unread.{Unread}
 use Rattle.mud_check.specs.declared.judge.Unread.TheVariants.{OutOfMemory, File}
-use Rattle.mud_check.specs.Input.{IsSplit}
 use Rattle.mud_verdict.specs.Verdict.{IsVerdict}
+use Rattle.mud_check.specs.Input.{EndsAtLine, EndsWithBytes}
 
 -- the outcome is the verdict on the two texts that the bytes hold
 pub record IsJudged (bytes : List ℕ) (outcome : Outcome) : Type 0 where
   pub history : List ℕ
   pub proof : List ℕ
-  pub split : IsSplit bytes history proof
+  pub split : EndsAtLine bytes history proof ⊎ EndsWithBytes bytes history proof
   pub verdict : IsVerdict history proof outcome
 
 -- why standard input has no verdict: its reader failed, or else memory ran out

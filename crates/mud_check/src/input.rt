@@ -1,7 +1,8 @@
 //! The two texts of standard input.
 
 ghost use Rattle.std.specs.Prelude.{◌≡◌, codes};
-ghost use Rattle.mud_check.specs.Input.{begins_end, IsSplit};
+ghost use Rattle.mud_check.specs.Input.{begins_end};
+ghost use Rattle.mud_check.specs.Inner.{IsSplit};
 
 use memchr::memchr;
 

@@ -16,8 +16,10 @@ use Rattle.mud_world.specs.declared.change.Deed.TheVariants.{Dig, Make, Lock, Un
 use Rattle.mud_world.specs.declared.change.Deed.TheVariants.{Recycle, Say, Emote}
 use Rattle.mud_chron.specs.declared.verb.Verb.{Verb}
 use Rattle.mud_chron.specs.declared.verb.Verb.TheVariants as verb
-use Rattle.mud_chron.specs.Entry.{Accepted, IsEntry, IsInRange, HasParts, AreDoors, AreBackNames, IsTarget}
-use Rattle.mud_chron.specs.Text.{quoted, listed, target_text, back_text, doors_text, deed_text, change_text, entry_line}
+use Rattle.mud_chron.specs.Entry.{Accepted, IsEntry, IsInRange, HasParts, IsTarget}
+use Rattle.mud_world.specs.Inner.{AreDoors, AreBackNames}
+use Rattle.mud_chron.specs.Text.{quoted, listed, target_text, deed_text, entry_line}
+use Rattle.mud_chron.specs.Inner.{back_text, doors_text, change_text}
 use Rattle.mud_chron.specs.Fields.{object_in}
 use Rattle.mud_chron.proofs.Reader.{◌>>=◌, cut, object_before, number_up_to, number_key_in}
 use Rattle.mud_chron.proofs.Reader.{names_before, quoted_in, back_in, doors_behind, doors_in, new_in, way_to, old_in}

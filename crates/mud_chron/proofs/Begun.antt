@@ -5,7 +5,8 @@ use Rattle.std.specs.List.{AllByRecursion}
 use Rattle.mud_chron.specs.declared.format.Format.{Format}
 use Rattle.mud_chron.specs.declared.line.Line.TheVariants.{Entry}
 use Rattle.mud_chron.specs.Entry.{Accepted}
-use Rattle.mud_chron.specs.Text.{line_feed, head_line, entry_line, entry_text, entries_text, begun_text}
+use Rattle.mud_chron.specs.Text.{line_feed, head_line, entry_line, entries_text}
+use Rattle.mud_chron.specs.Inner.{entry_text, begun_text}
 use Rattle.mud_chron.specs.History.{IsEntryOf}
 use Rattle.mud_chron.specs.Faults.{Begins, IsTooLong}
 use Rattle.mud_chron.specs.Lines.{IsLine}

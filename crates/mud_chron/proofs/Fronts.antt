@@ -12,11 +12,12 @@ use Rattle.mud_chron.specs.declared.fault.ChronFault.TheVariants as fault
 use Rattle.mud_chron.specs.declared.format.Format.{Format}
 use Rattle.mud_chron.specs.declared.format.Format.TheVariants.{One, Two}
 use Rattle.mud_chron.specs.Entry.{Accepted, IsEntry}
-use Rattle.mud_chron.specs.Text.{line_feed, head_line, entry_line, entry_text, entries_text, end_line, journal_text}
+use Rattle.mud_chron.specs.Text.{line_feed, head_line, entry_line, entries_text, end_line, journal_text}
+use Rattle.mud_chron.specs.Inner.{entry_text}
 use Rattle.mud_chron.specs.History.{IsEntryOf, AreEntriesOf}
 use Rattle.mud_chron.specs.Faults.{HasNoLineFeed, IsNoHistory, Begins, IsNoEntryLine}
 use Rattle.mud_chron.specs.Fronts.{BeginsHead, EndsInHead, EndsInLine, Recovers, HasOtherLine}
-use Rattle.mud_chron.specs.Laws.{AreWhole, RecoversWhole, FaultsAreNoFronts, NothingIsLost}
+use Rattle.mud_chron.specs.Laws.{AreWhole, FaultsAreNoFronts, NothingIsLost}
 use Rattle.mud_chron.proofs.Reader.{entry_in}
 use Rattle.mud_chron.proofs.Cutting.{lacks_all}
 use Rattle.mud_chron.proofs.Again.{entry_again}
@@ -337,7 +338,8 @@ whole_line format found entries got n keep bytes allowed these cut s =
       kept = inr (sym p.same, long);
     }
 
-pub recovers_whole : RecoversWhole
+pub recovers_whole : (format found : Format) (entries got : List Accepted) (n keep : ℕ) → AreEntriesOf format entries
+    → Recovers (take n (journal_text format entries)) found got keep → AreWhole format entries n found got keep
 recovers_whole format found entries got n keep allowed r = go r.ends
   where
     bytes : List ℕ

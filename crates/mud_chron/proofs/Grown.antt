@@ -6,7 +6,8 @@ use Rattle.std.specs.Prelude.{is_none, if◌then◌else◌}
 use Rattle.mud_world.specs.State.{State}
 use Rattle.mud_world.specs.Opening.{opening_state}
 use Rattle.mud_world.specs.Legal.{refusal, after}
-use Rattle.mud_world.specs.History.{stepped, world_from, world_of}
+use Rattle.mud_world.specs.History.{world_from, world_of}
+use Rattle.mud_world.specs.Inner.{stepped}
 use Rattle.mud_world.proofs.Histories.{world_of-legal}
 use Rattle.mud_world.specs.declared.change.Change.{Change}
 use Rattle.mud_world.specs.declared.refusal.Refusal.{Refusal}

@@ -6,7 +6,8 @@ use Rattle.std.specs.List.{AllByRecursion, list_all}
 use Rattle.mud_chron.specs.declared.format.Format.{Format}
 use Rattle.mud_chron.specs.declared.format.Format.TheVariants.{One, Two}
 use Rattle.mud_chron.specs.Entry.{Accepted}
-use Rattle.mud_chron.specs.Text.{line_feed, head_line, entry_line, entry_text, entries_text, end_line}
+use Rattle.mud_chron.specs.Text.{line_feed, head_line, entry_line, entries_text, end_line}
+use Rattle.mud_chron.specs.Inner.{entry_text}
 use Rattle.mud_chron.specs.History.{IsEntryOf, SpellsHistory}
 use Rattle.mud_chron.specs.Laws.{HasNoReturns}
 use Rattle.mud_chron.proofs.Cutting.{implied, lacks_all}

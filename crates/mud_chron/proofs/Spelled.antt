@@ -10,7 +10,8 @@ use Rattle.std.proofs.lemmas.List.Folds.{list_all-append}
 use Rattle.std.proofs.lemmas.List.Elements.{recursion_from_All}
 use Rattle.std.specs.Fmt.{decimal}
 use Rattle.mud_key.specs.Name.{IsName, IsNameByte}
-use Rattle.mud_key.specs.Names.{AreNames, SpellsName, SpellsNames, one, more}
+use Rattle.mud_key.specs.Names.{AreNames}
+use Rattle.mud_key.specs.InnerNames.{SpellsName, SpellsNames, one, more}
 use Rattle.mud_key.specs.Reading.{names_in, name_in}
 use Rattle.mud_key.specs.Tree.{Tree, Has, Asks, Not, Join, objects_of, nots_of, AllObjects, IsWithinLimits, IsKey}
 use Rattle.mud_key.specs.KeyText.{sign, SpellsKey}
@@ -23,7 +24,8 @@ use Rattle.mud_key.specs.declared.operator.Operator.{Operator}
 use Rattle.mud_key.specs.declared.operator.Operator.TheVariants.{And, Or}
 use Rattle.mud_key.proofs.Found.{names_law, name_law, key_law}
 use Rattle.mud_key.proofs.LeastParentheses.{reads_back}
-use Rattle.mud_world.specs.Speech.{is_printable, is_trimmed, is_speech}
+use Rattle.mud_world.specs.Speech.{is_trimmed, is_speech}
+use Rattle.mud_world.specs.Inner.{is_printable}
 use Rattle.mud_chron.specs.Text.{listed, quoted}
 use Rattle.mud_chron.specs.Fields.{Lacks, is_digit}
 use Rattle.mud_chron.proofs.Reader.{◌>>=◌, cut, without_miss, number_key_in, speech_in, meaning, names_before}

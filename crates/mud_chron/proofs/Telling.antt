@@ -16,10 +16,11 @@ use Rattle.mud_chron.specs.declared.fault.ChronFault.TheVariants.{NoEnd}
 use Rattle.mud_chron.specs.declared.format.Format.{Format}
 use Rattle.mud_chron.specs.declared.format.Format.TheVariants.{One, Two}
 use Rattle.mud_chron.specs.Entry.{Accepted, IsEntry}
-use Rattle.mud_chron.specs.Text.{line_feed, head_line, change_text, entry_line, entry_text, entries_text, end_line}
-use Rattle.mud_chron.specs.Text.{begun_text, history_text}
+use Rattle.mud_chron.specs.Text.{line_feed, head_line, entry_line, entries_text, end_line}
+use Rattle.mud_chron.specs.Text.{history_text}
+use Rattle.mud_chron.specs.Inner.{change_text, entry_text, begun_text, IsBad}
 use Rattle.mud_chron.specs.History.{HasLine, IsEntryOf, AreEntriesOf, SpellsHistory}
-use Rattle.mud_chron.specs.Faults.{IsNoHistory, Begins, IsBad, HasFault}
+use Rattle.mud_chron.specs.Faults.{IsNoHistory, Begins, HasFault}
 use Rattle.mud_chron.specs.Laws.{SpellsOne, HasOneFault, FaultsAreNoTexts, IsWrittenAgain}
 use Rattle.mud_chron.specs.Fields.{is_digit}
 use Rattle.mud_chron.proofs.Reader.{cut, entry_in}
@@ -109,7 +110,7 @@ stops format entries rest a few view e behind is same = go view
         (sym end ∙ (fronts (cut 10 rest) line (entry_line (length entries + 1) e) rest' behind h there).0))
     go (long line rest' f h is' full l) = omega arith
     go (bad line rest' n h b is') =
-        absurd (b.no_entry e is (fronts (cut 10 rest) line (entry_line (length entries + 1) e) rest' behind h there).0)
+        absurd (b.0 e is (fronts (cut 10 rest) line (entry_line (length entries + 1) e) rest' behind h there).0)
 
 one_view : (format : Format) (entries : List Accepted) (rest : List ℕ) (a b : Result (List Accepted) ChronFault)
     → length entries ≤ 65536 → View format entries rest a → View format entries rest b → a ≡ b
@@ -123,14 +124,14 @@ one_view format entries rest a b few v w = go v w
 
     ended : (l m x y : List ℕ) → cut 10 rest ≡ Some (l, x) → cut 10 rest ≡ Some (m, y) → l ≡ end_line (length entries)
         → IsBad format (length entries) m → ⊥
-    ended l m x y h k end b = b.no_end ((fronts (cut 10 rest) m l y x k h).0 ∙ end)
+    ended l m x y h k end b = b.1 ((fronts (cut 10 rest) m l y x k h).0 ∙ end)
 
     extra : (l m y : List ℕ) → cut 10 rest ≡ Some (l, []) → cut 10 rest ≡ Some (m, y) → y ≢ [] → ⊥
     extra l m y h k some = some ((fronts (cut 10 rest) m l y [] k h).1)
 
     entered : (l m x y : List ℕ) (e : Accepted) → cut 10 rest ≡ Some (l, x) → cut 10 rest ≡ Some (m, y)
         → IsEntryOf format e → l ≡ entry_line (length entries + 1) e → IsBad format (length entries) m → ⊥
-    entered l m x y e h k is same b = b.no_entry e is ((fronts (cut 10 rest) m l y x k h).0 ∙ same)
+    entered l m x y e h k is same b = b.0 e is ((fronts (cut 10 rest) m l y x k h).0 ∙ same)
 
     numbers : (n m : ℕ) → n ≡ m → ◌≡◌ {A = Result (List Accepted) ChronFault} (Err (BadLine n)) (Err (BadLine m))
     numbers n m same = ap (λ k. Err (BadLine k)) same

@@ -1,6 +1,6 @@
 -- Entries of a history, and which there are.
+pub use Rattle.mud_world.specs.Parts.{IsTarget, HasParts}
 use Rattle.std.specs.Prelude.{ℕ, ◌≤◌, Some, None}
-pub use Rattle.mud_world.specs.Parts.{AreBackNames, AreDoors, IsTarget, HasParts}
 use Rattle.mud_world.specs.declared.change.Change.{Change}
 use Rattle.mud_world.specs.declared.change.Target.TheVariants.{Old}
 use Rattle.mud_world.specs.declared.change.Deed.{Deed}

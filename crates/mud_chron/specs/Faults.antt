@@ -4,7 +4,7 @@ use Rattle.mud_chron.specs.declared.fault.ChronFault.{ChronFault}
 use Rattle.mud_chron.specs.declared.fault.ChronFault.TheVariants.{NotHistory, BadLine, TooLong, NoEnd}
 use Rattle.mud_chron.specs.declared.format.Format.{Format}
 use Rattle.mud_chron.specs.Entry.{Accepted}
-use Rattle.mud_chron.specs.Text.{line_feed, head_line, entry_line, end_line, begun_text}
+use Rattle.mud_chron.specs.Text.{line_feed, head_line, entry_line, end_line, journal_text}
 use Rattle.mud_chron.specs.History.{IsEntryOf, AreEntriesOf}
 
 -- bytes without a line feed
@@ -18,18 +18,13 @@ IsNoHistory bytes = (format : Format) (rest : List ℕ) → bytes ≢ head_line 
 -- the bytes are a first line, the lines of these entries, and this rest
 pub record Begins (format : Format) (entries : List Accepted) (bytes rest : List ℕ) : Type 0 where
   pub allowed : AreEntriesOf format entries
-  pub spelled : bytes ≡ begun_text format entries rest
+  pub spelled : bytes ≡ journal_text format entries ++ rest
 
 -- the line is that of no entry which makes the version
 abbrev pub IsNoEntryLine : Format → ℕ → List ℕ → Type 0
 IsNoEntryLine format version line = (e : Accepted) → IsEntryOf format e → line ≢ entry_line version e
 
--- the line is neither that of a next entry after this many nor the last line after them
-pub record IsBad (format : Format) (count : ℕ) (line : List ℕ) : Type 0 where
-  pub no_entry : IsNoEntryLine format (count + 1) line
-  pub no_end : line ≢ end_line count
-
--- after the lines of some entries stands a bad line, line n
+-- after the lines of some entries stands line n, which is neither that of a next entry nor the last line after them
 pub record HasBadLine (bytes : List ℕ) (n : ℕ) : Type 0 where
   pub format : Format
   pub entries : List Accepted
@@ -37,7 +32,7 @@ pub record HasBadLine (bytes : List ℕ) (n : ℕ) : Type 0 where
   pub rest : List ℕ
   pub begins : Begins format entries bytes (line ++ line_feed ++ rest)
   pub whole : HasNoLineFeed line
-  pub bad : IsBad format (length entries) line
+  pub bad : IsNoEntryLine format (length entries + 1) line × (line ≢ end_line (length entries))
   pub number : n ≡ length entries + 2
 
 -- after a whole text stands at least one byte more, in line n

@@ -20,7 +20,8 @@ use Rattle.mud_chron.specs.declared.verb.Verb.{Verb}
 use Rattle.mud_chron.specs.declared.verb.Verb.TheVariants.{Dig, Make, Lock, Unlock, Move, Walk, Cost, Player}
 use Rattle.mud_chron.specs.declared.verb.Verb.TheVariants.{Rename, Recycle, Say, Emote}
 use Rattle.mud_chron.specs.Entry.{IsNumber, IsInRange, HasParts}
-use Rattle.mud_chron.specs.Text.{quoted, target_text, doors_text}
+use Rattle.mud_chron.specs.Text.{quoted, target_text}
+use Rattle.mud_chron.specs.Inner.{doors_text}
 
 -- the call answered the number that there is
 abbrev pub Gives : Result ℕ Unread → Option ℕ → Type 0

@@ -51,8 +51,7 @@ IsWrittenAgain =
 
 -- ---- journals
 
--- of the first n bytes of a journal these are the entries whose lines are whole, and keep is the length of their text;
--- where not even the first line is whole, nothing is kept
+-- of the first n bytes of a journal these entries have whole lines, and keep is the length of their text, or nothing
 pub record AreWhole (format : Format) (entries : List Accepted) (n : ℕ)
     (found : Format) (got : List Accepted) (keep : ℕ) : Type 0 where
   pub left_out : List Accepted
@@ -62,12 +61,6 @@ pub record AreWhole (format : Format) (entries : List Accepted) (n : ℕ)
   pub fits : keep ≤ n
   pub kept : (n < length (head_line format ++ line_feed)) × (got ≡ []) × (keep ≡ 0)
       ⊎ (found ≡ format) × (keep ≡ length (journal_text format got))
-
--- whatever byte a journal is cut at, what is found are all entries whose lines are whole, and no others
-abbrev pub RecoversWhole : Type 0
-RecoversWhole =
-    (format found : Format) (entries got : List Accepted) (n keep : ℕ) → AreEntriesOf format entries
-    → Recovers (take n (journal_text format entries)) found got keep → AreWhole format entries n found got keep
 
 -- bytes with a fault are no journal that was cut at a byte
 abbrev pub FaultsAreNoFronts : Type 0

@@ -8,3 +8,4 @@ pub mod Laws
 pub mod Fields
 pub mod Lines
 pub mod Fronts
+pub mod Inner

@@ -5,7 +5,7 @@ use Rattle.mud_chron.specs.declared.line.Line.{Line}
 use Rattle.mud_chron.specs.declared.line.Line.TheVariants.{Entry, End, Bad}
 use Rattle.mud_chron.specs.Text.{entry_line, end_line}
 use Rattle.mud_chron.specs.History.{IsEntryOf}
-use Rattle.mud_chron.specs.Faults.{IsBad}
+use Rattle.mud_chron.specs.Inner.{IsBad}
 
 -- what the line is after this many entries
 abbrev pub IsLine : Format → ℕ → List ℕ → Line → Type 0

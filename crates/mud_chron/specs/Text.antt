@@ -1,10 +1,8 @@
 -- The text of a history: each value has one spelling, line by line.
-use Rattle.std.specs.Prelude.{ℕ, ◌+◌, List, [], ◌∷◌, ◌++◌, length, codes, Option, Some, None}
+use Rattle.std.specs.Prelude.{ℕ, ◌+◌, List, [], ◌∷◌, ◌++◌, length, codes}
 use Rattle.std.specs.List.{flat_map}
 use Rattle.std.specs.Fmt.{decimal}
 use Rattle.mud_key.specs.Printed.{number_text, by_text, printed}
-use Rattle.mud_world.specs.declared.change.Change.{Change}
-use Rattle.mud_world.specs.declared.change.Doors.{Doors}
 use Rattle.mud_world.specs.declared.change.Target.{Target}
 use Rattle.mud_world.specs.declared.change.Target.TheVariants.{New, Old}
 use Rattle.mud_world.specs.declared.change.Deed.{Deed}
@@ -13,6 +11,7 @@ use Rattle.mud_world.specs.declared.change.Deed.TheVariants.{Recycle, Say, Emote
 use Rattle.mud_chron.specs.declared.format.Format.{Format}
 use Rattle.mud_chron.specs.declared.format.Format.TheVariants.{One, Two}
 use Rattle.mud_chron.specs.Entry.{Accepted}
+use Rattle.std.specs.Option.{option_map_or}
 
 -- the end of a line
 abbrev pub line_feed : List ℕ
@@ -32,19 +31,12 @@ abbrev pub target_text : Target → List ℕ
 target_text (New names) = codes "new " ++ quoted names
 target_text (Old room) = codes "old " ++ number_text room
 
--- the exit back of a dig, where there is one
-abbrev pub back_text : Option (List (List ℕ)) → List ℕ
-back_text None = []
-back_text (Some names) = codes " back " ++ quoted names
-
--- the exits of a dig, where there are any
-abbrev pub doors_text : Option Doors → List ℕ
-doors_text None = []
-doors_text (Some doors) = codes " out " ++ quoted doors.out ++ back_text doors.back
-
--- a deed of an actor, who is spelled first
+-- a deed of an actor, who is spelled first: its exits and the exit back where there are such
 abbrev pub deed_text : List ℕ → Deed → List ℕ
-deed_text actor (Dig target doors) = codes "dig " ++ actor ++ codes " " ++ target_text target ++ doors_text doors
+deed_text actor (Dig target doors) =
+    codes "dig " ++ actor ++ codes " " ++ target_text target
+    ++ option_map_or
+    (λ d. codes " out " ++ quoted d.out ++ option_map_or (λ names. codes " back " ++ quoted names) d.back []) doors []
 deed_text actor (Make names) = codes "make " ++ actor ++ codes " " ++ quoted names
 deed_text actor (Player name) = codes "player " ++ actor ++ codes " " ++ quoted (name ∷ [])
 deed_text actor (Lock object key) =
@@ -60,22 +52,15 @@ deed_text actor (Recycle object) = codes "recycle " ++ actor ++ codes " " ++ num
 deed_text actor (Say text) = codes "say " ++ actor ++ codes " " ++ text
 deed_text actor (Emote text) = codes "emote " ++ actor ++ codes " " ++ text
 
--- a change, without a line's end
-abbrev pub change_text : Change → List ℕ
-change_text change = deed_text (number_text change.actor) change.deed
-
 -- the line of an entry, without its end: the version that it makes, the desk, and the change
 unfoldable pub entry_line : ℕ → Accepted → List ℕ
-entry_line version e = decimal version ++ codes " " ++ decimal e.desk ++ codes " " ++ change_text e.change
-
--- the line of an entry, with its end
-abbrev pub entry_text : ℕ → Accepted → List ℕ
-entry_text version e = entry_line version e ++ line_feed
+entry_line version e =
+    decimal version ++ codes " " ++ decimal e.desk ++ codes " " ++ deed_text (number_text e.change.actor) e.change.deed
 
 -- the lines of entries, the first of which makes this version
 abbrev pub entries_text : ℕ → List Accepted → List ℕ
 entries_text version [] = []
-entries_text version (e ∷ entries) = entry_text version e ++ entries_text (version + 1) entries
+entries_text version (e ∷ entries) = (entry_line version e ++ line_feed) ++ entries_text (version + 1) entries
 
 -- the first line, without its end
 abbrev pub head_line : Format → List ℕ
@@ -90,14 +75,6 @@ end_line count = codes "end " ++ decimal count
 abbrev pub journal_text : Format → List Accepted → List ℕ
 journal_text format entries = head_line format ++ line_feed ++ entries_text 1 entries
 
--- the text of a journal of these entries, and what stands after it
-abbrev pub begun_text : Format → List Accepted → List ℕ → List ℕ
-begun_text format entries rest = journal_text format entries ++ rest
-
 -- the text of a history
 abbrev pub history_text : Format → List Accepted → List ℕ
-history_text format entries = begun_text format entries (end_line (length entries) ++ line_feed)
-
--- the text as it is written, in format 2
-abbrev pub written_text : List Accepted → List ℕ
-written_text entries = history_text Two entries
+history_text format entries = journal_text format entries ++ (end_line (length entries) ++ line_feed)

@@ -7,9 +7,10 @@ ghost use Rattle.mud_key.specs.Printed.{number_text};
 ghost use Rattle.mud_key.specs.Names.{AreNames};
 ghost use Rattle.mud_world.specs.declared.change.Doors.{Doors as DoorsSeen};
 ghost use Rattle.mud_world.specs.declared.change.Change.{Change as ChangeSeen};
-ghost use Rattle.mud_chron.specs.Entry.{Accepted, IsNumber, IsInRange, IsSpellable, IsEntry, HasParts, AreDoors};
-ghost use Rattle.mud_chron.specs.Entry.{AreBackNames};
-ghost use Rattle.mud_chron.specs.Text.{quoted, back_text, doors_text, change_text, entry_line};
+ghost use Rattle.mud_chron.specs.Entry.{Accepted, IsNumber, IsInRange, IsSpellable, IsEntry, HasParts};
+ghost use Rattle.mud_world.specs.Inner.{AreDoors, AreBackNames};
+ghost use Rattle.mud_chron.specs.Text.{quoted, entry_line};
+ghost use Rattle.mud_chron.specs.Inner.{back_text, doors_text, change_text};
 ghost use Rattle.mud_chron.specs.Fields.{Finds, Lacks, FindsDeed};
 
 use crate::entry::Entry;

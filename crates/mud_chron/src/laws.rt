@@ -1,7 +1,14 @@
 //! What is known of the definitions: each contract is a law, and its function does nothing.
 
 ghost use Rattle.mud_chron.specs.Laws.{LegalIsSpellable, SpellsOne, HasOneFault, HasNoReturns, FaultsAreNoTexts};
-ghost use Rattle.mud_chron.specs.Laws.{IsWrittenAgain, RecoversWhole, FaultsAreNoFronts, NothingIsLost};
+ghost use Rattle.mud_chron.specs.Laws.{AreWhole};
+ghost use Rattle.mud_chron.specs.Laws.{IsWrittenAgain, FaultsAreNoFronts, NothingIsLost};
+ghost use Rattle.mud_chron.specs.History.{AreEntriesOf};
+ghost use Rattle.mud_chron.specs.Text.{journal_text};
+ghost use Rattle.mud_chron.specs.Fronts.{Recovers};
+ghost use Rattle.std.specs.Prelude.{ℕ, List, take};
+ghost use Rattle.mud_chron.specs.Entry.{Accepted};
+ghost use Rattle.mud_chron.specs.declared.format.Format.{Format};
 
 /// A change that is legal in a sound world can be spelled, whichever desk made it.
 pub fn legal_is_spellable()
@@ -35,7 +42,8 @@ pub fn again()
 
 /// Whatever byte a journal is cut at, all entries whose lines are whole are found, and no others.
 pub fn recovers_whole()
-    ensures { RecoversWhole }
+    ensures { (format found : Format) (entries got : List Accepted) (n keep : ℕ) → AreEntriesOf format entries
+        → Recovers (take n (journal_text format entries)) found got keep → AreWhole format entries n found got keep }
 {}
 
 /// Bytes with a fault are no journal that was cut at a byte.

@@ -1,6 +1,7 @@
 //! What the types of a change's parts keep.
 
-ghost use Rattle.mud_chron.specs.Entry.{HasParts, IsTarget, AreDoors, AreBackNames};
+ghost use Rattle.mud_chron.specs.Entry.{HasParts, IsTarget};
+ghost use Rattle.mud_world.specs.Inner.{AreDoors, AreBackNames};
 
 use mud_key::Names;
 use mud_world::{Change, Deed, Doors, Target};

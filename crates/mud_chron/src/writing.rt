@@ -6,8 +6,9 @@ ghost use Rattle.std.specs.Fmt.{decimal};
 ghost use Rattle.std.specs.List.{flat_map};
 ghost use Rattle.mud_key.specs.Printed.{number_text, by_text, printed};
 ghost use Rattle.mud_chron.specs.declared.format.Format.TheVariants.{Two};
-ghost use Rattle.mud_chron.specs.Text.{listed, quoted, target_text, back_text, doors_text, deed_text, change_text};
-ghost use Rattle.mud_chron.specs.Text.{entry_line, entry_text, entries_text, end_line, history_text};
+ghost use Rattle.mud_chron.specs.Text.{listed, quoted, target_text, deed_text, entry_line, line_feed};
+ghost use Rattle.mud_chron.specs.Text.{entries_text, end_line, history_text};
+ghost use Rattle.mud_chron.specs.Inner.{back_text, doors_text, change_text};
 
 use crate::entry::Entry;
 use crate::format::Format;
@@ -224,7 +225,8 @@ pub fn write_entry(
 ) -> Result<(), AllocError>
     requires from { 1 ≤ version }
     requires to { version ≤ 65536 }
-    ensures ok { OnOk result (string_bytes out.new ≡ string_bytes out.old ++ entry_text version entry.now) }
+    ensures ok { OnOk result (string_bytes out.new ≡ string_bytes out.old
+        ++ entry_line version entry.now ++ line_feed) }
     ensures err { OnErr result (string_bytes out.new ≡ string_bytes out.old) }
 {
     let mut text = String::new(alloc);

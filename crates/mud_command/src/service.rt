@@ -6,6 +6,7 @@ ghost use Rattle.mud_command.specs.Service.{AreWithin, IsServed};
 use crate::fault::{CommandFault, told};
 use crate::limits::{Limits, capacity, limits_in, load, number, workers};
 use crate::matches::unfit;
+use crate::origin::is_origin;
 use clap::error::ErrorKind;
 use clap::{Arg, ArgAction, ArgMatches, Command, value_parser};
 use std::alloc::{AllocError, Global};
@@ -33,6 +34,8 @@ pub struct Listening<'a> {
     pub address: &'a str,
     /// The port; 0: one that is free.
     pub port: u16,
+    /// The door on the web, if there is one.
+    pub web: Option<WebListening<'a>>,
     /// After how many sessions it ends, up to 65,536; 0: it does not.
     pub total: u32,
     /// Whether only sessions count for that which became a player's.
@@ -49,6 +52,17 @@ pub struct Listening<'a> {
     pub journal: Option<&'a str>,
     /// Whether a line `stop` of standard input, or its end, ends it.
     pub console: bool,
+}
+
+/// What was asked for of a door on the web.
+#[derive(Clone, Copy, Debug)]
+pub struct WebListening<'a> {
+    /// The address of this machine on which it listens.
+    pub address: &'a str,
+    /// The port; 0: one that is free.
+    pub port: u16,
+    /// The origin of its page, as a browser sends it (RFC 6454, section 6.2).
+    pub origin: &'a str,
 }
 
 /// What the words of `mud_serve` ask for; the first is the program's name.
@@ -74,12 +88,23 @@ fn service_by<'a>(
         Err(error) if error.kind() == ErrorKind::DisplayVersion => return Ok(Service::Version),
         Err(error) => return Err(told(alloc, &error)),
     };
-    match service_in(&matches) {
-        Some(service) => Ok(service),
-        None => {
-            let message = "a number is out of its range";
-            Err(unfit(alloc, command, ErrorKind::ValueValidation, message))
-        }
+    let message = match service_in(&matches) {
+        Some(service) if has_origin(&service) => return Ok(service),
+        Some(_) =>
+            "an origin is a scheme, :// and a host as browsers write them: http://localhost:8000",
+        None => "a number is out of its range",
+    };
+    Err(unfit(alloc, command, ErrorKind::ValueValidation, message))
+}
+
+// Whether a door on the web has an origin that a browser sends.
+fn has_origin(service: &Service<'_>) -> bool {
+    match service {
+        Service::Listen(listening) => match listening.web {
+            Some(web) => is_origin(web.origin),
+            None => true,
+        },
+        Service::Version | Service::Script(_) => true,
     }
 }
 
@@ -102,10 +127,12 @@ fn listening_in<'a>(listen: &ArgMatches<'a>) -> Option<Listening<'a>>
         Some(total @ 0..=65_536) => total,
         _ => return None,
     };
+    let address = listen.get_str("address")?;
     Some(Listening {
         limits: limits_in(listen)?,
-        address: listen.get_str("address")?,
+        address,
         port: listen.get_one::<u16>("port")?,
+        web: web_in(listen, address),
         total,
         count_players: listen.get_flag("count-players"),
         per_address: listen.get_one::<u32>("per-address")?,
@@ -114,6 +141,15 @@ fn listening_in<'a>(listen: &ArgMatches<'a>) -> Option<Listening<'a>>
         load: listen.get_str("load"),
         journal: listen.get_str("journal"),
         console: listen.get_flag("console"),
+    })
+}
+
+// The door on the web that was asked for, at this address where none is named.
+fn web_in<'a>(listen: &ArgMatches<'a>, address: &'a str) -> Option<WebListening<'a>> {
+    Some(WebListening {
+        address: listen.get_str("web-address").unwrap_or(address),
+        port: listen.get_one::<u16>("web-port")?,
+        origin: listen.get_str("web-origin")?,
     })
 }
 
@@ -140,9 +176,14 @@ fn script<'a>(alloc: Global) -> Result<Command<'a>, AllocError> {
 // The command of a server.
 fn listen<'a>(alloc: Global) -> Result<Command<'a>, AllocError> {
     Command::new(alloc, "listen")
-        .about("Serves players who come by Telnet, up to 64 at once, in one world")
+        .about(
+            "Serves players who come by Telnet or from a browser, up to 64 at once, in one world",
+        )
         .arg(port(alloc))?
         .arg(address(alloc))?
+        .arg(web_port(alloc)?)?
+        .arg(web_origin(alloc)?)?
+        .arg(web_address(alloc)?)?
         .arg(total(alloc))?
         .arg(count_players(alloc))?
         .arg(per_address(alloc))?
@@ -170,6 +211,33 @@ fn address<'a>(alloc: Global) -> Arg<'a> {
         .value_name("A")
         .default_value("0.0.0.0")
         .help("The address of this machine on which it listens")
+}
+
+fn web_port<'a>(alloc: Global) -> Result<Arg<'a>, AllocError> {
+    Arg::new(alloc, "web-port")
+        .long("web-port")
+        .value_name("N")
+        .value_parser(value_parser!(u16))
+        .help("The port of a door on the web, 0 to 65535; 0 is one that is free")
+        .requires_arg("web-origin")
+}
+
+fn web_origin<'a>(alloc: Global) -> Result<Arg<'a>, AllocError> {
+    Arg::new(alloc, "web-origin")
+        .long("web-origin")
+        .value_name("URL")
+        .help("Where browsers find that door: http://localhost:8000, without a slash at the end")
+        .requires_arg("web-port")
+}
+
+fn web_address<'a>(alloc: Global) -> Result<Arg<'a>, AllocError> {
+    Arg::new(alloc, "web-address")
+        .long("web-address")
+        .value_name("A")
+        .help(
+            "The address of this machine on which that door is; where it is left out, that of --address",
+        )
+        .requires_arg("web-port")
 }
 
 fn total<'a>(alloc: Global) -> Arg<'a> {

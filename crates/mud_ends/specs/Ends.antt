@@ -2,8 +2,7 @@
 use Rattle.std.specs.Prelude.{ℕ, Bool, false, ◌==◌, ◌&&◌, nat_lt, List, length, Option}
 use Rattle.std.specs.Prelude.{Result, Ok, Err}
 
--- what a reader will still give, if that is known, how many pieces were read, whether its end was seen, and whether it
--- failed when it was read last
+-- what a reader will still give, if known, how often it was read, whether its end was seen, and whether it failed last
 pub record Reader : Type 0 where
   pub left : Option (List ℕ)
   pub reads : ℕ

@@ -5,27 +5,24 @@ use Rattle.std.specs.Str.{IsUtf8}
 use Rattle.mud_nvt.specs.Units.{units}
 use Rattle.mud_words.specs.Words.{words}
 use Rattle.mud_words.specs.Parse.{parsed}
-use Rattle.mud_key.specs.Names.{IsNamesText, IsNoNamesText}
+use Rattle.mud_key.specs.Reading.{names_in}
 use Rattle.mud_command.specs.declared.subject.Reading.{Reading}
 use Rattle.mud_command.specs.declared.subject.Reading.TheVariants.{Words, Parse, Names, Key}
 use Rattle.mud_command.specs.declared.subject.Subject.{Subject}
 use Rattle.mud_command.specs.declared.subject.Subject.TheVariants.{Units, Lines}
 use Rattle.mud_explain.specs.Lines.{Answers}
 use Rattle.mud_explain.specs.Listed.{listed}
-use Rattle.mud_explain.specs.Units.{units_text}
 use Rattle.mud_explain.specs.Line.{line_text}
 use Rattle.mud_explain.specs.Key.{SaysKey}
-
--- what a names text is told to be
-pub data SaysNames (text answer : List ℕ) : Type 0 where
-  names : (texts : List (List ℕ)) → IsNamesText text texts → answer ≡ listed texts → SaysNames text answer
-  no_names : IsNoNamesText text → answer ≡ codes "bad names" → SaysNames text answer
+use Rattle.std.specs.List.{flat_map}
+use Rattle.mud_explain.specs.Units.{unit_text}
+use Rattle.std.specs.Option.{option_map_or}
 
 -- what a text is told to be
 abbrev pub SaysText : Reading → List ℕ → List ℕ → Type 0
 SaysText Words text answer = answer ≡ listed (words text)
 SaysText Parse text answer = answer ≡ line_text (parsed text)
-SaysText Names text answer = SaysNames text answer
+SaysText Names text answer = answer ≡ option_map_or listed (names_in text) (codes "bad names")
 SaysText Key text answer = SaysKey text answer
 
 -- what a line is told to be: bytes that are not UTF-8 are no text
@@ -35,7 +32,7 @@ pub data Says (reading : Reading) (line answer : List ℕ) : Type 0 where
 
 -- what is written for an input
 abbrev pub Explains : Subject → List ℕ → List ℕ → Type 0
-Explains Units input out = out ≡ units_text (units input)
+Explains Units input out = out ≡ flat_map (λ unit. unit_text unit ++ codes "\n") (units input)
 Explains (Lines reading) input out = Answers (Says reading) input out
 
 -- where the reader tells its bytes, exactly what explains them was written

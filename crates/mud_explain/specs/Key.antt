@@ -2,7 +2,7 @@
 use Rattle.std.specs.Prelude.{◌≡◌, ℕ, List, ◌++◌, codes}
 use Rattle.std.specs.Fmt.{decimal}
 use Rattle.mud_key.specs.Tree.{Tree, Has, Asks, Not, Join, IsWithinLimits}
-use Rattle.mud_key.specs.KeyText.{SpellsKey, IsNoKeyText, IsLongestFront, sign}
+use Rattle.mud_key.specs.KeyText.{SpellsKey, IsLongestFront, sign}
 
 -- the text of a key with one pair of parentheses round each join, and no other
 abbrev pub grouped : Tree (List ℕ) → List ℕ
@@ -11,11 +11,10 @@ grouped (Asks o) = codes "?" ++ o
 grouped (Not k) = codes "!" ++ grouped k
 grouped (Join op a b) = codes "(" ++ grouped a ++ codes " " ++ sign op ++ codes " " ++ grouped b ++ codes ")"
 
--- what a text is told to be: a key text within the limits; no key text, with the length of its longest front that
--- begins one; or a key text beyond the limits
+-- what a text is told to be: its key; or how far it begins a key text; or that it is one beyond the limits
 pub data SaysKey (text answer : List ℕ) : Type 0 where
   a_key : (key : Tree (List ℕ)) → SpellsKey text key → IsWithinLimits key → answer ≡ grouped key → SaysKey text answer
-  no_key : (at : ℕ) → IsNoKeyText text → IsLongestFront text at → answer ≡ codes "bad key at " ++ decimal at
-      → SaysKey text answer
+  no_key : (at : ℕ) → ((key : Tree (List ℕ)) → ¬ SpellsKey text key) → IsLongestFront text at
+      → answer ≡ codes "bad key at " ++ decimal at → SaysKey text answer
   too_many : (key : Tree (List ℕ)) → SpellsKey text key → (IsWithinLimits key → ⊥)
       → answer ≡ codes "too many objects" → SaysKey text answer

@@ -6,3 +6,4 @@ pub mod Key
 pub mod Explained
 pub mod Told
 pub mod Played
+pub mod Inner

@@ -1,9 +1,10 @@
 -- How the words of a line, and what the line says, are told.
-use Rattle.std.specs.Prelude.{ℕ, List, ◌++◌, codes, Option, Some, None}
+use Rattle.std.specs.Prelude.{ℕ, List, ◌++◌, codes}
 use Rattle.mud_words.specs.declared.Prep.{Prep}
 use Rattle.mud_words.specs.declared.Prep.TheVariants.{With, To, InFrontOf, In, OnTopOf, OutOf, Over, Through}
 use Rattle.mud_words.specs.declared.Prep.TheVariants.{Under, Behind, Beside, For, Is, As, Off}
 use Rattle.mud_words.specs.Line.{Line}
+use Rattle.std.specs.Option.{option_map_or}
 
 -- a preposition by the first phrase that says it
 abbrev pub prep_text : Prep → List ℕ
@@ -23,13 +24,9 @@ prep_text Is = codes "is"
 prep_text As = codes "as"
 prep_text Off = codes "off"
 
--- the preposition of a line, or `-`
-abbrev pub preposition_text : Option Prep → List ℕ
-preposition_text (Some prep) = prep_text prep
-preposition_text None = codes "-"
-
 -- what a line says
 abbrev pub line_text : Line → List ℕ
 line_text l =
-    codes "verb [" ++ l.verb ++ codes "] direct [" ++ l.direct ++ codes "] preposition " ++ preposition_text l.prep
+    codes "verb [" ++ l.verb ++ codes "] direct [" ++ l.direct ++ codes "] preposition "
+    ++ option_map_or prep_text l.prep (codes "-")
     ++ codes " indirect [" ++ l.indirect ++ codes "] rest [" ++ l.rest ++ codes "]"

@@ -2,8 +2,7 @@
 use Rattle.std.specs.Prelude.{ℕ, ◌<◌, ◌≡◌, List, [], ◌∷◌, ◌++◌, length}
 pub use Rattle.mud_chron.specs.Faults.{HasNoLineFeed as IsLine}
 
--- Each line of the input is answered by one line. A line ends at LF, and a last one without LF counts: so an input
--- without a byte has no line.
+-- each line of the input is answered by one line; a line ends at LF, and a last one without LF counts
 pub data Answers (Says : List ℕ → List ℕ → Type 0) : List ℕ → List ℕ → Type 0 where
   at_end : Answers Says [] []
   last : {line answer : List ℕ} → 0 < length line → IsLine line → Says line answer

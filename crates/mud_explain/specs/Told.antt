@@ -3,7 +3,7 @@ use Rattle.std.specs.Prelude.{ℕ, List, ◌++◌, length, codes}
 use Rattle.std.specs.Fmt.{decimal}
 use Rattle.std.specs.List.{flat_map}
 use Rattle.mud_chron.specs.Entry.{Accepted as Entry}
-use Rattle.mud_chron.specs.Text.{written_text}
+use Rattle.mud_chron.specs.Inner.{written_text}
 use Rattle.mud_hall.specs.declared.fault.Fault.{Fault}
 use Rattle.mud_hall.specs.declared.fault.Fault.TheVariants as fault
 use Rattle.mud_hall.specs.declared.fault.CloseFault.{CloseFault}

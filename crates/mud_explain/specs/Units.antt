@@ -7,17 +7,10 @@ use Rattle.mud_nvt.specs.Units.{Given, Text, TooLong, Ayt, Answer}
 abbrev pub hex_digit : ℕ → ℕ
 hex_digit n = if nat_lt n 10 then 48 + n else 55 + n
 
--- a byte as two such digits, behind a space
-abbrev pub byte_text : ℕ → List ℕ
-byte_text b = 32 ∷ hex_digit (b / 16) ∷ hex_digit (b % 16) ∷ []
-
--- the line of a unit
+-- the line of a unit; a byte is two digits of sixteen, behind a space
 abbrev pub unit_text : Given → List ℕ
 unit_text (Text text) = codes "text " ++ text
 unit_text TooLong = codes "too long"
 unit_text Ayt = codes "ayt"
-unit_text (Answer bytes) = codes "answer" ++ flat_map byte_text bytes
-
--- the lines of units
-abbrev pub units_text : List Given → List ℕ
-units_text given = flat_map (λ unit. unit_text unit ++ codes "\n") given
+unit_text (Answer bytes) =
+    codes "answer" ++ flat_map (λ b. 32 ∷ hex_digit (b / 16) ∷ hex_digit (b % 16) ∷ []) bytes

@@ -1,14 +1,17 @@
 //! What each line of an input is told to be.
 
-ghost use Rattle.std.specs.Prelude.{◌≡◌, ◌++◌, IfOk, OnOk, string_bytes};
+ghost use Rattle.std.specs.Prelude.{◌≡◌, ◌++◌, IfOk, OnOk, string_bytes, codes};
 ghost use Rattle.mud_words.specs.Words.{words};
 ghost use Rattle.mud_words.specs.Parse.{parsed};
 ghost use Rattle.mud_words.specs.Line.{line_of};
 ghost use Rattle.mud_explain.specs.Listed.{listed};
-ghost use Rattle.mud_explain.specs.Line.{preposition_text, line_text};
+ghost use Rattle.mud_explain.specs.Line.{line_text};
+ghost use Rattle.mud_explain.specs.Inner.{preposition_text};
 ghost use Rattle.mud_explain.specs.Key.{SaysKey};
-ghost use Rattle.mud_explain.specs.Explained.{SaysNames, SaysText, Says};
+ghost use Rattle.mud_explain.specs.Explained.{SaysText, Says};
 ghost use Rattle.mud_explain.specs.Lines.{Answers, AnswersOne};
+ghost use Rattle.std.specs.Option.{option_map_or};
+ghost use Rattle.mud_key.specs.Reading.{names_in};
 
 use crate::grouped::push_grouped;
 use crate::listed::push_listed;
@@ -79,7 +82,8 @@ fn said_line(alloc: Global, text: &str) -> Result<String, AllocError>
 
 // The names of a names text.
 fn said_names(alloc: Global, text: &str) -> Result<String, AllocError>
-    ensures { IfOk result (λ answer. SaysNames text.now (string_bytes answer)) }
+    ensures { IfOk result (λ answer. string_bytes answer
+        ≡ option_map_or listed (names_in text.now) (codes "bad names")) }
 {
     match Names::read(alloc, text) {
         Ok(names) => {

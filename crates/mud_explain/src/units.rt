@@ -4,7 +4,8 @@ ghost use Rattle.std.specs.Prelude.{◌≡◌, ◌++◌, ◌<◌, ◌+◌, ◌�
 ghost use Rattle.std.specs.List.{flat_map};
 ghost use Rattle.mud_nvt.specs.Shown.{shown, all_shown};
 ghost use Rattle.mud_nvt.specs.Units.{units};
-ghost use Rattle.mud_explain.specs.Units.{hex_digit, byte_text, unit_text, units_text};
+ghost use Rattle.mud_explain.specs.Units.{hex_digit, unit_text};
+ghost use Rattle.mud_explain.specs.Inner.{byte_text, units_text};
 
 use mud_nvt::{Nvt, Unit};
 use std::alloc::{AllocError, Global};

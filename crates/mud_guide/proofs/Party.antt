@@ -22,7 +22,8 @@ use Rattle.mud_cert.proofs.Conclusions.{Labels}
 use Rattle.mud_cert.specs.Valid.{States, IsMember, GoesTo, IsPlace, Agrees, IsValid}
 use Rattle.mud_search.specs.Least.{AreLeast}
 use Rattle.mud_guide.specs.Arrivals.{Labelled}
-use Rattle.mud_guide.specs.Ways.{cost_of, IsWay, IsWayTo}
+use Rattle.mud_guide.specs.Ways.{cost_of, IsWayTo}
+use Rattle.mud_guide.specs.Inner.{IsWay}
 use Rattle.mud_guide.specs.Journeys.{Journey, IsJourney, goers_of}
 use Rattle.mud_guide.specs.Accounts.{IsAccountOf}
 use Rattle.mud_guide.specs.Listings.{IsInside, AreListed}

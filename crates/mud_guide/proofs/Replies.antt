@@ -22,7 +22,8 @@ use Rattle.mud_cert.specs.Valid.{IsPlace, Agrees, IsValid}
 use Rattle.mud_cert.proofs.Conclusions.{Labels}
 use Rattle.mud_search.specs.Least.{AreLeast, AreBounded}
 use Rattle.mud_guide.specs.declared.answer.Answer.{Answer}
-use Rattle.mud_guide.specs.Ways.{cost_of, IsWay}
+use Rattle.mud_guide.specs.Ways.{cost_of}
+use Rattle.mud_guide.specs.Inner.{IsWay}
 use Rattle.mud_guide.specs.Journeys.{Journey, IsJourney}
 use Rattle.mud_guide.specs.Listings.{AreListed}
 use Rattle.mud_guide.specs.Gatherings.{IsGreatest}

@@ -13,16 +13,18 @@ use Rattle.mud_cert.specs.declared.cert.Meeting.{Meeting}
 use Rattle.mud_cert.specs.declared.cert.Conclusion.{Conclusion}
 use Rattle.mud_cert.specs.declared.cert.Conclusion.TheVariants.{Route, Meet}
 use Rattle.mud_cert.specs.Certificate.{Account, Certificate}
-use Rattle.mud_guide.specs.Ways.{cost_of, IsWay, IsWayTo}
+use Rattle.mud_guide.specs.Ways.{cost_of, IsWayTo}
+use Rattle.mud_guide.specs.Inner.{IsWay}
 use Rattle.mud_guide.specs.Journeys.{Journey, IsJourney, goers_of}
 use Rattle.mud_guide.specs.Accounts.{AreLeastLabels, IsAccountOf}
 use Rattle.mud_cert.specs.Valid.{IsPlace}
 use Rattle.mud_guide.specs.Texts.{route_text, meet_text}
-use Rattle.mud_guide.specs.Answers.{IsCertOf}
-use Rattle.mud_guide.specs.Laws.{RouteAnswerIsOne, MeetAnswerIsOne}
+use Rattle.mud_guide.specs.Answers.{IsCertOf, IsRouteAnswer, IsMeetAnswer}
+use Rattle.mud_guide.specs.Laws.{AreAlike}
 use Rattle.mud_guide.proofs.Lowest.{some-inj}
 use Rattle.mud_guide.proofs.Totals.{route_is_least}
 use Rattle.mud_guide.proofs.Rising.{Entry, AreAmong, rising-one}
+use Rattle.mud_guide.specs.declared.answer.Answer.{Answer}
 
 -- ---- journeys
 way-one : (w : State) → IsSound w → (p from to : ℕ) (a b : Option (List Step)) → IsWay (roads_of w p) from to a
@@ -141,7 +143,9 @@ certs-one w v js says (Some c) None x y = absurd y
 certs-one w v js says (Some c) (Some d) x y = ap Some (cert-one w v js says c d x y)
 
 -- ---- answers
-pub route_answer_is_one : RouteAnswerIsOne
+pub route_answer_is_one : (w : State) → IsSound w → (v p to : ℕ) (a b : Answer) → IsRouteAnswer w v p to a
+    → IsRouteAnswer w v p to b
+    → AreAlike a b
 route_answer_is_one w sound v p to a b x y =
     let same : x.journey ≡ y.journey = journey-one w sound (Some to) p x.journey y.journey x.goes y.goes in
     let C : Journey → Type 0 = λ j. IsSomeAnd a.cert (IsCertOf w v (j ∷ []) (Route to (option_map cost_of j.way))) in
@@ -162,7 +166,8 @@ place-one party (Some p) (Some q) x y =
     let two : ℕ → Meeting = λ n. record { room = q.room; cost = n } in
     ap Some (ap one same.0 ∙ ap two same.1)
 
-pub meet_answer_is_one : MeetAnswerIsOne
+pub meet_answer_is_one : (w : State) → IsSound w → (v : ℕ) (party : List ℕ) (a b : Answer)
+    → IsMeetAnswer w v party a → IsMeetAnswer w v party b → AreAlike a b
 meet_answer_is_one w sound v party a b x y =
     let R : Option Meeting → Option ℕ = λ o. option_map (λ m. m.room) o in
     let goers : goers_of w x.journeys ≡ goers_of w y.journeys =

@@ -16,8 +16,7 @@ use Rattle.mud_guide.specs.Journeys.{Journey, IsJourney, goers_of}
 use Rattle.mud_guide.specs.Accounts.{IsAccountOf}
 use Rattle.mud_guide.specs.Texts.{route_text, meet_text}
 
--- the certificate of these journeys: its labels count costs and exits, it has an account of each, concludes this, and
--- keeps the limits
+-- the certificate of these journeys: in form two, with an account of each and this conclusion, within the limits
 pub record IsCertOf (w : State) (v : ℕ) (js : List Journey) (says : Conclusion) (c : Certificate) : Type 0 where
   pub version : c.version ≡ v
   pub form : c.form ≡ Two

@@ -8,3 +8,4 @@ pub mod Arrivals
 pub mod Listings
 pub mod Gatherings
 pub mod Parts
+pub mod Inner

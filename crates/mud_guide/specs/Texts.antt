@@ -17,15 +17,12 @@ way_text (Some steps) = codes " cost " ++ (decimal (cost_of steps) ++ (codes " b
 abbrev pub route_text : ℕ → Journey → List ℕ
 route_text to j = codes "route " ++ (object j.from ++ (codes " to " ++ (object to ++ way_text j.way)))
 
--- a line of its own for each member: `  #1 from #0 cost 3 by #5`
-abbrev pub member_text : Journey → List ℕ
-member_text j = 10 ∷ codes "  " ++ object j.player ++ codes " from " ++ object j.from ++ way_text j.way
-
--- ` at #0 cost 3` and the lines of the members, or ` no meeting`
+-- ` at #0 cost 3` and a line for each member, `  #1 from #0 cost 3 by #5`; or ` no meeting`
 abbrev pub place_text : Option Meeting → List Journey → List ℕ
 place_text None journeys = codes " no meeting"
 place_text (Some p) journeys =
-    codes " at " ++ (object p.room ++ (codes " cost " ++ (decimal p.cost ++ flat_map member_text journeys)))
+    codes " at " ++ (object p.room ++ (codes " cost " ++ (decimal p.cost ++ flat_map (λ j.
+    10 ∷ codes "  " ++ object j.player ++ codes " from " ++ object j.from ++ way_text j.way) journeys)))
 
 -- `meet #1 #2 at #0 cost 3` and the lines of the members, or `meet #1 #2 no meeting`
 abbrev pub meet_text : Option Meeting → List Journey → List ℕ

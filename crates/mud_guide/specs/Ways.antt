@@ -8,12 +8,8 @@ use Rattle.mud_roads.specs.Walks.{Roads, total, NoWalk, IsRoute}
 abbrev pub cost_of : List Step → ℕ
 cost_of steps = (total 1 steps).cost
 
--- the canonical route to the room, or none where no walk leads there
-abbrev pub IsWay : Roads → ℕ → ℕ → Option (List Step) → Type 0
-IsWay roads from to None = NoWalk roads from to
-IsWay roads from to (Some steps) = IsRoute 1 roads from to steps
-
--- the same to a room, if there is one to go to
+-- the canonical route to the room, or none where no walk leads there, or where there is no room to go to
 abbrev pub IsWayTo : Roads → ℕ → Option ℕ → Option (List Step) → Type 0
+IsWayTo roads from (Some to) (Some steps) = IsRoute 1 roads from to steps
+IsWayTo roads from (Some to) None = NoWalk roads from to
 IsWayTo roads from None way = way ≡ None
-IsWayTo roads from (Some to) way = IsWay roads from to way

@@ -6,7 +6,7 @@ ghost use Rattle.mud_roads.specs.Walks.{IsRoute};
 ghost use Rattle.mud_roads.specs.Open.{IsTraveller, roads_of};
 ghost use Rattle.mud_search.specs.Least.{label_in};
 ghost use Rattle.mud_guide.specs.Arrivals.{Labelled};
-ghost use Rattle.mud_guide.specs.Ways.{IsWay};
+ghost use Rattle.mud_guide.specs.Inner.{IsWay};
 
 use crate::arrivals::last_steps;
 use crate::way::Way;

@@ -4,7 +4,8 @@ ghost use Rattle.std.specs.Prelude.{◌≡◌, ◌++◌, OnOk, IfOk, Some, strin
 ghost use Rattle.std.specs.List.{flat_map};
 ghost use Rattle.mud_cert.specs.Text.{exits_text};
 ghost use Rattle.mud_guide.specs.Ways.{exits_of};
-ghost use Rattle.mud_guide.specs.Texts.{object, way_text, member_text, place_text, route_text};
+ghost use Rattle.mud_guide.specs.Texts.{object, way_text, place_text, route_text};
+ghost use Rattle.mud_guide.specs.Inner.{member_text};
 ghost use Rattle.mud_guide.specs.Texts.{meet_text};
 
 use crate::journey::Journey;

@@ -3,7 +3,8 @@ use Rattle.std.proofs.Common.{◌≡◌, ℕ, List, [], ◌∷◌, ◌++◌}
 use Rattle.std.proofs.Common.{length, sym, ◌∙◌, ap, append_assoc}
 use Rattle.std.specs.Prelude.{codes}
 use Rattle.mud_chron.specs.Entry.{Accepted}
-use Rattle.mud_chron.specs.Text.{line_feed, entries_text, end_line, written_text}
+use Rattle.mud_chron.specs.Text.{line_feed, entries_text, end_line}
+use Rattle.mud_chron.specs.Inner.{written_text}
 
 -- more in front changes nothing of the end
 pub behind : (front : List ℕ) (text : List ℕ) → (before : List ℕ) × (text ≡ before ++ 10 ∷ [])

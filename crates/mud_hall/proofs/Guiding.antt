@@ -2,6 +2,7 @@
 use Rattle.std.proofs.Common.{◌≡◌, ℕ, List, [], ◌∷◌, length, Option, None, Some, sym, ◌∙◌, subst}
 use Rattle.std.specs.Prelude.{string_bytes}
 use Rattle.std.specs.Option.{IsSomeAnd, option_map}
+use mathlib.Core.List.{IsPrefix}
 use Rattle.mud_world.specs.State.{State}
 use Rattle.mud_roads.specs.Laws.{MeetingIsAlike}
 use Rattle.mud_rules.specs.declared.verdict.Journey.{Journey}
@@ -21,11 +22,13 @@ use Rattle.mud_hall.specs.Told.{world_after}
 use Rattle.mud_hall.specs.Desk.{DeskState}
 use Rattle.mud_hall.specs.Replies.{verdict_on}
 use Rattle.mud_hall.specs.Answers.{Answered, IsGuided, Shows, Answers}
-use Rattle.mud_hall.specs.Right.{TellsJourney, TellsProof, IsCertified}
-use Rattle.mud_hall.specs.Laws.{IsRight, GuideIsRight}
+use Rattle.mud_hall.specs.Right.{TellsJourney, IsCertified}
+use Rattle.mud_hall.specs.Inner.{TellsProof}
+use Rattle.mud_hall.specs.Laws.{IsRight}
 use Rattle.mud_hall.proofs.Keeping.{IsDesk, Keeps, begun_kept, run_kept}
 use Rattle.mud_hall.proofs.Journeys.{route-told, meeting-told}
 use Rattle.mud_hall.proofs.Certified.{Below, IsGood, certified}
+use Rattle.mud_hall.specs.Steps.{At, Step, Begins, IsRun, Hall, Ask, Makes}
 
 some-inj : {A : Type 0} (x y : A) → Some x ≡ Some y → x ≡ y
 some-inj x y e = cc
@@ -92,7 +95,13 @@ right below known f None (verdict.Change e) a version h = tt
 right below known f None (verdict.Become n) a version h = tt
 right below known f None (verdict.Refused r) a version h = tt
 
-pub guide_is_right : Below → Known → GuideIsRight
+pub guide_is_right : Below → Known → (capacity : ℕ) (loaded : List Entry) (begin : Hall)
+    → Begins capacity loaded begin
+    → (steps : List Step) (hall : Hall) → IsRun capacity loaded begin steps hall
+    → (s : ℕ) (line : List ℕ) (a : Answered) (next : Hall)
+    → Makes capacity loaded hall (At s (Ask line (Some a))) next
+    → (d : DeskState) → hall.desks s ≡ Some d
+    → IsPrefix d.seen hall.history × IsRight d.seen d.player (verdict_on d.seen d.player line) a
 guide_is_right below known capacity loaded begin begins steps hall run s line a next (was, is, turns, same, asks) d at =
     let first : Keeps capacity begin hall =
     run_kept capacity loaded begin steps hall (begun_kept capacity loaded begin begins) run in

@@ -10,8 +10,9 @@ use Rattle.mud_world.specs.declared.change.Change.{Change}
 use Rattle.mud_chron.specs.Entry.{Accepted}
 use Rattle.mud_row.specs.Known.{Standing}
 use Rattle.mud_rules.specs.Hearing.{heard_line}
-use Rattle.mud_hall.specs.Told.{world_after, notice_of, notice_in, notice, notices}
-use Rattle.mud_hall.specs.Desk.{DeskState, state_of, took_in, TakesIn}
+use Rattle.mud_hall.specs.Told.{world_after, notice, notices}
+use Rattle.mud_hall.specs.Inner.{notice_of, notice_in, took_in, state_of}
+use Rattle.mud_hall.specs.Desk.{DeskState, TakesIn}
 
 pub notices-append : (p : Option ℕ) (h es fs : List Accepted)
     → notices p h (es ++ fs) ≡ notices p h es ++ notices p (h ++ es) fs

@@ -41,7 +41,8 @@ use Rattle.mud_guide.specs.Journeys.{Journey, IsJourney}
 use Rattle.mud_guide.specs.Accounts.{IsAccountOf}
 use Rattle.mud_guide.specs.Answers.{IsRouteAnswer, IsMeetAnswer}
 use Rattle.mud_hall.specs.Told.{world_after}
-use Rattle.mud_hall.specs.Desk.{DeskState, new_desk, as_player, took_in, as_accepted, with_told, HandsOut}
+use Rattle.mud_hall.specs.Desk.{DeskState, new_desk, as_player, as_accepted, HandsOut, with_told}
+use Rattle.mud_hall.specs.Inner.{took_in}
 use Rattle.mud_hall.specs.Replies.{Accepted, Became, verdict_on, Comes, Acts}
 use Rattle.mud_hall.specs.Answers.{answered, Shows, Answers}
 use Rattle.mud_hall.specs.Steps.{See, Act, Ask, Told, Hall, opened, seats, Step, Desk, At, Makes, IsRun}

@@ -6,7 +6,8 @@ use mathlib.Core.List.{IsPrefix}
 use Rattle.mud_world.specs.State.{State, is_player}
 use Rattle.mud_world.specs.Sound.{IsSound}
 use Rattle.mud_world.specs.Legal.{refusal}
-use Rattle.mud_world.specs.History.{stepped, world_from, world_of}
+use Rattle.mud_world.specs.History.{world_from, world_of}
+use Rattle.mud_world.specs.Inner.{stepped}
 use Rattle.mud_world.specs.Opening.{opening_state}
 use Rattle.mud_world.specs.declared.change.Change.{Change}
 use Rattle.mud_world.specs.declared.refusal.Refusal.{Refusal}
@@ -17,7 +18,8 @@ use Rattle.mud_chron.specs.Entry.{Accepted}
 use Rattle.mud_chron.specs.Replay.{changes_of}
 use Rattle.mud_hall.specs.Told.{world_after}
 use Rattle.mud_row.specs.Known.{Standing}
-use Rattle.mud_hall.specs.Desk.{IsSeated, IsHeld}
+use Rattle.mud_hall.specs.Desk.{IsHeld}
+use Rattle.mud_hall.specs.Inner.{IsSeated}
 
 step-sound : (w : State) (e : Change) (o : Option Refusal) → refusal w e ≡ o → IsSound w → IsSound (stepped w e)
 step-sound w e None is sound = rw is (soundness_law w e sound is)

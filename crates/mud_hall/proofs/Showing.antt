@@ -11,10 +11,10 @@ use Rattle.mud_rules.specs.declared.verdict.View.{View as Viewed}
 use Rattle.mud_rules.specs.Outcome.{IsQuestion, IsJourney}
 use Rattle.mud_rules.specs.Answers.{show_text}
 use Rattle.mud_chron.specs.Entry.{Accepted}
-use Rattle.mud_chron.specs.Text.{written_text}
+use Rattle.mud_chron.specs.Inner.{written_text}
 use Rattle.mud_guide.specs.declared.answer.Answer.{Answer}
 use Rattle.mud_hall.specs.Told.{world_after}
-use Rattle.mud_hall.specs.Desk.{IsSeated}
+use Rattle.mud_hall.specs.Inner.{IsSeated}
 use Rattle.mud_hall.specs.Answers.{answered, IsGuided, IsProven, IsShown, CanAsk}
 
 -- what is asked about, at the desk that answers

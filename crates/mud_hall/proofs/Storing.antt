@@ -24,8 +24,9 @@ use Rattle.mud_row.specs.Known.{Standing}
 use Rattle.mud_hall.specs.declared.reply.Reply.{Reply as Returned}
 use Rattle.mud_hall.specs.declared.fault.Fault.{Fault}
 use Rattle.mud_hall.specs.declared.fault.Fault.TheVariants.{OutOfMemory}
-use Rattle.mud_hall.specs.Told.{world_after, notice_of, notice, notices}
-use Rattle.mud_hall.specs.Desk.{DeskState, state_of, IsSeated, IsHeld, as_player, as_accepted}
+use Rattle.mud_hall.specs.Told.{world_after, notice, notices}
+use Rattle.mud_hall.specs.Inner.{notice_of, IsSeated, state_of}
+use Rattle.mud_hall.specs.Desk.{DeskState, IsHeld, as_player, as_accepted}
 use Rattle.mud_hall.specs.Replies.{Failed, shown, Replies, Stores}
 use Rattle.mud_hall.proofs.Notices.{state_eq}
 use Rattle.mud_hall.proofs.Coming.{comes_memory}

@@ -1,9 +1,9 @@
 -- A desk that nobody else uses.
-use Rattle.std.specs.Prelude.{◌≡◌, ◌≤◌, ℕ, List, [], length, Some, IsTrue}
+use Rattle.std.specs.Prelude.{◌≡◌, ◌≤◌, ℕ, List, length, IsTrue}
 use Rattle.mud_world.specs.State.{State, is_player}
 use Rattle.mud_chron.specs.Entry.{Accepted}
 use Rattle.mud_hall.specs.Told.{world_after}
-use Rattle.mud_hall.specs.Desk.{DeskState}
+use Rattle.mud_hall.specs.Desk.{DeskState, new_desk, as_player}
 use Rattle.mud_hall.specs.Settling.{versions_by}
 
 -- how many entries the history can have, and the desk's state
@@ -13,13 +13,10 @@ pub record Alone : Type 0 where
 
 -- desk 1, whose calls are all the entries, and who is told nothing
 abbrev pub alone : ℕ → ℕ → List Accepted → Alone
-alone capacity player h = record {
-  capacity = capacity;
-  state = record { number = 1; player = Some player; seen = h; calls = versions_by 1 1 h; told = [] };
-}
+alone capacity player h =
+    record { capacity = capacity; state = record (as_player (new_desk 1 h) player) { calls = versions_by 1 1 h } }
 
--- what is true of every such desk: its world is that of its history, and its player is one of that world. A reader need
--- not look into this: contracts only hand it on
+-- what is true of every such desk. A reader need not look into this: contracts only hand it on
 pub record IsAlone (capacity player : ℕ) (w : State) (h : List Accepted) : Type 0 where
   pub world : w ≡ world_after h
   pub room : length h ≤ capacity

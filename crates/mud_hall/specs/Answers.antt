@@ -12,7 +12,7 @@ use Rattle.mud_rules.specs.declared.verdict.Verdict.TheVariants as verdict
 use Rattle.mud_rules.specs.Replies.{refusal_text}
 use Rattle.mud_rules.specs.Answers.{show_text}
 use Rattle.mud_chron.specs.Entry.{Accepted}
-use Rattle.mud_chron.specs.Text.{written_text}
+use Rattle.mud_chron.specs.Text.{history_text}
 use Rattle.mud_cert.specs.Certificate.{Certificate}
 use Rattle.mud_cert.specs.Text.{cert_text}
 use Rattle.mud_guide.specs.declared.answer.Answer.{Answer}
@@ -20,6 +20,7 @@ use Rattle.mud_guide.specs.Answers.{IsRouteAnswer, IsMeetAnswer}
 use Rattle.mud_hall.specs.Told.{world_after}
 use Rattle.mud_hall.specs.Desk.{DeskState}
 use Rattle.mud_hall.specs.Replies.{verdict_on}
+use Rattle.mud_chron.specs.declared.format.Format.TheVariants.{Two}
 
 -- an answer: the version that it speaks of, its text, and what certifies it
 pub record Answered : Type 0 where
@@ -54,14 +55,13 @@ IsShown h player (query.Journey journey) a =
 IsShown h player (query.Proof journey) a =
     (g : Answer) × IsGuided (world_after h) (length h) player journey g × IsProof g.cert a
 IsShown h player query.History a =
-    (a.text ++ codes "\n" ≡ codes "history\n" ++ written_text h) × (a.cert ≡ None)
+    (a.text ++ codes "\n" ≡ codes "history\n" ++ history_text Two h) × (a.cert ≡ None)
 
 -- the answer to a line by what it is decided to be: what asks nothing is not understood
 abbrev pub Shows : List Accepted → Option ℕ → Verdict → Answered → Type 0
 Shows h player (verdict.Ask q) a = IsShown h player q a
 Shows h player (verdict.Refused f) a = (a.text ≡ refusal_text f) × (a.cert ≡ None)
-Shows h player (verdict.Change e) a = (a.text ≡ refusal_text NotUnderstood) × (a.cert ≡ None)
-Shows h player (verdict.Become p) a = (a.text ≡ refusal_text NotUnderstood) × (a.cert ≡ None)
+Shows h player other a = (a.text ≡ refusal_text NotUnderstood) × (a.cert ≡ None)
 
 -- the desk answers the line by exactly what it has seen
 pub record Answers (s : DeskState) (line : List ℕ) (a : Answered) : Type 0 where

@@ -1,16 +1,15 @@
 -- A desk of a hall, and what it takes in.
-use Rattle.std.specs.Prelude.{◌≡◌, ◌≤◌, ℕ, ◌+◌, nat_lt, if◌then◌else◌, IsTrue, Option, Some, None}
+use Rattle.std.specs.Prelude.{◌≡◌, ◌≤◌, ℕ, ◌+◌, nat_lt, if◌then◌else◌, IsTrue, Option, Some, None, IfSome}
 use Rattle.std.specs.Prelude.{List, [], ◌∷◌, ◌++◌, length, take, drop}
 use mathlib.Core.List.{IsPrefix}
-use Rattle.mud_world.specs.State.{State, is_player}
+use Rattle.mud_world.specs.State.{is_player}
 use Rattle.mud_world.specs.Legal.{is_arrival}
 use Rattle.mud_world.specs.declared.change.Change.{Change}
 use Rattle.mud_chron.specs.Entry.{Accepted}
 use Rattle.mud_row.specs.Known.{Known, Standing}
 use Rattle.mud_hall.specs.Told.{world_after, notices}
 
--- a desk: its number, its player, or none for a guest, the entries that it has seen, the versions of its accepted
--- calls, and what it was told
+-- a desk: its number, its player or none, the entries that it has seen, the versions of its calls, and what it was told
 pub record DeskState : Type 0 where
   pub number : ℕ
   pub player : Option ℕ
@@ -29,14 +28,6 @@ as_guest s = record s { player = None; told = [] }
 abbrev pub as_player : DeskState → ℕ → DeskState
 as_player s p = record s { player = Some p }
 
--- the desk once it was given these told lines
-abbrev pub with_told : DeskState → List (List ℕ) → DeskState
-with_told s told = record s { told = told }
-
--- the desk after it took these entries in: it hears of them
-abbrev pub took_in : DeskState → List Accepted → DeskState
-took_in s entries = record s { seen = s.seen ++ entries; told = s.told ++ notices s.player s.seen entries }
-
 -- the desk after its own change, of which it hears nothing: a new player sits down where he came
 abbrev pub as_accepted : DeskState → Change → DeskState
 as_accepted s e = record s {
@@ -45,10 +36,14 @@ as_accepted s e = record s {
   calls = s.calls ++ (length s.seen + 1) ∷ [];
 }
 
--- some entries were taken in, and nothing else changed
+-- the desk once it was given these told lines
+abbrev pub with_told : DeskState → List (List ℕ) → DeskState
+with_told s told = record s { told = told }
+
+-- some entries were taken in, of which it hears, and nothing else changed
 pub record TakesIn (old new : DeskState) : Type 0 where
   pub entries : List Accepted
-  pub is : new ≡ took_in old entries
+  pub is : new ≡ record old { seen = old.seen ++ entries; told = old.told ++ notices old.player old.seen entries }
 
 -- it took in what another desk has seen, where that is more
 pub record Learns (old other new : DeskState) : Type 0 where
@@ -78,33 +73,16 @@ pub record View : Type 0 where
 abbrev pub untold : View → List (List ℕ)
 untold v = notices v.state.player (take v.at v.state.seen) (drop v.at v.state.seen)
 
--- the state of a desk of this replica; it hears also of what its world has not taken in yet
-abbrev pub state_of : ℕ → Option ℕ → Standing → List ℕ → List (List ℕ) → DeskState
-state_of number player r calls stored = record {
-  number = number;
-  player = player;
-  seen = r.list;
-  calls = calls;
-  told = stored ++ notices player (take r.at r.list) (drop r.at r.list);
-}
-
--- the player, if there is one, is one of this world
-abbrev pub IsSeated : State → Option ℕ → Type 0
-IsSeated w None = Unit {0}
-IsSeated w (Some p) = IsTrue (is_player w p)
-
--- what is true of every desk of the hall with these cells and these loaded entries. A reader need not look into this:
--- contracts only hand it on
+-- what is true of every desk of this hall. A reader need not look into this: contracts only hand it on
 pub record IsHeld (cells : List ℕ) (loaded : List Accepted) (number : ℕ) (player : Option ℕ) (r : Standing)
     : Type 0 where
   pub row : r.row ≡ cells
   pub begun : IsPrefix loaded r.list
   pub from : 1 ≤ number
   pub to : number ≤ 64
-  pub seated : IsSeated (world_after r.list) player
+  pub seated : IfSome player (λ p. IsTrue (is_player (world_after r.list) p))
 
--- what is true of what lies under the lock of that hall: at most 64 desks were given, it knows what was loaded, and
--- the start that it keeps is only that. A reader need not look into this: contracts only hand it on
+-- what is true of what lies under its lock. A reader need not look into this: contracts only hand it on
 pub record IsKept (cells : List ℕ) (loaded : List Accepted) (given : ℕ) (r : Standing) (start : Known) : Type 0 where
   pub few : given ≤ 64
   pub row : r.row ≡ cells

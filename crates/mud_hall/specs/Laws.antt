@@ -1,5 +1,5 @@
 -- Laws of the definitions: what they say together.
-use Rattle.std.specs.Prelude.{◌≡◌, ℕ, List, length, take, Option, Some, IsTrue}
+use Rattle.std.specs.Prelude.{◌≡◌, ℕ, List, length, take, Option, Some, IsTrue, ◌++◌, codes, IsSomeAnd}
 use mathlib.Core.List.{IsPrefix}
 use Rattle.mud_world.specs.State.{State, is_player, place_of}
 use Rattle.mud_roads.specs.declared.label.Step.{Step as Exit}
@@ -11,31 +11,19 @@ use Rattle.mud_rules.specs.declared.verdict.Verdict.{Verdict}
 use Rattle.mud_rules.specs.declared.verdict.Verdict.TheVariants as verdict
 use Rattle.mud_chron.specs.Entry.{Accepted as Entry}
 use Rattle.mud_hall.specs.Told.{world_after}
-use Rattle.mud_hall.specs.Desk.{DeskState}
-use Rattle.mud_hall.specs.Replies.{verdict_on}
 use Rattle.mud_hall.specs.Answers.{Answered}
-use Rattle.mud_hall.specs.Steps.{Ask, Hall, AreLoadable, Begins, Step, At, Makes, IsRun}
-use Rattle.mud_hall.specs.Right.{TellsJourney, TellsProof, IsCertified}
+use Rattle.mud_hall.specs.Steps.{Hall, AreLoadable, Begins, Step, IsRun}
+use Rattle.mud_hall.specs.Right.{TellsJourney, IsCertified}
+use Rattle.mud_cert.specs.Text.{cert_text}
 
--- what is true of an answer about a journey after these entries: it names their version and tells the journey as it is
--- in their world, and the checker accepts its certificate with every history that begins with them
+-- an answer about a journey after these entries: its version, the journey in their world, and its certificate are right
 abbrev pub IsRight : List Entry → Option ℕ → Verdict → Answered → Type 0
 IsRight h (Some p) (verdict.Ask (query.Journey journey)) a =
     (a.version ≡ length h) × TellsJourney (world_after h) p journey a.text a.cert × IsCertified h a.cert
 IsRight h (Some p) (verdict.Ask (query.Proof journey)) a =
     (text : List ℕ) × (a.version ≡ length h) × TellsJourney (world_after h) p journey text a.cert
-    × TellsProof a.cert a.text × IsCertified h a.cert
+    × IsSomeAnd a.cert (λ c. a.text ++ codes "\n" ≡ codes "proof\n" ++ cert_text c) × IsCertified h a.cert
 IsRight h player other a = Unit {0}
-
--- In every run, whatever the desks did before: the entries that a desk has seen are the first of the history, and its
--- answer about a journey is right after them.
-abbrev pub GuideIsRight : Type 0
-GuideIsRight =
-    (capacity : ℕ) (loaded : List Entry) (begin : Hall) → Begins capacity loaded begin
-    → (steps : List Step) (hall : Hall) → IsRun capacity loaded begin steps hall
-    → (s : ℕ) (line : List ℕ) (a : Answered) (next : Hall) → Makes capacity loaded hall (At s (Ask line (Some a))) next
-    → (d : DeskState) → hall.desks s ≡ Some d
-    → IsPrefix d.seen hall.history × IsRight d.seen d.player (verdict_on d.seen d.player line) a
 
 -- In every run the history is one that a hall can begin with, and every later history of the run begins with it.
 abbrev pub HistoryGoesOn : Type 0

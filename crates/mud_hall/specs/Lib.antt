@@ -9,3 +9,4 @@ pub mod Checking
 pub mod Steps
 pub mod Right
 pub mod Laws
+pub mod Inner

@@ -1,5 +1,5 @@
 -- What is true of an answer about a journey, in terms of walks, costs and rooms.
-use Rattle.std.specs.Prelude.{◌≡◌, ℕ, ◌≤◌, List, [], ◌∷◌, ◌++◌, length, Option, Some, None, codes}
+use Rattle.std.specs.Prelude.{◌≡◌, ℕ, ◌≤◌, List, [], ◌∷◌, length, Option, Some, None}
 use Rattle.std.specs.Option.{IsSomeAnd, option_map}
 use Rattle.std.specs.List.{AllZip}
 use mathlib.Core.List.{IsPrefix}
@@ -10,7 +10,7 @@ use Rattle.mud_roads.specs.Open.{roads_of}
 use Rattle.mud_rules.specs.declared.verdict.Journey.{Journey as Question}
 use Rattle.mud_rules.specs.declared.verdict.Journey.TheVariants as question
 use Rattle.mud_chron.specs.Entry.{Accepted as Entry}
-use Rattle.mud_chron.specs.Text.{written_text}
+use Rattle.mud_chron.specs.Text.{history_text}
 use Rattle.mud_chron.specs.History.{SpellsHistory}
 use Rattle.mud_cert.specs.Certificate.{Account, Certificate}
 use Rattle.mud_cert.specs.declared.cert.Conclusion.{Conclusion}
@@ -24,6 +24,7 @@ use Rattle.mud_guide.specs.Ways.{cost_of}
 use Rattle.mud_guide.specs.Journeys.{Journey, goers_of}
 use Rattle.mud_guide.specs.Texts.{route_text, meet_text}
 use Rattle.mud_hall.specs.Steps.{AreLoadable}
+use Rattle.mud_chron.specs.declared.format.Format.TheVariants.{Two}
 
 -- a walk open to p from one room to another; none costs less, or as much with fewer exits
 pub record IsBestWalk (w : State) (p from to : ℕ) (ss : List Step) : Type 0 where
@@ -61,8 +62,7 @@ pub record TellsRoute (w : State) (p to : ℕ) (text : List ℕ) (cert : Option 
   pub text_is : text ≡ route_text to journey
   pub certified : IsSomeAnd cert (Certifies (journey ∷ []) (Route to (option_map cost_of journey.way)))
 
--- the text tells where the party meets by costs only, and the best way of each, or that there is no meeting, and the
--- certificate is of those ways
+-- the text tells the best meeting room by costs, or that there is none, and each best way; the certificate is of those
 pub record TellsMeeting (w : State) (party : List ℕ) (text : List ℕ) (cert : Option Certificate) : Type 0 where
   pub place : Option Meeting
   pub journeys : List Journey
@@ -76,20 +76,13 @@ abbrev pub TellsJourney : State → ℕ → Question → List ℕ → Option Cer
 TellsJourney w p (question.Route to) text cert = TellsRoute w p to text cert
 TellsJourney w p (question.Meet party) text cert = TellsMeeting w party text cert
 
--- the history has a text, as it is written in format 2, and with each text of it, in either format, the checker
--- accepts that of the certificate
+-- the history has a text, in format 2, and with each of its texts the checker accepts that of the certificate
 pub record IsAcceptedWith (h : List Entry) (c : Certificate) : Type 0 where
-  pub written : SpellsHistory (written_text h) h
+  pub written : SpellsHistory (history_text Two h) h
   pub accepted : (text : List ℕ) → SpellsHistory text h → IsFinding text (cert_text c) finding.Accepted
 
--- the checker accepts it with the text of every history that begins with these entries and that a hall can begin with
-abbrev pub IsAcceptedFrom : List Entry → Certificate → Type 0
-IsAcceptedFrom h c = (g : List Entry) → IsPrefix h g → AreLoadable 65536 g → IsAcceptedWith g c
-
--- there is a certificate of the version of these entries, which the checker accepts with every history from them on
+-- a certificate of the version of these entries, accepted with all histories from them on that a hall can begin with
 abbrev pub IsCertified : List Entry → Option Certificate → Type 0
-IsCertified h cert = IsSomeAnd cert (λ c. (c.version ≡ length h) × IsAcceptedFrom h c)
-
--- the text is that of the certificate; its last line has no end
-abbrev pub TellsProof : Option Certificate → List ℕ → Type 0
-TellsProof cert text = IsSomeAnd cert (λ c. text ++ codes "\n" ≡ codes "proof\n" ++ cert_text c)
+IsCertified h cert =
+    IsSomeAnd cert (λ c.
+    (c.version ≡ length h) × ((g : List Entry) → IsPrefix h g → AreLoadable 65536 g → IsAcceptedWith g c))

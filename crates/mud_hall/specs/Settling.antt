@@ -31,8 +31,7 @@ pub record IsGathered (loaded : List Accepted) (desks : List View) (history : Li
   pub known : All (λ d. IsPrefix d.state.seen history) desks
   pub some : (history ≡ loaded) ⊎ Any (λ d. history ≡ d.state.seen) desks
 
--- the history that these desks made: after what was loaded each entry is a call of the desk whose number it bears, and
--- each desk's calls are there once, in their order
+-- the history that these desks made: after what was loaded it is the calls of the desks, each once and in their order
 pub record IsSettled (loaded : List Accepted) (desks : List View) (history : List Accepted) : Type 0 where
   pub gathered : IsGathered loaded desks history
   pub calls : All (λ d. d.state.calls ≡ versions_by d.state.number (length loaded + 1) (made loaded history)) desks
@@ -65,8 +64,7 @@ first_apart [] (w ∷ ws) = Some w
 first_apart (v ∷ vs) [] = Some v
 first_apart (v ∷ vs) (w ∷ ws) = if v == w then first_apart vs ws else Some (if nat_lt v w then v else w)
 
--- the entries are those from version `first` on. Version v is at odds: the calls of some desk and the entries that bear
--- its number differ there first, or its entry bears the number of no desk
+-- of the entries from version `first` on that of v is not as the calls of some desk say, or bears the number of no desk
 abbrev pub IsAtOdds : List View → ℕ → List Accepted → ℕ → Type 0
 IsAtOdds desks first entries v =
     Any (λ d. first_apart d.state.calls (versions_by d.state.number first entries) ≡ Some v) desks

@@ -1,12 +1,12 @@
 //! What a desk of a hall and a desk of one user answer alike.
 
-ghost use Rattle.std.specs.Prelude.{◌≡◌, ◌≤◌, None, IfOk, string_bytes};
+ghost use Rattle.std.specs.Prelude.{◌≡◌, ◌≤◌, None, IfOk, string_bytes, IfSome, IsTrue};
 ghost use Rattle.std.specs.Option.{IsSome};
 ghost use Rattle.mud_rules.specs.Outcome.{IsJourney};
 ghost use Rattle.mud_rules.specs.Replies.{refusal_text};
 ghost use Rattle.mud_rules.specs.Answers.{show_text};
-ghost use Rattle.mud_hall.specs.Desk.{IsSeated};
 ghost use Rattle.mud_hall.specs.Answers.{IsGuided, IsProven};
+ghost use Rattle.mud_world.specs.State.{is_player};
 
 use crate::texts::proof_answer;
 use mud_guide::{Answer, meet_alone, route_alone};
@@ -68,7 +68,7 @@ pub(crate) fn guide(
 ) -> Result<Answer, AllocError>
     requires version { version ≤ 65536 }
     requires player { IsSome player }
-    requires seated { IsSeated world.now player }
+    requires seated { IfSome player (λ p. IsTrue (is_player world.now p)) }
     requires journey { IsJourney world.now journey.now }
     ensures version { IfOk result (λ a. a.version ≡ version) }
     ensures guided { IfOk result (IsGuided world.now version player journey.now) }
@@ -92,7 +92,7 @@ pub(crate) fn prove(
 ) -> Result<Answer, AllocError>
     requires version { version ≤ 65536 }
     requires player { IsSome player }
-    requires seated { IsSeated world.now player }
+    requires seated { IfSome player (λ p. IsTrue (is_player world.now p)) }
     requires journey { IsJourney world.now journey.now }
     ensures version { IfOk result (λ a. a.version ≡ version) }
     ensures proven { IfOk result (IsProven world.now version player journey.now) }

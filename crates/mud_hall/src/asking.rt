@@ -1,12 +1,12 @@
 //! Lines that ask.
 
-ghost use Rattle.std.specs.Prelude.{◌≡◌, ◌++◌, length, codes, string_bytes, None, IfOk, OnOk};
+ghost use Rattle.std.specs.Prelude.{◌≡◌, ◌++◌, length, codes, string_bytes, None, IfOk, OnOk, IfSome, IsTrue};
 ghost use Rattle.mud_rules.specs.Outcome.{IsQuestion, IsLawful};
-ghost use Rattle.mud_chron.specs.Text.{written_text};
+ghost use Rattle.mud_chron.specs.Inner.{written_text};
 ghost use Rattle.mud_hall.specs.Told.{world_after};
-ghost use Rattle.mud_hall.specs.Desk.{IsSeated};
 ghost use Rattle.mud_hall.specs.Replies.{verdict_on};
 ghost use Rattle.mud_hall.specs.Answers.{answered, Answers, IsShown, CanAsk};
+ghost use Rattle.mud_world.specs.State.{is_player};
 
 use crate::answering;
 use crate::crew::{Crew, guide_by, prove_by};
@@ -70,7 +70,8 @@ impl<J: HallName> Desk<J> {
     // Who sits here, a player of that world, or nobody.
     fn player(&self) -> Option<u32>
         ensures player { result ≡ self.now.state.player }
-        ensures seated { IsSeated (world_after self.now.state.seen) self.now.state.player }
+        ensures seated { IfSome self.now.state.player
+            (λ p. IsTrue (is_player (world_after self.now.state.seen) p)) }
     {
         self.player
     }

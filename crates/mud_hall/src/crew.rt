@@ -1,10 +1,10 @@
 //! Several workers, who search for what the guide is asked.
 
-ghost use Rattle.std.specs.Prelude.{◌≡◌, ◌≤◌, IfOk};
+ghost use Rattle.std.specs.Prelude.{◌≡◌, ◌≤◌, IfOk, IfSome, IsTrue};
 ghost use Rattle.std.specs.Option.{IsSome};
 ghost use Rattle.mud_rules.specs.Outcome.{IsJourney};
-ghost use Rattle.mud_hall.specs.Desk.{IsSeated};
 ghost use Rattle.mud_hall.specs.Answers.{IsGuided, IsProven};
+ghost use Rattle.mud_world.specs.State.{is_player};
 
 use crate::texts::proof_answer;
 use mud_guide::{Answer, meet, route};
@@ -34,7 +34,7 @@ pub(crate) fn guide_by<R: Threads + Wait + Sync, G: Gate + Sync>(
 ) -> Result<Answer, AllocError>
     requires version { version ≤ 65536 }
     requires player { IsSome player }
-    requires seated { IsSeated world.now player }
+    requires seated { IfSome player (λ p. IsTrue (is_player world.now p)) }
     requires journey { IsJourney world.now journey.now }
     ensures version { IfOk result (λ a. a.version ≡ version) }
     ensures guided { IfOk result (IsGuided world.now version player journey.now) }
@@ -60,7 +60,7 @@ pub(crate) fn prove_by<R: Threads + Wait + Sync, G: Gate + Sync>(
 ) -> Result<Answer, AllocError>
     requires version { version ≤ 65536 }
     requires player { IsSome player }
-    requires seated { IsSeated world.now player }
+    requires seated { IfSome player (λ p. IsTrue (is_player world.now p)) }
     requires journey { IsJourney world.now journey.now }
     ensures version { IfOk result (λ a. a.version ≡ version) }
     ensures proven { IfOk result (IsProven world.now version player journey.now) }

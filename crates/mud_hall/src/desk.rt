@@ -4,8 +4,9 @@ ghost use Rattle.std.specs.Prelude.{◌≡◌, ◌++◌, ◌∷◌, [], ◌<◌,
 ghost use Rattle.std.specs.Prelude.{map, Some, None, IfOk, IfErr, OnErr, OnOk, MatchBool, string_bytes};
 ghost use Rattle.std.specs.Option.{option_to_list};
 ghost use mathlib.Core.List.{IsPrefix};
-ghost use Rattle.mud_hall.specs.Told.{notice_in, notice_text};
-ghost use Rattle.mud_hall.specs.Desk.{View, DeskState, TakesIn, Learns, IsNew, as_guest, with_told, untold};
+ghost use Rattle.mud_hall.specs.Told.{notice_text};
+ghost use Rattle.mud_hall.specs.Inner.{notice_in};
+ghost use Rattle.mud_hall.specs.Desk.{View, DeskState, TakesIn, Learns, IsNew, as_guest, untold, with_told};
 
 use crate::name::HallName;
 use mud_chron::Entry;
@@ -28,8 +29,9 @@ pub struct Desk<J: HallName> {
 }
 
 impl<J: HallName> Model for Desk<J> {
-    ghost use Rattle.std.specs.Prelude.{map, string_bytes};
-    ghost use Rattle.mud_hall.specs.Desk.{View, state_of, IsHeld};
+    ghost use Rattle.std.specs.Prelude.{◌++◌, map, take, drop, string_bytes};
+    ghost use Rattle.mud_hall.specs.Told.{notices};
+    ghost use Rattle.mud_hall.specs.Desk.{View, IsHeld};
 
     ghost Value = { View };
 
@@ -38,8 +40,16 @@ impl<J: HallName> Model for Desk<J> {
 
     ghost coded = { Prim.hlevel (codes, coded_number_tree) };
 
+    // It hears also of what its world has not taken in yet.
     ghost view = { λ d. record {
-      state = state_of d.number d.player d.replica d.calls.items (map string_bytes d.told.items);
+      state = record {
+        number = d.number;
+        player = d.player;
+        seen = d.replica.list;
+        calls = d.calls.items;
+        told = map string_bytes d.told.items
+            ++ notices d.player (take d.replica.at d.replica.list) (drop d.replica.at d.replica.list);
+      };
       at = d.replica.at;
     } };
 

@@ -1,6 +1,13 @@
 //! Laws of the definitions: each contract is a law, and its function does nothing.
 
-ghost use Rattle.mud_hall.specs.Laws.{GuideIsRight, HistoryGoesOn, WalksGo};
+ghost use Rattle.mud_hall.specs.Laws.{HistoryGoesOn, WalksGo, IsRight};
+ghost use Rattle.mud_hall.specs.Steps.{At, Step, Begins, IsRun, Hall, Ask, Makes};
+ghost use Rattle.mud_chron.specs.Entry.{Accepted as Entry};
+ghost use Rattle.std.specs.Prelude.{List, ℕ, Some, ◌≡◌};
+ghost use mathlib.Core.List.{IsPrefix};
+ghost use Rattle.mud_hall.specs.Replies.{verdict_on};
+ghost use Rattle.mud_hall.specs.Answers.{Answered};
+ghost use Rattle.mud_hall.specs.Desk.{DeskState};
 
 use mud_cert::laws::{drops_nothing, valid_is_optimal};
 use mud_cert::text_laws::no_return;
@@ -11,7 +18,12 @@ use mud_roads::laws::meeting_cost;
 /// In every run of a hall an answer about a journey is right in the world of which it speaks, and
 /// the checker accepts its certificate.
 pub fn guide()
-    ensures { GuideIsRight }
+    ensures { (capacity : ℕ) (loaded : List Entry) (begin : Hall) → Begins capacity loaded begin
+        → (steps : List Step) (hall : Hall) → IsRun capacity loaded begin steps hall
+        → (s : ℕ) (line : List ℕ) (a : Answered) (next : Hall)
+        → Makes capacity loaded hall (At s (Ask line (Some a))) next
+        → (d : DeskState) → hall.desks s ≡ Some d
+        → IsPrefix d.seen hall.history × IsRight d.seen d.player (verdict_on d.seen d.player line) a }
 {
     again();
     no_returns();

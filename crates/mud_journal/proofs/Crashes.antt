@@ -7,10 +7,11 @@ use Rattle.std.proofs.lemmas.Bool.{cases_lt}
 use Rattle.mud_chron.specs.declared.format.Format.TheVariants.{Two}
 use Rattle.mud_chron.specs.Entry.{Accepted}
 use Rattle.mud_chron.specs.Text.{journal_text}
-use Rattle.mud_chron.specs.Fronts.{Recovers, EndsInHead, EndsInLine}
+use Rattle.mud_chron.specs.Fronts.{Recovers, EndsInHead, EndsInLine, HasFrontFault}
 use Rattle.mud_chron.proofs.Fronts as fronts
 use Rattle.mud_journal.specs.Disk.{Begins}
-use Rattle.mud_journal.specs.Laws.{IsLeftOf, IsAlwaysRead, NothingIsLost, GoesOn}
+use Rattle.mud_journal.specs.Laws.{IsLeftOf, NothingIsLost, GoesOn}
+use Rattle.mud_chron.specs.declared.fault.ChronFault.{ChronFault}
 
 -- a front of a text that has at least so many bytes
 record IsFront (bytes text : List ℕ) (least : ℕ) : Type 0 where
@@ -40,7 +41,8 @@ left_front bytes synced added h =
     let f = front_of_front m n (length (journal_text Two synced)) text all h.front.1 in
     record { n = f.n; long = f.long; cut = h.left.2 ∙ ap (take m) h.front.2 ∙ f.cut }
 
-pub always_read : IsAlwaysRead
+pub always_read : (bytes : List ℕ) (synced added : List Accepted) (fault : ChronFault) → IsLeftOf bytes synced added
+    → HasFrontFault bytes fault → ⊥
 always_read bytes synced added fault h faulty =
     let f = left_front bytes synced added h in
     fronts.faults_are_no_fronts bytes fault faulty Two (synced ++ added) f.n h.allowed f.cut

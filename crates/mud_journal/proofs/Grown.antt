@@ -2,7 +2,8 @@
 use Rattle.std.proofs.Common.{◌≡◌, ℕ, ◌+◌, List, [], ◌∷◌, ◌++◌, length, sym, ◌∙◌, ap, arith, append_assoc}
 use Rattle.mud_chron.specs.declared.format.Format.{Format}
 use Rattle.mud_chron.specs.Entry.{Accepted}
-use Rattle.mud_chron.specs.Text.{line_feed, head_line, entry_text, entries_text, journal_text}
+use Rattle.mud_chron.specs.Text.{line_feed, head_line, entries_text, journal_text}
+use Rattle.mud_chron.specs.Inner.{entry_text}
 
 entries_text-append : (version : ℕ) (es fs : List Accepted)
     → entries_text version (es ++ fs) ≡ entries_text version es ++ entries_text (version + length es) fs

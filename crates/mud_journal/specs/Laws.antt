@@ -1,12 +1,11 @@
 -- Laws of the definitions: what a crash leaves of a journal, and what is made of it.
 use Rattle.std.specs.Prelude.{ℕ, List, ◌++◌, Some}
 use mathlib.Core.List.{IsPrefix}
-use Rattle.mud_chron.specs.declared.fault.ChronFault.{ChronFault}
 use Rattle.mud_chron.specs.declared.format.Format.{Format}
 use Rattle.mud_chron.specs.declared.format.Format.TheVariants.{Two}
 use Rattle.mud_chron.specs.Entry.{Accepted}
 use Rattle.mud_chron.specs.History.{AreEntriesOf}
-use Rattle.mud_chron.specs.Fronts.{Recovers, HasFrontFault}
+use Rattle.mud_chron.specs.Fronts.{Recovers}
 use Rattle.mud_journal.specs.Disk.{Kept, IsLeft, Begins, HoldsFront}
 
 -- a crash may leave these bytes of a journal, of which the first entries are synced and the others are being added
@@ -15,12 +14,6 @@ pub record IsLeftOf (bytes : List ℕ) (synced added : List Accepted) : Type 0 w
   pub allowed : AreEntriesOf Two (synced ++ added)
   pub front : HoldsFront (Some disk) synced (synced ++ added)
   pub left : IsLeft (Some disk) bytes
-
--- what a crash leaves of a journal has no fault
-abbrev pub IsAlwaysRead : Type 0
-IsAlwaysRead =
-    (bytes : List ℕ) (synced added : List Accepted) (fault : ChronFault) → IsLeftOf bytes synced added
-    → HasFrontFault bytes fault → ⊥
 
 -- in what a crash leaves of a journal all that was synced is found, and only what was written
 abbrev pub NothingIsLost : Type 0

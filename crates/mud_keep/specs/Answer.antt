@@ -3,7 +3,8 @@ use Rattle.std.specs.Prelude.{◌≡◌, ◌⊎◌, ℕ, List, length}
 use Rattle.mud_world.specs.History.{world_of}
 use Rattle.mud_chron.specs.declared.fault.ChronFault.{ChronFault}
 use Rattle.mud_chron.specs.Entry.{Accepted}
-use Rattle.mud_chron.specs.Text.{written_text}
+use Rattle.mud_chron.specs.Text.{history_text}
+use Rattle.mud_chron.specs.declared.format.Format.TheVariants.{Two}
 use Rattle.mud_chron.specs.Fronts.{HasFrontFault}
 use Rattle.mud_chron.specs.Replay.{changes_of, AreLegal, HasIllegal}
 use Rattle.mud_command.specs.declared.keeping.Wish.{Wish}
@@ -20,7 +21,7 @@ pub record IsShorterText (bytes text : List ℕ) (before after : ℕ) : Type 0 w
   pub shorter : List Accepted
   pub kept : KeepsEntries bytes entries
   pub shortened : IsShortened entries shorter
-  pub text_is : text ≡ written_text shorter
+  pub text_is : text ≡ history_text Two shorter
   pub before_is : before ≡ length entries
   pub after_is : after ≡ length shorter
 

@@ -4,7 +4,8 @@ use Rattle.mud_chron.specs.declared.fault.ChronFault.{ChronFault}
 use Rattle.mud_chron.specs.declared.fault.ChronFault.TheVariants.{BadLine}
 use Rattle.mud_chron.specs.declared.format.Format.{Format}
 use Rattle.mud_chron.specs.Entry.{Accepted}
-use Rattle.mud_chron.specs.Text.{written_text}
+use Rattle.mud_chron.specs.Text.{history_text}
+use Rattle.mud_chron.specs.declared.format.Format.TheVariants.{Two}
 use Rattle.mud_chron.specs.History.{SpellsHistory}
 use Rattle.mud_chron.specs.Faults.{HasFault}
 use Rattle.mud_chron.specs.Fronts.{Recovers, HasFrontFault}
@@ -31,5 +32,5 @@ pub record IsRecovered (bytes text : List ℕ) (torn : ℕ) : Type 0 where
   pub entries : List Accepted
   pub keep : ℕ
   pub found : Recovers bytes format entries keep
-  pub text_is : text ≡ written_text entries
+  pub text_is : text ≡ history_text Two entries
   pub torn_is : keep + torn ≡ length bytes

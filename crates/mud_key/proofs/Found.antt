@@ -1,7 +1,7 @@
 -- What the readers find is what the relations say.
 use Rattle.std.proofs.Common.{◌≡◌, ℕ, Bool, true, false, List, [], ◌∷◌, Option, Some, None, Ok, Err, Result, refl, sym}
 use Rattle.std.proofs.Common.{◌∙◌, ap, subst, arith, append-nil}
-use Rattle.std.specs.Prelude.{nat_le, if◌then◌else◌}
+use Rattle.std.specs.Prelude.{nat_le, if◌then◌else◌, ◌↔◌}
 use Rattle.std.specs.Option.{option_and_then}
 use Rattle.std.proofs.lemmas.List.Elements.{All-head}
 use Rattle.std.proofs.lemmas.Slice.Eq.{bytes_eq-Decides}
@@ -12,13 +12,13 @@ use Rattle.mud_key.specs.declared.key_fault.KeyFault.{KeyFault}
 use Rattle.mud_key.specs.declared.key_fault.KeyFault.TheVariants.{OutOfMemory, BadKey, TooManyAtoms, NoSuch, Ambiguous}
 use Rattle.mud_key.specs.Tree.{Tree, objects_of, nots_of, IsWithinLimits}
 use Rattle.mud_key.specs.Name.{IsName}
-use Rattle.mud_key.specs.Names.{one, IsNamesText, IsNoNamesText, NamesReadAs, NameReadsAs, is_only}
+use Rattle.mud_key.specs.InnerNames.{IsNamesText, NamesReadAs, NameReadsAs, is_only, one}
 use Rattle.mud_key.specs.NameReader.{Stand, name_run, name_start, settled}
 use Rattle.mud_key.specs.KeyText.{SpellsKey, ReadsAs}
 use Rattle.mud_key.specs.Machine.{run, start, State, Mode, settled as mode_settled}
 use Rattle.mud_key.specs.Builder.{outer_settled}
 use Rattle.mud_key.specs.Reading.{names_in, name_in, key_in, is_within_limits, FindsNames, FindsName, FindsKey}
-use Rattle.mud_key.specs.Reading.{AreTheNames, IsTheName, IsTheKey}
+use Rattle.mud_key.specs.Laws.{IsTheName, IsTheKey}
 use Rattle.mud_key.proofs.NamesSound.{names_sound}
 use Rattle.mud_key.proofs.NamesTaken.{names_taken, each_name, one_list}
 use Rattle.mud_key.proofs.Sound.{sound}
@@ -31,7 +31,7 @@ found_names : (text : List ℕ) (names : List (List ℕ)) (s : Option Stand) →
 found_names text names None e h = absurd (let bad : ◌≡◌ {A = Option (List (List ℕ))} None (Some names) = h in cc)
 found_names text names (Some s) e h = names_sound text s names e h
 
-pub names_law : AreTheNames
+pub names_law : (text : List ℕ) (names : List (List ℕ)) → (names_in text ≡ Some names) ↔ IsNamesText text names
 unfolding names_in
 names_law = λ text names. (
   (λ h. found_names text names (name_run (Some name_start) text) refl h),
@@ -48,13 +48,13 @@ names_found text (Err BadName) h = none (names_in text) refl
     none None e = e
     none (Some names) e = absurd (h names ((names_law text names).0 e))
 
-pub no_names : (text : List ℕ) → IsNoNamesText text
-    → record { reads : IsNoNamesText text; finds : names_in text ≡ None }
-no_names text h = record { reads = h; finds = names_found text (Err BadName) h }
-
-pub are_found : (text : List ℕ) (names : List (List ℕ)) → IsNamesText text names
-    → record { reads : IsNamesText text names; finds : names_in text ≡ Some names }
-are_found text names h = record { reads = h; finds = names_found text (Ok names) h }
+pub names_read : (text : List ℕ) (result : Result (List (List ℕ)) NamesFault) → FindsNames text result
+    → NamesReadAs text result
+names_read text (Ok names) found = (names_law text names).0 found
+names_read text (Err NoMemory) found = tt
+names_read text (Err BadName) found = λ names spelled.
+    let both : ◌≡◌ {A = Option (List (List ℕ))} None (Some names) = sym found ∙ (names_law text names).1 spelled in
+    cc
 
 -- ---- one name
 

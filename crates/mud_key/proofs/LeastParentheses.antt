@@ -9,13 +9,13 @@ use Rattle.std.proofs.lemmas.List.Elements.{All-nil, All-cons, All-push}
 use Rattle.mud_key.specs.declared.operator.Operator.{Operator}
 use Rattle.mud_key.specs.declared.operator.Operator.TheVariants.{And, Or}
 use Rattle.mud_key.specs.Tree.{Tree, Has, Asks, Not, Join, AllObjects, IsKey}
-use Rattle.mud_key.specs.Name.{IsDigit}
+use Rattle.mud_key.specs.InnerKey.{IsDigit, HasLeastParentheses}
 use Rattle.mud_key.specs.KeyText.{Level, Object, Unary, Chain, Spells, number, name, object, asks, not, parentheses}
 use Rattle.mud_key.specs.KeyText.{unary, join, space_before, space_behind, SpellsKey, sign}
 use Rattle.mud_key.specs.declared.namer.Miss.{Miss}
 use Rattle.mud_key.specs.Namer.{result_map, joined_result, resolved}
 use Rattle.mud_key.proofs.Complete.{one_key}
-use Rattle.mud_key.specs.Printed.{number_text, by_text, enclosed, printed, opens, HasLeastParentheses, ReadsBack}
+use Rattle.mud_key.specs.Printed.{number_text, by_text, enclosed, printed, opens, ReadsBack}
 
 -- a text that is an object as it stands
 abbrev pub IsObjectText : List ℕ → Type 0

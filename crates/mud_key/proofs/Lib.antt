@@ -14,4 +14,3 @@ pub mod NamesTaken
 pub mod Spaces
 pub mod NamesAreParts
 pub mod Found
-mod Left

@@ -9,8 +9,10 @@ use Rattle.std.proofs.lemmas.List.Splits.{slice_split_none, slice_split_at, join
 use Rattle.std.proofs.lemmas.Bool.{eqb-true}
 use Rattle.std.proofs.lemmas.Bool.Decides.{nat_tests}
 use Rattle.mud_key.specs.Name.{IsNameByte, IsName}
-use Rattle.mud_key.specs.Names.{SpellsName, SpellsNames, one, more, IsNamesText, IsNoNamesText, AreNames}
-use Rattle.mud_key.specs.Parts.{without_leading_spaces, without_outer_spaces, parts_of}
+use Rattle.mud_key.specs.Names.{AreNames}
+use Rattle.mud_key.specs.InnerNames.{SpellsName, SpellsNames, IsNamesText, one, more}
+use Rattle.mud_key.specs.InnerNames.{without_outer_spaces}
+use Rattle.mud_key.specs.Parts.{without_leading_spaces, parts_of}
 use Rattle.mud_key.proofs.Spaces.{none_in_front}
 
 -- ---- a name with spaces round it, without its outer spaces
@@ -128,7 +130,3 @@ parts_are_names text h = record {
       (spells_parts (slice_split (λ b. nat_eq b 44) text) h.some h.each);
   few = h.few;
 }
-
--- the parts of a text that is no names text are not the names of an object
-pub no_names_in_parts : (text : List ℕ) → IsNoNamesText text → AreNames (parts_of text) → ⊥
-no_names_in_parts text none h = none (parts_of text) (parts_are_names text h)

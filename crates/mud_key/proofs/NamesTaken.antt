@@ -13,7 +13,8 @@ use Rattle.mud_key.specs.declared.class.Class.TheVariants.{Space, Digit, Letter,
 use Rattle.mud_key.specs.declared.class.Class.TheVariants.{Ampersand, Bar, Foreign}
 use Rattle.mud_key.specs.Class.{class_of}
 use Rattle.mud_key.specs.Name.{IsNameByte, IsName, HasNoTwoSpaces}
-use Rattle.mud_key.specs.Names.{SpellsName, SpellsNames, one, more, IsNamesText, IsNoNamesText, AreNames}
+use Rattle.mud_key.specs.Names.{AreNames}
+use Rattle.mud_key.specs.InnerNames.{SpellsName, SpellsNames, IsNamesText, IsNoNamesText, one, more}
 use Rattle.mud_key.specs.NameReader.{Stand, space_step, letter_step, name_step, name_next, name_run, name_start}
 use Rattle.mud_key.specs.NameReader.{settled}
 use Rattle.mud_key.proofs.Classes.{Means, class_means}

@@ -6,13 +6,13 @@ use Rattle.mud_key.specs.declared.key_fault.KeyFault.TheVariants.{OutOfMemory, B
 use Rattle.mud_key.specs.declared.operator.Operator.{Operator}
 use Rattle.mud_key.specs.declared.operator.Operator.TheVariants.{And, Or}
 use Rattle.mud_key.specs.Tree.{Tree, Has, Asks, Not, Join, IsWithinLimits}
-use Rattle.mud_key.specs.Name.{IsDigit, IsNameText}
+use Rattle.mud_key.specs.Name.{IsNameText}
 
 -- a sharp and one to nine digits
 pub record IsNumberText (digits : List ℕ) : Type 0 where
   pub some : 0 < length digits
   pub few : length digits ≤ 9
-  pub each : All IsDigit digits
+  pub each : All (λ b. (48 ≤ b) × (b ≤ 57)) digits
 
 -- the sign of an operator
 abbrev pub sign : Operator → List ℕ
@@ -25,8 +25,7 @@ pub data Level : Type 0 where
   Unary : Level
   Chain : Level
 
--- The grammar: at a level, a text stands for a tree. Chains group from the left, since a join has a
--- chain on its left and a unary on its right. Parentheses leave no node.
+-- at a level, a text stands for a tree; a join has a chain on its left and a unary on its right: it groups leftwards
 pub data Spells : Level → List ℕ → Tree (List ℕ) → Type 0 where
   number : {digits : List ℕ} → IsNumberText digits → Spells Object (codes "#" ++ digits) (Has (codes "#" ++ digits))
   name : {text : List ℕ} → IsNameText text → Spells Object text (Has text)
@@ -44,10 +43,6 @@ pub data Spells : Level → List ℕ → Tree (List ℕ) → Type 0 where
 abbrev pub SpellsKey : List ℕ → Tree (List ℕ) → Type 0
 SpellsKey text key = Spells Chain text key
 
--- the text is a key text of no key
-abbrev pub IsNoKeyText : List ℕ → Type 0
-IsNoKeyText text = (key : Tree (List ℕ)) → SpellsKey text key → ⊥
-
 -- some text goes on from this one to a key text
 pub record BeginsKeyText (front : List ℕ) : Type 0 where
   pub rest : List ℕ
@@ -60,12 +55,11 @@ pub record IsLongestFront (text : List ℕ) (n : ℕ) : Type 0 where
   pub begins : BeginsKeyText (take n text)
   pub longest : (m : ℕ) → m ≤ length text → BeginsKeyText (take m text) → m ≤ n
 
--- `read` answered the key of the text, within the limits; or, where the text is no key text, the
--- length of its longest front that begins some key text; or, where the text is a key text beyond
--- the limits, that it has too many atoms; unless memory ran out
+-- `read` answered the key of the text, within the limits; or the length of the longest front of a text that is no key
+-- text; or, of a key text beyond the limits, that it has too many atoms; unless memory ran out
 abbrev pub ReadsAs : List ℕ → Result (Tree (List ℕ)) KeyFault → Type 0
 ReadsAs text (Ok key) = SpellsKey text key × IsWithinLimits key
 ReadsAs text (Err OutOfMemory) = Unit {0}
-ReadsAs text (Err (BadKey at)) = IsNoKeyText text × IsLongestFront text at
+ReadsAs text (Err (BadKey at)) = ((key : Tree (List ℕ)) → ¬ SpellsKey text key) × IsLongestFront text at
 ReadsAs text (Err TooManyAtoms) = (key : Tree (List ℕ)) × SpellsKey text key × (IsWithinLimits key → ⊥)
 ReadsAs text (Err other) = ⊥

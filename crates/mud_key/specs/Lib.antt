@@ -13,3 +13,6 @@ pub mod Scan
 pub mod Builder
 pub mod NameReader
 pub mod Reading
+pub mod InnerNames
+pub mod Laws
+pub mod InnerKey

@@ -8,12 +8,7 @@ pub record IsNameByte (b : ℕ) : Type 0 where
   pub to : b ≤ 126
   pub plain : AllByRecursion (λ c. b ≢ c) (codes "\"\\,|&!?()")
 
--- a digit
-abbrev pub IsDigit : ℕ → Type 0
-IsDigit b = (48 ≤ b) × (b ≤ 57)
-
--- a text that names an object in a key: name bytes, of which the first is no space and no sharp,
--- and the last no space
+-- a text that names an object in a key: name bytes, the first neither space nor sharp, the last no space
 pub record IsNameText (name : List ℕ) : Type 0 where
   pub bytes : All IsNameByte name
   pub first : (b : ℕ) × (rest : List ℕ) × (name ≡ b ∷ rest) × (b ≢ 32) × (b ≢ 35)

@@ -7,10 +7,8 @@ abbrev pub without_leading_spaces : List ℕ → List ℕ
 without_leading_spaces [] = []
 without_leading_spaces (b ∷ text) = if nat_eq b 32 then without_leading_spaces text else b ∷ text
 
--- the text without the spaces at its ends
-abbrev pub without_outer_spaces : List ℕ → List ℕ
-without_outer_spaces text = reverse (without_leading_spaces (reverse (without_leading_spaces text)))
-
 -- the stretches between the commas of the text, each without the spaces at its ends
 abbrev pub parts_of : List ℕ → List (List ℕ)
-parts_of text = map without_outer_spaces (slice_split (λ b. nat_eq b 44) text)
+parts_of text =
+    map (λ part. reverse (without_leading_spaces (reverse (without_leading_spaces part))))
+    (slice_split (λ b. nat_eq b 44) text)

@@ -34,10 +34,6 @@ abbrev pub opens : List ℕ → ℕ
 opens [] = 0
 opens (b ∷ text) = (if nat_eq b 40 then 1 else 0) + opens text
 
--- no key text of the key has fewer parentheses
-abbrev pub HasLeastParentheses : List ℕ → Tree (List ℕ) → Type 0
-HasLeastParentheses text key = (other : List ℕ) → SpellsKey other key → opens text ≤ opens other
-
 -- the text is a key text, and it is read as this key wherever each text `#n` means n
 pub record ReadsBack (text : List ℕ) (key : Tree ℕ) : Type 0 where
   pub is_key_text : (read : Tree (List ℕ)) × SpellsKey text read

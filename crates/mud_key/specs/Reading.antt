@@ -1,27 +1,23 @@
 -- What the readers find, as functions of the text, for definitions that compute with it. By
 -- the laws of this crate they find exactly what the relations say.
-use Rattle.std.specs.Prelude.{◌≡◌, ◌↔◌, ℕ, Bool, ◌&&◌, nat_le, List, Option, Some, None, Result, Ok, Err}
+use Rattle.std.specs.Prelude.{◌≡◌, ℕ, Bool, ◌&&◌, nat_le, List, Option, Some, None, Result, Ok, Err}
 use Rattle.std.specs.Prelude.{if◌then◌else◌}
 use Rattle.std.specs.Option.{option_and_then}
 use Rattle.mud_key.specs.declared.names.NamesFault.{NamesFault}
 use Rattle.mud_key.specs.declared.names.NamesFault.TheVariants.{OutOfMemory as NoMemory, BadName}
 use Rattle.mud_key.specs.declared.key_fault.KeyFault.{KeyFault}
 use Rattle.mud_key.specs.declared.key_fault.KeyFault.TheVariants.{OutOfMemory, BadKey, TooManyAtoms}
-use Rattle.mud_key.specs.Tree.{Tree, objects_of, nots_of, IsWithinLimits}
-use Rattle.mud_key.specs.Name.{IsName}
-use Rattle.mud_key.specs.Names.{IsNamesText, is_only}
+use Rattle.mud_key.specs.Tree.{Tree, objects_of, nots_of}
+use Rattle.mud_key.specs.InnerNames.{is_only}
 use Rattle.mud_key.specs.NameReader.{name_run, name_start, settled}
-use Rattle.mud_key.specs.KeyText.{SpellsKey}
 use Rattle.mud_key.specs.Machine as machine
 use Rattle.mud_key.specs.Builder.{outer_settled}
 
--- the names of a text, where it is a names text. A reader need not look into this:
--- `laws::names` says what it finds
+-- the names of a text, where it is a names text. A reader need not look into this: `laws::names` says what it finds
 unfoldable pub names_in : List ℕ → Option (List (List ℕ))
 names_in text = option_and_then settled (name_run (Some name_start) text)
 
--- the name that a text is, where it is one. A reader need not look into this:
--- `laws::name` says what it finds
+-- the name that a text is, where it is one. A reader need not look into this: `laws::name` says what it finds
 unfoldable pub name_in : List ℕ → Option (List ℕ)
 name_in text = option_and_then (λ names. if is_only text names then Some text else None) (names_in text)
 
@@ -29,8 +25,7 @@ name_in text = option_and_then (λ names. if is_only text names then Some text e
 abbrev pub is_within_limits : Tree (List ℕ) → Bool
 is_within_limits key = nat_le (objects_of key) 16 && nat_le (nots_of key) 64
 
--- the key of a text, where it is a key text within the limits. A reader need not look into this:
--- `laws::key` says what it finds
+-- the key of a key text within the limits. A reader need not look into this: `laws::key` says what it finds
 unfoldable pub key_in : List ℕ → Option (Tree (List ℕ))
 key_in text =
     option_and_then (λ key. if is_within_limits key then Some key else None)
@@ -53,15 +48,3 @@ FindsKey text (Err OutOfMemory) = Unit {0}
 FindsKey text (Err (BadKey at)) = key_in text ≡ None
 FindsKey text (Err TooManyAtoms) = key_in text ≡ None
 FindsKey text (Err other) = ⊥
-
--- the names found are those of the names text
-abbrev pub AreTheNames : Type 0
-AreTheNames = (text : List ℕ) (names : List (List ℕ)) → (names_in text ≡ Some names) ↔ IsNamesText text names
-
--- a name is found exactly in itself
-abbrev pub IsTheName : Type 0
-IsTheName = (text name : List ℕ) → (name_in text ≡ Some name) ↔ ((name ≡ text) × IsName text)
-
--- the key found is that of the key text, within the limits
-abbrev pub IsTheKey : Type 0
-IsTheKey = (text : List ℕ) (key : Tree (List ℕ)) → (key_in text ≡ Some key) ↔ (SpellsKey text key × IsWithinLimits key)

@@ -2,8 +2,7 @@
 use Rattle.std.specs.Prelude.{ℕ, ◌+◌, ◌≤◌, List, [], ◌∷◌, ◌++◌}
 use Rattle.mud_key.specs.declared.operator.Operator.{Operator}
 
--- A key over objects of one kind: texts where it is written, numbers where it is resolved. It has
--- an object, or asks an object by `?`, or is `!` and a key, or joins two keys by `&&` or `||`.
+-- a key over texts, as it is written, or over numbers: an object, one behind `?`, `!` and a key, or two keys joined
 pub data Tree (O : Type 0) : Type 0 where
   Has : O → Tree O
   Asks : O → Tree O

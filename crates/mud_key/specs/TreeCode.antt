@@ -55,9 +55,10 @@ coded_tree {O} o c =
     code_by (List (Token O)) (coded_list (coded⊎ c (coded⊎ c coded_ℕ))) (λ k. tokens k [])
     (λ ts. first_tree o (built ts [])) (λ k. ap (first_tree o) (built-tokens k [] []))
 
--- the codes of the trees of `Key` and of `KeyText`
+-- the code of the trees of `Key`. A reader need not look into this: it is its type that tells two trees apart
 abbrev pub coded_number_tree : Coded (Tree ℕ)
 coded_number_tree = coded_tree 0 coded_ℕ
 
+-- the code of the trees of `KeyText`. A reader need not look into this: it is its type that tells two trees apart
 abbrev pub coded_text_tree : Coded (Tree (List ℕ))
 coded_text_tree = coded_tree [] (coded_list coded_ℕ)

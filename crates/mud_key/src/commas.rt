@@ -1,7 +1,8 @@
 //! The parts of a text at its commas.
 
 ghost use Rattle.std.specs.Prelude.{◌≡◌, IfOk, map, string_bytes};
-ghost use Rattle.mud_key.specs.Parts.{parts_of, without_outer_spaces};
+ghost use Rattle.mud_key.specs.Parts.{parts_of};
+ghost use Rattle.mud_key.specs.InnerNames.{without_outer_spaces};
 
 use std::alloc::{AllocError, Global};
 

@@ -1,8 +1,8 @@
 //! What is known of the definitions alone.
 
-ghost use Rattle.mud_key.specs.Reading.{AreTheNames, IsTheName, IsTheKey};
+ghost use Rattle.mud_key.specs.Laws.{AreTheNames, IsTheName, IsTheKey};
 
-/// The names that are found in a text are those of the names text, and no others are.
+/// The names that are found in a text are its parts, where these are 1 to 4 names, and no others are.
 pub fn names()
     ensures { AreTheNames }
 {}

@@ -8,8 +8,8 @@
 //! | Call | What it does |
 //! |---|---|
 //! | [`Names::read`], [`Name::read`] | reads a names text, a single name |
-//! | [`Names::list`], [`Names::first`], [`Names::copy`] | all names, the one that is shown, equal names |
-//! | [`Names::of`], [`Names::has`] | one name as names, whether a text is one of them |
+//! | [`Names::list`], [`Names::copy`] | the names, of which the first is shown, equal names |
+//! | [`Names::of`] | one name as names |
 //! | [`parts`] | cuts a text at its commas |
 //! | [`read`] | reads a key text: its objects stay texts |
 //! | [`resolve`] | replaces each text by the number of the object that a [`Namer`] gives |
@@ -20,7 +20,7 @@
 //!
 //! ```text
 //! let names = mud_key::Names::read(alloc, " brass key, key ")?;
-//! names.first()                                        // `brass key`
+//! names.list()[0]                                      // `brass key`
 //! let text = mud_key::read(alloc, "#4||(#1 && ? #5)")?;
 //! let key = mud_key::resolve(alloc, &text, &namer)?;
 //! mud_key::print(alloc, &key)?                         // `#4 || (#1 && ?#5)`

@@ -1,8 +1,8 @@
 //! A single name.
 
-ghost use Rattle.std.specs.Prelude.{◌≡◌, [], ◌∷◌, IfOk, map, string_bytes};
+ghost use Rattle.std.specs.Prelude.{◌≡◌, IfOk, map, string_bytes};
 ghost use Rattle.mud_key.specs.Name.{IsName};
-ghost use Rattle.mud_key.specs.Names.{NameReadsAs, is_only};
+ghost use Rattle.mud_key.specs.InnerNames.{is_only};
 ghost use Rattle.mud_key.specs.Reading.{FindsName};
 
 use crate::names::{Names, NamesFault};
@@ -31,7 +31,6 @@ impl Name {
     /// The name that a text is. No space is dropped, and no comma parts it: exactly the names are
     /// read.
     pub fn read(alloc: Global, text: &str) -> Result<Name, NamesFault>
-        ensures reads { NameReadsAs text.now result }
         ensures finds { FindsName text.now result }
     {
         let names = match Names::read(alloc, text) {

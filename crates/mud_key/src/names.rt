@@ -1,11 +1,9 @@
 //! The names of an object.
 
 ghost use Rattle.std.specs.Prelude.{◌≡◌, [], ◌∷◌, IfOk, map, string_bytes};
-ghost use Rattle.std.specs.List.{list_any};
-ghost use Rattle.std.specs.Str.{str_eq_ignore_ascii_case};
 ghost use Rattle.mud_key.specs.Reading.{FindsNames};
-ghost use Rattle.mud_key.specs.Names.{NamesReadAs, AreNames, first_of};
-ghost use Rattle.mud_key.specs.Parts.{parts_of};
+ghost use Rattle.mud_key.specs.Names.{AreNames};
+ghost use Rattle.mud_key.specs.InnerNames.{NamesReadAs};
 
 use crate::name::Name;
 use crate::name_reader::NameReader;
@@ -58,20 +56,13 @@ impl Names {
     /// The names of a text: separated by commas, with spaces round each, which are dropped.
     /// Exactly the names texts are read (docs/KEYS.md, "Names"); any other text is `BadName`.
     pub fn read(alloc: Global, text: &str) -> Result<Names, NamesFault>
-        ensures reads { NamesReadAs text.now result }
         ensures finds { FindsNames text.now result }
-
-        // The names are the parts of the text; a text is bad only where its parts are no names.
-        ensures parts { IfOk result (λ names. names ≡ parts_of text.now) }
-        ensures bad { result ≡ Err NamesFault.BadName → ¬ AreNames (parts_of text.now) }
     {
         Names::read_text(alloc, text)
     }
 
     fn read_text(alloc: Global, text: &str) -> Result<Names, NamesFault>
         ensures reads { NamesReadAs text.now result }
-        ensures parts { IfOk result (λ names. names ≡ parts_of text.now) }
-        ensures bad { result ≡ Err NamesFault.BadName → ¬ AreNames (parts_of text.now) }
     {
         let mut reader = NameReader::new(alloc);
         for byte in text.as_bytes() {
@@ -95,31 +86,12 @@ impl Names {
         Ok(Names { list })
     }
 
-    /// Whether a text is one of the names, ASCII case ignored.
-    pub fn has(&self, text: &str) -> bool
-        ensures { result ≡ list_any (str_eq_ignore_ascii_case text.now) self.now }
-    {
-        for name in &self.list {
-            if text.eq_ignore_ascii_case(name) {
-                return true;
-            }
-        }
-        false
-    }
-
     /// The names, 1 to 4, in the order of their text.
     pub fn list(&self) -> &[String]
         ensures list { map string_bytes result.now ≡ self.now }
         ensures names { AreNames self.now }
     {
         self.list.as_slice()
-    }
-
-    /// The first name, which is the one that is shown.
-    pub fn first(&self) -> &str
-        ensures { result.now ≡ first_of self.now }
-    {
-        self.list[0].as_str()
     }
 
     /// Equal names.

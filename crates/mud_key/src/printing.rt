@@ -1,9 +1,9 @@
 //! A key's text.
 
-ghost use Rattle.std.specs.Prelude.{◌≡◌, ◌++◌, IfOk, OnOk, string_bytes, codes};
-ghost use Rattle.mud_key.specs.KeyText.{sign};
+ghost use Rattle.std.specs.Prelude.{◌≡◌, ◌++◌, IfOk, OnOk, string_bytes, codes, ℕ, List, ◌≤◌};
+ghost use Rattle.mud_key.specs.KeyText.{sign, SpellsKey};
 ghost use Rattle.mud_key.specs.Node.{key_of};
-ghost use Rattle.mud_key.specs.Printed.{printed, by_text, HasLeastParentheses, ReadsBack, opening_of, closing_of};
+ghost use Rattle.mud_key.specs.Printed.{printed, by_text, ReadsBack, opening_of, closing_of, opens};
 
 use crate::key::Key;
 use crate::node::Node;
@@ -15,7 +15,8 @@ use std::alloc::{AllocError, Global};
 pub fn print(alloc: Global, key: &Key) -> Result<String, AllocError>
     ensures text { IfOk result (λ s. string_bytes s ≡ printed (by_text key.now)) }
     ensures reads_back { IfOk result (λ s. ReadsBack (string_bytes s) key.now) }
-    ensures least { IfOk result (λ s. HasLeastParentheses (string_bytes s) (by_text key.now)) }
+    ensures least { IfOk result (λ s. (other : List ℕ)
+        → SpellsKey other (by_text key.now) → opens (string_bytes s) ≤ opens other) }
 {
     let mut out = String::new(alloc);
     print_node(&mut out, key.node())?;

@@ -1,4 +1,2 @@
-mod Keeping
-mod Written
-mod Naming
 mod Crosses
+mod Prefixes

@@ -1,9 +1,8 @@
 //! How the sessions end once no connection is taken any more.
 
-use crate::house::{Ending, House};
 use crate::kind::Kind;
-use crate::rest::rest;
-use crate::stop::StopSign;
+use mud_house::{House, StopSign, rest};
+use mud_talk::Ending;
 use std::sync::Wait;
 
 // How long the server waits between two looks at its sessions.
@@ -27,6 +26,11 @@ pub(crate) fn see_out<H, D, B, S, K: Kind<H, D, B, S>, R: Wait>(
     }
 }
 
+// Whether no session is left, and none can come of a browser that is heard: it takes its place before it leaves.
+fn is_empty<H, D, B, S, K: Kind<H, D, B, S>, R: Wait>(rt: &R, house: &House<H, D, B>) -> bool {
+    house.lobby.is_empty(rt) && K::is_empty(rt, house)
+}
+
 // Waits until no session is left, or those that are left are to end; why they are, if so.
 fn wait_for_ending<H, D, B, S, K: Kind<H, D, B, S>, R: Wait>(
     rt: &R,
@@ -43,7 +47,7 @@ fn wait_for_ending<H, D, B, S, K: Kind<H, D, B, S>, R: Wait>(
         if let Some(ending) = house.ending(rt) {
             return Some(ending);
         }
-        if K::is_empty(rt, house) {
+        if is_empty::<H, D, B, S, K, R>(rt, house) {
             return None;
         }
         rest(rt, LOOK_MILLISECONDS);
@@ -59,7 +63,7 @@ fn shut_late<H, D, B, S, K: Kind<H, D, B, S>, R: Wait>(
     ending: Ending,
 ) {
     for _ in 0..LAST_LOOKS {
-        if K::is_empty(rt, house) {
+        if is_empty::<H, D, B, S, K, R>(rt, house) {
             return;
         }
         rest(rt, LOOK_MILLISECONDS);

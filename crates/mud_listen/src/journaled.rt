@@ -1,32 +1,28 @@
 //! A server that keeps its history on a disk while it runs.
 
 ghost use Rattle.std.specs.Prelude.{◌≡◌, ◌≤◌, ◌<◌, ◌+◌, ◌++◌, ℕ, List, length, take, false};
-ghost use Rattle.std.specs.Prelude.{IfOk, IfErr, IfNone, IsTrue, OnOk, OnErr};
+ghost use Rattle.std.specs.Prelude.{IfOk, IfErr, IfNone, IsTrue, OnOk, OnErr, is_some};
 ghost use mathlib.Core.List.{IsPrefix};
 ghost use Rattle.mud_ends.specs.Ends.{Writer};
 ghost use Rattle.mud_chron.specs.Entry.{Accepted};
 ghost use Rattle.mud_journal.specs.Disk.{Holds, Begins};
-ghost use Rattle.mud_listen.specs.Listening.{MayEnd, Settles, SettlesInPart, IsListenFault};
+ghost use Rattle.mud_house.specs.Listening.{MayEnd, Settles, SettlesInPart, IsListenFault};
 
 use crate::connection::{OfHall, Shared};
-use crate::ending::settle_journaled;
-use crate::fault::ListenFault;
-use crate::house::{Bells, House, Places};
 use crate::kind::Kind;
-use crate::limits::Limits;
-use crate::listen::{port_of, resumed, serve_house};
-use crate::scribe::Scribe;
-use crate::stop::StopSign;
-use crate::writing::{write_entries, write_port};
+use crate::listen::{resumed, serve_house};
 use log::Log;
 use mud_chron::Entry;
 use mud_ends::Sink;
 use mud_hall::{Hall, HallName, NewHall};
+use mud_house::{
+    Bells, Doors, House, Limits, ListenFault, Listeners, Places, Scribe, Site, StopSign,
+    settle_journaled, write_entries, write_ports,
+};
 use mud_journal::{Disk, Found, Gate, Journal, JournalFault};
 use std::alloc::{AllocError, Global};
 use std::io::Write;
 use std::marker::Brand;
-use std::net::TcpListener;
 use std::sync::Wait;
 use std::thread;
 use std::thread::{JoinHandle, Scope, Threads};
@@ -48,14 +44,14 @@ fn begin_serving<
     rt: &'s R,
     alloc: Global,
     house: &'s House<H, D, B>,
-    listener: TcpListener,
+    listeners: Listeners,
     limits: Limits,
     stop: Option<&'s StopSign>,
 ) -> Option<JoinHandle<bool>> {
     scope
         .spawn(move || {
             let is_served = serve_house::<H, D, B, S, K, R>(
-                rt, alloc, house, listener, limits, stop,
+                rt, alloc, house, listeners, limits, stop,
             );
             house.gate.close(rt);
             is_served
@@ -65,7 +61,7 @@ fn begin_serving<
 
 // Writes the journal as it is asked for, until the gate is closed, and wakes the notice threads after each sync. Where
 // it fails, they are woken, too; the thread that takes connections looks for that by itself.
-#[tactic(auto, using(crate::proofs::Keeping::prefix_trans))]
+#[tactic(auto, using(crate::proofs::Prefixes::prefix_trans))]
 fn write_all<J: HallName, D: Disk + Drop, R: Wait>(
     rt: &R,
     house: &House<Hall<J>, Places<J>, Bells>,
@@ -105,7 +101,7 @@ fn serve_and_write<
     rt: &'s R,
     alloc: Global,
     house: &'s House<Hall<J>, Places<J>, Bells>,
-    listener: TcpListener,
+    listeners: Listeners,
     limits: Limits,
     stop: Option<&'s StopSign>,
     scribe: Scribe<J, D>,
@@ -115,7 +111,7 @@ fn serve_and_write<
         → IsListenFault capacity loaded old new f) }
 {
     let Some(serving) = begin_serving::<E, Hall<J>, Places<J>, Bells, Shared<J>, OfHall<J>, R>(
-        scope, rt, alloc, house, listener, limits, stop,
+        scope, rt, alloc, house, listeners, limits, stop,
     ) else {
         return Err(ListenFault::OutOfMemory);
     };
@@ -135,7 +131,7 @@ fn serve_journaled<
     rt: &R,
     alloc: Global,
     house: &House<Hall<J>, Places<J>, Bells>,
-    listener: TcpListener,
+    listeners: Listeners,
     limits: Limits,
     stop: Option<&StopSign>,
     scribe: Scribe<J, D>,
@@ -145,7 +141,7 @@ fn serve_journaled<
         → IsListenFault capacity loaded old new f) }
 {
     thread::scope(thread::scope_env(), rt, move |scope| {
-        serve_and_write::<J, D, _, R>(scope, rt, alloc, house, listener, limits, stop, scribe)
+        serve_and_write::<J, D, _, R>(scope, rt, alloc, house, listeners, limits, stop, scribe)
     })
 }
 
@@ -166,7 +162,8 @@ fn serve_all<J: HallName + Send + Sync, D: Disk + Drop, R: Threads + Wait + Log 
     rt: &R,
     alloc: Global,
     hall: NewHall,
-    listener: TcpListener,
+    listeners: Listeners,
+    site: Option<Site>,
     limits: Limits,
     stop: Option<&StopSign>,
     journal: Journal<D>,
@@ -189,9 +186,12 @@ fn serve_all<J: HallName + Send + Sync, D: Disk + Drop, R: Threads + Wait + Log 
     let reader = hall.reader(rt)?;
     let scribe = Scribe::new(alloc, journal, reader);
     let gate = Gate::new(&scribe.receipt());
-    let house = House::new(alloc, hall, limits, gate)?;
+    let Ok(house) = House::new(alloc, hall, limits, gate, site) else {
+        return Err(ListenFault::OutOfMemory);
+    };
+    house.warn_if_nearly_full(rt, house.hall.loaded() as usize);
     let (written, is_served) = serve_journaled::<J, D, R>(
-        rt, alloc, &house, listener, limits, stop, scribe,
+        rt, alloc, &house, listeners, limits, stop, scribe,
     )?;
     let Ok((hall, desks)) = house.into_parts(alloc) else {
         return Err(ListenFault::OutOfMemory);
@@ -206,7 +206,7 @@ fn serve<D: Disk + Drop, R: Threads + Wait + Log + Clock + Sync>(
     rt: &R,
     alloc: Global,
     hall: NewHall,
-    listener: TcpListener,
+    doors: Doors,
     limits: Limits,
     stop: Option<&StopSign>,
     journal: Journal<D>,
@@ -223,7 +223,8 @@ fn serve<D: Disk + Drop, R: Threads + Wait + Log + Clock + Sync>(
     ensures fault { IfErr result (λ f. (capacity : ℕ) (loaded : List Accepted) (old new : Writer)
         → IsListenFault capacity loaded old new f) }
 {
-    serve_all::<Brand, D, R>(rt, alloc, hall, listener, limits, stop, journal)
+    let (listeners, site) = doors.parted();
+    serve_all::<Brand, D, R>(rt, alloc, hall, listeners, site, limits, stop, journal)
 }
 
 // Copies of the entries.
@@ -263,7 +264,7 @@ fn begun<D: Disk + Drop>(
 pub fn listen_journaled<D: Disk + Drop, R: Threads + Wait + Log + Clock + Sync, W: Write>(
     rt: &R,
     alloc: Global,
-    listener: TcpListener,
+    doors: Doors,
     limits: Limits,
     loaded: Vec<Entry>,
     found: Found<D>,
@@ -276,18 +277,19 @@ pub fn listen_journaled<D: Disk + Drop, R: Threads + Wait + Log + Clock + Sync, 
     requires to { limits.capacity ≤ 65536 }
     requires found { Begins (D.kept found.disk) found.keep (take found.count loaded.items) }
     requires within { found.count ≤ length loaded.items }
-    ensures ok { IfOk result (λ j. (s : Settles limits loaded.items out.old.holds out.new.holds)
+    ensures ok { IfOk result (λ j. (s : Settles limits (is_some doors.web) loaded.items out.old.holds out.new.holds)
         × Holds (D.kept j.disk) s.history) }
-    ensures front { OnErr result (SettlesInPart limits loaded.items out.old.holds out.new.holds) }
+    ensures front { OnErr result (SettlesInPart limits (is_some doors.web) loaded.items
+        out.old.holds out.new.holds) }
     ensures fault { IfErr result (IsListenFault limits.capacity loaded.items out.old out.new) }
     ensures total { OnOk result (IfNone stop.entry (0 < limits.total)) }
 {
     let more = copies(alloc, &loaded[found.len()..])?;
     let hall = resumed(alloc, limits.capacity, loaded)?;
-    let port = port_of(&listener)?;
+    let ports = doors.ports()?;
     let journal = begun(alloc, found, &more)?;
-    write_port(alloc, out, port)?;
-    let (history, journal, is_well) = serve(rt, alloc, hall, listener, limits, stop, journal)?;
+    write_ports(alloc, out, ports)?;
+    let (history, journal, is_well) = serve(rt, alloc, hall, doors, limits, stop, journal)?;
     write_entries(alloc, out, history.as_slice())?;
     if is_well {
         Ok(journal)

@@ -3,10 +3,10 @@
 ghost use Rattle.std.specs.Thread.{IsSync};
 
 use crate::connection::Connection;
-use crate::house::{Bell, Ending, House};
-use crate::place::NoPlace;
 use crossbeam_utils::sync::Parker;
 use log::Log;
+use mud_house::{Bell, House, NoPlace};
+use mud_talk::Ending;
 use std::alloc::Global;
 use std::net::IpAddr;
 use std::sync::Wait;
@@ -41,13 +41,15 @@ pub(crate) trait Kind<H, D, B, S> {
     ) -> Option<u32>;
 
     /// The reader thread of the session at a place, at the desk of this number: it sends the greeting, gives the
-    /// session all that comes, and brings it down.
+    /// session what came already and all that comes, and brings it down.
     fn read_all<R: Threads + Wait + Log + Clock + Sync>(
         rt: &R,
+        alloc: Global,
         house: &House<H, D, B>,
         connection: &Connection<S>,
         at: usize,
         number: u32,
+        first: &[u8],
     )
         requires { IsSync R.row };
 

@@ -1,87 +1,34 @@
 //! The server: connections, their threads, and the settlement.
 
 ghost use Rattle.std.specs.Prelude.{◌≡◌, ◌≤◌, ◌<◌, length, true, Err, IfOk, IfErr, OnOk, OnErr};
-ghost use Rattle.std.specs.Prelude.{ℕ, List, IfNone, IsSome, IsTrue};
+ghost use Rattle.std.specs.Prelude.{ℕ, List, IfNone, IsSome, IsTrue, is_some};
 ghost use Rattle.mud_ends.specs.Ends.{Writer};
 ghost use Rattle.mud_chron.specs.Entry.{Accepted};
-ghost use Rattle.mud_listen.specs.Listening.{MayEnd, Settles, SettlesInPart, IsListenFault};
+ghost use Rattle.mud_house.specs.Listening.{MayEnd, Settles, SettlesInPart, IsListenFault};
 
-use crate::arrivals::{Arrival, Arrivals};
+use crate::beginning::{Begun, admit, open, read_all};
+use crate::browsers::receive;
 use crate::closing::see_out;
-use crate::connection::{Connection, OfHall, Shared, refuse};
-use crate::ending::settle;
-use crate::fault::ListenFault;
-use crate::house::{Bell, House};
+use crate::connection::{OfHall, Shared, refuse};
 use crate::kind::Kind;
-use crate::limits::Limits;
-use crate::stop::StopSign;
-use crate::wire::{Wire, set_up};
-use crate::writing::{write_entries, write_port};
-use crossbeam_utils::sync::Parker;
 use log::Log;
 use mud_chron::Entry;
 use mud_ends::Sink;
 use mud_hall::{HallName, LoadFault, NewHall};
+use mud_house::{
+    Arrival, Arrivals, Doors, House, Limits, ListenFault, Listeners, Site, StopSign, settle,
+    write_entries, write_ports,
+};
 use mud_journal::Gate;
+use mud_talk::{Entrance, Wire, set_up};
 use std::alloc::Global;
 use std::io::Write;
 use std::marker::Brand;
-use std::net::{SocketAddr, TcpListener, TcpStream};
+use std::net::{SocketAddr, TcpStream};
 use std::sync::{Arc, Wait};
 use std::thread;
 use std::thread::{Scope, Threads};
 use std::time::Clock;
-
-// What the threads of a new session are given.
-#[derive(Drop)]
-struct Begun<S> {
-    kept: Arc<Connection<S>>,
-    reads: Arc<Connection<S>>,
-    tells: Arc<Connection<S>>,
-    parker: Parker,
-    number: u32,
-}
-
-// A session at the place. What can fail without a desk comes first. The notice thread is known before the desk is
-// made, so that it misses no change.
-fn open<H, D, B, S: Drop, K: Kind<H, D, B, S>, R: Wait>(
-    rt: &R,
-    alloc: Global,
-    house: &House<H, D, B>,
-    at: usize,
-    stream: TcpStream,
-) -> Option<Begun<S>> {
-    let parker = Parker::new(alloc).ok()?;
-    let unparker = parker.unparker().clone().ok()?;
-    let wire = Arc::new(alloc, Wire::new(stream)).ok()?;
-    let bell = Bell {
-        unparker,
-        wire: Arc::try_clone(&wire).ok()?,
-    };
-    let kept = Arc::new(alloc, Connection::new(wire, K::silent())).ok()?;
-    let reads = Arc::try_clone(&kept).ok()?;
-    let tells = Arc::try_clone(&kept).ok()?;
-    K::listen(rt, house, at, bell);
-    let number = K::start(rt, alloc, house, &kept, at)?;
-    Some(Begun {
-        kept,
-        reads,
-        tells,
-        parker,
-        number,
-    })
-}
-
-// The reader thread of a session. What the bound says of `R`, a clause of the kind asks: so it is called from here.
-fn read_all<H, D, B, S, K: Kind<H, D, B, S>, R: Threads + Wait + Log + Clock + Sync>(
-    rt: &R,
-    house: &House<H, D, B>,
-    connection: &Connection<S>,
-    at: usize,
-    number: u32,
-) {
-    K::read_all(rt, house, connection, at, number);
-}
 
 // Begins a session at the place; whether it did.
 fn begin<
@@ -101,7 +48,11 @@ fn begin<
     at: usize,
     stream: TcpStream,
 ) -> bool {
-    let Some(begun) = open::<H, D, B, S, K, R>(rt, alloc, house, at, stream) else {
+    let opened = match Arc::new(alloc, Wire::new(stream, Entrance::Telnet)) {
+        Ok(wire) => open::<H, D, B, S, K, R>(rt, alloc, house, at, wire),
+        Err(_) => None,
+    };
+    let Some(begun) = opened else {
         K::free(rt, house, at);
         return false;
     };
@@ -116,7 +67,7 @@ fn begin<
         .spawn(move || K::tell_all(rt, house, &tells, &parker))
         .is_err()
         || scope
-            .spawn(move || read_all::<H, D, B, S, K, R>(rt, house, &reads, at, number))
+            .spawn(move || read_all::<H, D, B, S, K, R>(rt, alloc, house, &reads, at, number, &[]))
             .is_err()
     {
         K::leave(rt, house, &kept, at);
@@ -125,7 +76,7 @@ fn begin<
     true
 }
 
-// Serves a connection, or refuses it where there is no place for it; whether a session began.
+// Serves a connection by Telnet, or refuses it where there is no place for it.
 fn welcome<
     's,
     E,
@@ -142,16 +93,16 @@ fn welcome<
     house: &'s House<H, D, B>,
     stream: TcpStream,
     peer: SocketAddr,
-) -> bool {
+) {
     if !set_up(&stream) {
-        return false;
+        return;
     }
-    match K::take_place(rt, house, peer.ip()) {
-        Ok(at) => begin::<E, H, D, B, S, K, R>(scope, rt, alloc, house, at, stream),
-        Err(no_place) => {
-            refuse(stream, no_place);
-            false
+    match admit::<H, D, B, S, K, R>(rt, house, peer.ip()) {
+        Ok(at) => {
+            let has_begun = begin::<E, H, D, B, S, K, R>(scope, rt, alloc, house, at, stream);
+            house.lobby.settle(&house.limits, has_begun);
         }
+        Err(no_place) => refuse(stream, no_place),
     }
 }
 
@@ -175,18 +126,18 @@ fn is_done(stop: Option<&StopSign>, total: u32, count: u32) -> bool
     }
 }
 
-// How many sessions count for the total, of so many that began.
-fn counted<H, D, B>(house: &House<H, D, B>, limits: Limits, begun: u32) -> u32 {
+// How many sessions count for the total.
+fn counted<H, D, B>(house: &House<H, D, B>, limits: Limits) -> u32 {
     if limits.counts_players {
         house.players()
     } else {
-        begun
+        house.lobby.begun()
     }
 }
 
-// Takes connections until no session may begin any more, and closes the listener; whether it came to that. If not, the
-// listener can never give a connection again, or the journal takes no more. A connection that is taken after the sign
-// was set is none.
+// Takes connections until no session may begin any more, and closes the listeners; whether it came to that. If not,
+// one of them can never give a connection again, or the journal takes no more. A connection that is taken after the
+// sign was set is none.
 fn accept_all<
     's,
     E,
@@ -197,7 +148,7 @@ fn accept_all<
     K: Kind<H, D, B, S> + Send + Sync + 's,
     R: Threads + Wait + Log + Clock + Sync + 's,
 >(
-    scope: &Scope<'s, E>,
+    scope: &'s Scope<'s, E>,
     rt: &'s R,
     alloc: Global,
     house: &'s House<H, D, B>,
@@ -208,18 +159,18 @@ fn accept_all<
     ensures { IsTrue result → IfNone stop.entry (0 < limits.total) }
 {
     let mut arrivals = arrivals;
-    let mut begun = 0u32;
     for _ in rt.forever() {
-        if is_done(stop, limits.total, counted(house, limits, begun)) {
+        if is_done(stop, limits.total, counted(house, limits)) {
             return true;
         }
         match arrivals.next(rt) {
             Arrival::Never => return false,
             _ if house.gate.has_failed(rt) => return false,
-            Arrival::Connection(stream, peer) if !is_set(stop) => {
-                if welcome::<E, H, D, B, S, K, R>(scope, rt, alloc, house, stream, peer) {
-                    begun = begun.saturating_add(1);
-                }
+            Arrival::Telnet(stream, peer) if !is_set(stop) => {
+                welcome::<E, H, D, B, S, K, R>(scope, rt, alloc, house, stream, peer);
+            }
+            Arrival::Web(stream, peer) if !is_set(stop) => {
+                receive::<E, H, D, B, S, K, R>(scope, rt, alloc, house, stream, peer);
             }
             _ => continue,
         }
@@ -238,7 +189,7 @@ fn take_and_see_out<
     K: Kind<H, D, B, S> + Send + Sync + 's,
     R: Threads + Wait + Log + Clock + Sync + 's,
 >(
-    scope: &Scope<'s, E>,
+    scope: &'s Scope<'s, E>,
     rt: &'s R,
     alloc: Global,
     house: &'s House<H, D, B>,
@@ -251,13 +202,14 @@ fn take_and_see_out<
     let is_served = accept_all::<E, H, D, B, S, K, R>(
         scope, rt, alloc, house, arrivals, limits, stop,
     );
+    house.lobby.close(rt);
     see_out::<H, D, B, S, K, R>(rt, house, stop);
     is_served
 }
 
-/// Serves the connections of a listener, closes it once no session may begin any more, and waits until all sessions
-/// have ended; whether it came to that. If not, the listener can never give a connection again, or the journal takes no
-/// more.
+/// Serves the connections of the listeners, closes them once no session may begin any more, and waits until all
+/// sessions have ended; whether it came to that. If not, one of them can never give a connection again, or the journal
+/// takes no more.
 pub(crate) fn serve_house<
     H: Sync,
     D: Sync,
@@ -269,13 +221,13 @@ pub(crate) fn serve_house<
     rt: &R,
     alloc: Global,
     house: &House<H, D, B>,
-    listener: TcpListener,
+    listeners: Listeners,
     limits: Limits,
     stop: Option<&StopSign>,
 ) -> bool
     ensures { IsTrue result → IfNone stop.entry (0 < limits.total) }
 {
-    let Some(arrivals) = Arrivals::new(listener) else {
+    let Some(arrivals) = Arrivals::new(listeners) else {
         return false;
     };
     thread::scope(thread::scope_env(), rt, move |scope| {
@@ -288,7 +240,8 @@ fn serve_all<J: HallName + Send + Sync, R: Threads + Wait + Log + Clock + Sync>(
     rt: &R,
     alloc: Global,
     hall: NewHall,
-    listener: TcpListener,
+    listeners: Listeners,
+    site: Option<Site>,
     limits: Limits,
     stop: Option<&StopSign>,
 ) -> Result<(Vec<Entry>, bool), ListenFault>
@@ -303,9 +256,10 @@ fn serve_all<J: HallName + Send + Sync, R: Threads + Wait + Log + Clock + Sync>(
         → IsListenFault capacity loaded old new f) }
 {
     let hall = hall.named::<J>();
-    let house = House::new(alloc, hall, limits, Gate::open())?;
+    let house = House::new(alloc, hall, limits, Gate::open(), site)?;
+    house.warn_if_nearly_full(rt, house.hall.loaded() as usize);
     let is_served = serve_house::<_, _, _, Shared<J>, OfHall<J>, R>(
-        rt, alloc, &house, listener, limits, stop,
+        rt, alloc, &house, listeners, limits, stop,
     );
     let Ok((hall, desks)) = house.into_parts(alloc) else {
         return Err(ListenFault::OutOfMemory);
@@ -319,7 +273,7 @@ fn serve<R: Threads + Wait + Log + Clock + Sync>(
     rt: &R,
     alloc: Global,
     hall: NewHall,
-    listener: TcpListener,
+    doors: Doors,
     limits: Limits,
     stop: Option<&StopSign>,
 ) -> Result<(Vec<Entry>, bool), ListenFault>
@@ -331,7 +285,8 @@ fn serve<R: Threads + Wait + Log + Clock + Sync>(
     ensures fault { IfErr result (λ f. (capacity : ℕ) (loaded : List Accepted) (old new : Writer)
         → IsListenFault capacity loaded old new f) }
 {
-    serve_all::<Brand, R>(rt, alloc, hall, listener, limits, stop)
+    let (listeners, site) = doors.parted();
+    serve_all::<Brand, R>(rt, alloc, hall, listeners, site, limits, stop)
 }
 
 /// The hall that goes on from what was loaded.
@@ -352,33 +307,25 @@ pub(crate) fn resumed(
     }
 }
 
-/// The port of a listener.
-pub(crate) fn port_of(listener: &TcpListener) -> Result<u16, ListenFault>
-    ensures { IfErr result (λ f. f ≡ ListenFault.Accept) }
-{
-    match listener.local_addr() {
-        Ok(address) => Ok(address.port()),
-        Err(_) => Err(ListenFault::Accept),
-    }
-}
-
-/// Serves the connections of a listener, each by a session of its own at a desk of one hall, which goes on from the
-/// entries that were loaded. First it writes `listening on` and the port. A connection for which there is no place is
-/// told `(server full)`, or `(too many sessions)` where its address has as many as it may have, and closed; it counts
-/// for no session, nor does one for which memory or threads ran out before its session begins. Where `limits.total` is
-/// over 0, the listener is closed once that many sessions have begun, or became a player's where only those count, and
-/// the server ends once all sessions have ended. Once the sign is set, it ends, too: the listener is closed, each
-/// session is told `(server stops)`, and its socket is shut, two seconds later at the latest. At its end the server
-/// settles the hall, tries the history as a load would, and writes it in format 2 (docs/HISTORY.md).
+/// Serves those who come in by the doors, each by a session of its own at a desk of one hall, which goes on from the
+/// entries that were loaded. First it writes `listening on` and the port, and with a door on the web a line `web on`
+/// and its port. A connection for which there is no place is told `(server full)`, or `(too many sessions)` where its
+/// address has as many as it may have, and closed, a browser by the status 503 or 429; it counts for no session, nor
+/// does one for which memory or threads ran out before its session begins, nor a browser that only has the page. Where
+/// `limits.total` is over 0, the listeners are closed once that many sessions have begun, or became a player's where
+/// only those count, and the server ends once all sessions have ended. Once the sign is set, it ends, too: the
+/// listeners are closed, each session is told `(server stops)`, and its socket is shut, two seconds later at the
+/// latest. At its end the server settles the hall, tries the history as a load would, and writes it in format 2
+/// (docs/HISTORY.md).
 ///
-/// `Load` comes before anything is written. `Accept` comes before that, too, where the listener has no port, and else
-/// where it can never give a connection again: the sessions that run end in their own way, and the history is written
+/// `Load` comes before anything is written. `Accept` comes before that, too, where a listener has no port, and else
+/// where one can never give a connection again: the sessions that run end in their own way, and the history is written
 /// before it is answered. Any other fault of an `accept` is logged once, and passed over. `Settle` comes where the
 /// desks made no history that can be loaded again.
 pub fn listen_on<R: Threads + Wait + Log + Clock + Sync, W: Write>(
     rt: &R,
     alloc: Global,
-    listener: TcpListener,
+    doors: Doors,
     limits: Limits,
     loaded: Vec<Entry>,
     stop: Option<&StopSign>,
@@ -388,15 +335,16 @@ pub fn listen_on<R: Threads + Wait + Log + Clock + Sync, W: Write>(
     requires workers { limits.workers ≤ 8 }
     requires from { 1 ≤ limits.capacity }
     requires to { limits.capacity ≤ 65536 }
-    ensures ok { OnOk result (Settles limits loaded.items out.old.holds out.new.holds) }
-    ensures front { OnErr result (SettlesInPart limits loaded.items out.old.holds out.new.holds) }
+    ensures ok { OnOk result (Settles limits (is_some doors.web) loaded.items out.old.holds out.new.holds) }
+    ensures front { OnErr result (SettlesInPart limits (is_some doors.web) loaded.items
+        out.old.holds out.new.holds) }
     ensures fault { IfErr result (IsListenFault limits.capacity loaded.items out.old out.new) }
     ensures total { OnOk result (IfNone stop.entry (0 < limits.total)) }
 {
     let hall = resumed(alloc, limits.capacity, loaded)?;
-    let port = port_of(&listener)?;
-    write_port(alloc, out, port)?;
-    let (history, is_served) = serve(rt, alloc, hall, listener, limits, stop)?;
+    let ports = doors.ports()?;
+    write_ports(alloc, out, ports)?;
+    let (history, is_served) = serve(rt, alloc, hall, doors, limits, stop)?;
     write_entries(alloc, out, history.as_slice())?;
     if is_served {
         Ok(())

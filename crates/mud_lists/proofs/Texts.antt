@@ -5,7 +5,7 @@ use Rattle.std.specs.List.{AllZip, list_any}
 use Rattle.std.specs.Map.{lookup, KeepsOthers}
 use Rattle.std.proofs.lemmas.Bool.{true≢false, and_parts, eqb-true}
 use Rattle.mud_lists.specs.Owners.{owner_of}
-use Rattle.mud_lists.specs.OwnersView.{seen_of}
+use Rattle.mud_lists.specs.Inner.{seen_of}
 
 abbrev pub Text : Type 0
 Text = Vec ℕ Global

@@ -2,3 +2,4 @@ pub mod Rising
 pub mod Lists
 pub mod Owners
 pub mod OwnersView
+pub mod Inner

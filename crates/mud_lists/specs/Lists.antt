@@ -15,10 +15,6 @@ AreSame old new = (n : ℕ) → list_at new n ≡ list_at old n
 abbrev pub AreChanged : (ℕ → Bool) → (List ℕ → List ℕ) → List (ℕ × List ℕ) → List (ℕ × List ℕ) → Type 0
 AreChanged test f old new = (n : ℕ) → list_at new n ≡ (if test n then f (list_at old n) else list_at old n)
 
--- each number has the empty list
-abbrev pub AreEmpty : List (ℕ × List ℕ) → Type 0
-AreEmpty lists = (n : ℕ) → list_at lists n ≡ []
-
 -- some lists of the holders that pass the test may be changed by f, and no others
 abbrev pub AreBetween : (ℕ → Bool) → (List ℕ → List ℕ) → List (ℕ × List ℕ) → List (ℕ × List ℕ) → Type 0
 AreBetween test f old new =

@@ -8,14 +8,6 @@ use Rattle.std.specs.Str.{str_to_ascii_lowercase}
 abbrev pub owner_of : List (List ℕ × ℕ) → List ℕ → Option ℕ
 owner_of owners text = lookup (bytes_eq text) owners
 
--- no text has an owner
-abbrev pub HaveNone : List (List ℕ × ℕ) → Type 0
-HaveNone owners = (t : List ℕ) → owner_of owners t ≡ None
-
--- each text has the same owner
-abbrev pub HaveSameOwners : List (List ℕ × ℕ) → List (List ℕ × ℕ) → Type 0
-HaveSameOwners old new = (t : List ℕ) → owner_of new t ≡ owner_of old t
-
 -- the texts have this owner, or none, and each other text has the owner that it had
 abbrev pub AreOwnersSet : List (List ℕ) → Option ℕ → List (List ℕ × ℕ) → List (List ℕ × ℕ) → Type 0
 AreOwnersSet texts owner old new =
@@ -25,8 +17,7 @@ AreOwnersSet texts owner old new =
 abbrev pub is_lower_of : List (List ℕ) → List ℕ → Bool
 is_lower_of texts t = list_any (λ a. bytes_eq t (str_to_ascii_lowercase a)) texts
 
--- in lower case the new texts have this owner, the old ones that are no new ones none, and each other text has the
--- owner that it had
+-- in lower case the new texts have this owner, other old ones none, and each other text has the owner that it had
 abbrev pub AreOwnersPassed : List (List ℕ) → List (List ℕ) → ℕ → List (List ℕ × ℕ) → List (List ℕ × ℕ) → Type 0
 AreOwnersPassed olds news owner old new =
     (t : List ℕ) → owner_of new t

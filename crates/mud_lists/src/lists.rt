@@ -1,9 +1,9 @@
 //! A rising list for each number.
 
-ghost use Rattle.std.specs.Prelude.{◌≡◌, [], nat_eq, OnOk, OnErr, IfOk};
+ghost use Rattle.std.specs.Prelude.{◌≡◌, [], nat_eq, OnOk, OnErr, IfOk, ℕ};
 ghost use Rattle.mud_lists.specs.Rising.{inserted, put, without};
 ghost use Rattle.std.specs.List.{list_any};
-ghost use Rattle.mud_lists.specs.Lists.{list_at, AreSame, AreChanged, AreEmpty};
+ghost use Rattle.mud_lists.specs.Lists.{list_at, AreSame, AreChanged};
 
 use crate::numbers::Rising;
 use indexmap::IndexMap;
@@ -36,7 +36,7 @@ impl Model for Lists {
 impl Lists {
     /// No lists: each number has the empty one.
     pub fn new(alloc: Global) -> Lists
-        ensures { AreEmpty result }
+        ensures { (n : ℕ) → list_at result n ≡ [] }
     {
         Lists {
             alloc,

@@ -1,12 +1,13 @@
 //! An owner for each text.
 
-ghost use Rattle.std.specs.Prelude.{◌≡◌, ◌≤◌, None, Some, map, length, string_bytes, bytes_eq, OnOk, OnErr, IfOk};
+ghost use Rattle.std.specs.Prelude.{◌≡◌, ◌≤◌, None, Some, map, length, string_bytes, bytes_eq, OnOk, OnErr, IfOk, ℕ};
+ghost use Rattle.std.specs.Prelude.{List};
 ghost use Rattle.std.specs.Char.{to_ascii_lowercase};
 ghost use Rattle.std.specs.Str.{str_to_ascii_lowercase};
-ghost use Rattle.std.specs.Map.{lookup};
 ghost use Rattle.indexmap.specs.IndexMap.{spare};
-ghost use Rattle.mud_lists.specs.Owners.{owner_of, AreOwnersSet, AreOwnersPassed, HaveSameOwners, HaveNone};
-ghost use Rattle.mud_lists.specs.OwnersView.{items_of, seen_of};
+ghost use Rattle.mud_lists.specs.Owners.{owner_of, AreOwnersSet, AreOwnersPassed};
+ghost use Rattle.mud_lists.specs.Inner.{seen_of};
+ghost use Rattle.mud_lists.specs.OwnersView.{items_of};
 
 use indexmap::IndexMap;
 use std::alloc::{AllocError, Global};
@@ -80,19 +81,17 @@ impl Drop for Owners {
 }
 
 impl Model for Owners {
-    ghost use Rattle.std.specs.Prelude.{ℕ, List};
+    ghost use Rattle.std.specs.Prelude.{ℕ, List, map};
 
     ghost Value = { List (List ℕ × ℕ) };
 
-    ghost use Rattle.mud_lists.specs.OwnersView.{seen_of};
-
-    ghost view = { λ a. seen_of a.owners.entries };
+    ghost view = { λ a. map (λ e. (e.0.items, e.1)) a.owners.entries };
 }
 
 impl Owners {
     /// No text has an owner.
     pub fn new(alloc: Global) -> Owners
-        ensures { HaveNone result }
+        ensures { (text : List ℕ) → owner_of result text ≡ None }
     {
         Owners {
             alloc,
@@ -140,7 +139,7 @@ impl Owners {
     pub fn pass(&mut self, old: &[String], new: &[String], owner: u32) -> Result<(), AllocError>
         ensures ok { OnOk result (AreOwnersPassed (map string_bytes old.now) (map string_bytes new.now) owner
             self.old self.new) }
-        ensures err { OnErr result (HaveSameOwners self.old self.new) }
+        ensures err { OnErr result ((text : List ℕ) → owner_of self.new text ≡ owner_of self.old text) }
     {
         let gone = lower_all(self.alloc, old)?;
         let come = lower_all(self.alloc, new)?;

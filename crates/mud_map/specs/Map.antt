@@ -1,9 +1,8 @@
 -- The rooms and exits of a world as a graph in DOT.
-use Rattle.std.specs.Prelude.{ℕ, Bool, false, nat_eq, List, [], ◌++◌, codes, Option, Some, None, if◌then◌else◌}
+use Rattle.std.specs.Prelude.{ℕ, Bool, false, nat_eq, List, [], ◌++◌, codes, get_or, Option, Some, None, if◌then◌else◌}
 use Rattle.std.specs.Option.{option_map_or}
 use Rattle.std.specs.Fmt.{decimal}
 use Rattle.std.specs.List.{flat_map, list_any}
-use Rattle.mud_key.specs.Names.{first_of}
 use Rattle.mud_key.specs.Tree.{Tree}
 use Rattle.mud_key.specs.Printed.{number_text, by_text, printed}
 use Rattle.mud_world.specs.Kinds.{is_room_kind, kind_passage}
@@ -27,7 +26,7 @@ drawing accounts meeting = record { accounts = accounts; meeting = meeting }
 
 -- the first name of an object, and its number
 abbrev pub title_text : ℕ → Record → List ℕ
-title_text n r = first_of r.names ++ codes " " ++ number_text n
+title_text n r = get_or r.names 0 [] ++ codes " " ++ number_text n
 
 -- what it costs a player to come to the room, in a line of its own, if this is the room's label
 abbrev pub cost_text : ℕ → ℕ → ℕ × Label → List ℕ

@@ -41,7 +41,7 @@ fn push_number(out: &mut Vec<u8>, number: u32) -> Result<(), AllocError>
 fn push_title(out: &mut Vec<u8>, number: u32, kept: &Record) -> Result<(), AllocError>
     ensures { OnOk result (out.new.items ≡ out.old.items ++ title_text number kept.now) }
 {
-    push(out, kept.names.first())?;
+    push(out, &kept.names.list()[0])?;
     push(out, " ")?;
     push_number(out, number)
 }

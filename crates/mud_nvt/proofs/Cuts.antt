@@ -2,6 +2,7 @@
 use Rattle.std.proofs.Common.{ℕ, zero, suc, ◌≡◌, refl, ap, sym, subst, ◌∙◌, ◌≤◌, arith, true, false, List, [], ◌∷◌}
 use Rattle.std.proofs.Common.{◌++◌, length, append_assoc, append-nil, Option, Some, None, ◌==◌, if◌then◌else◌, eqb-true}
 use Rattle.std.proofs.Common.{◌⊎◌, ◌↔◌, inl, inr}
+use Rattle.std.proofs.Common.{◌≢◌}
 use Rattle.std.proofs.lemmas.Bool.Decides.{nat_tests}
 use Rattle.mud_nvt.specs.declared.codes.TheConstants.{IAC, SE, SB}
 use Rattle.mud_nvt.specs.declared.telnet.Piece.{Piece}
@@ -10,9 +11,16 @@ use Rattle.mud_nvt.specs.declared.telnet.Place.TheVariants.{Between, Inside}
 use Rattle.mud_nvt.specs.Telnet.{is_verb, pieces, pieces_up_to, first_piece, behind_iac, behind_end, request}
 use Rattle.mud_nvt.specs.Telnet.{subnegotiation}
 use Rattle.mud_nvt.specs.Grammar.{IsInside, at_end, a_byte, a_pair, Spells, a_plain_byte, a_doubled_iac, a_command}
-use Rattle.mud_nvt.specs.Grammar.{a_request, a_subnegotiation, IsUnfinished, no_byte, an_iac, a_verb}
-use Rattle.mud_nvt.specs.Grammar.{an_open_subnegotiation, an_iac_inside, Cuts, to_rest, to_piece}
+use Rattle.mud_nvt.specs.Grammar.{a_request, a_subnegotiation, Cuts, to_rest, to_piece}
 use Rattle.mud_nvt.proofs.Cutting.{scan, pieces_is, Begins, first_piece_begins}
+
+-- less than a whole piece
+data IsUnfinished : List ℕ → Type 0 where
+  no_byte : IsUnfinished []
+  an_iac : IsUnfinished (IAC ∷ [])
+  a_verb : (verb : ℕ) → is_verb verb ≡ true → IsUnfinished (IAC ∷ verb ∷ [])
+  an_open_subnegotiation : (inside : List ℕ) → IsInside inside → IsUnfinished (IAC ∷ SB ∷ inside)
+  an_iac_inside : (inside : List ℕ) → IsInside inside → IsUnfinished (IAC ∷ SB ∷ (inside ++ IAC ∷ []))
 
 inside_is : (bytes : List ℕ) → IsInside bytes → (more : List ℕ) → scan Inside (bytes ++ more) ≡ scan Inside more
 inside_is bytes at_end more = refl
@@ -41,14 +49,13 @@ unfinished_is rest (a_verb verb e) = rw (verb_is_no_iac verb e, verb_is_no_sb ve
 unfinished_is rest (an_open_subnegotiation inside i) = rw (sym (append-nil inside)) (inside_is inside i [])
 unfinished_is rest (an_iac_inside inside i) = inside_is inside i (IAC ∷ [])
 
--- no other pieces are cut from these bytes
-pub cuts_only : (bytes : List ℕ) (ps : List Piece) → Cuts bytes ps → scan Between bytes ≡ ps
-cuts_only bytes ps (to_rest rest u) = unfinished_is rest u
-cuts_only bytes ps (to_piece p front back others s c) =
-    spelled_is p front s back ∙ ap (λ qs. p ∷ qs) (cuts_only back others c)
-
-pub pieces_only : (bytes : List ℕ) (ps : List Piece) → Cuts bytes ps → pieces bytes ≡ ps
-pieces_only bytes ps c = pieces_is bytes ∙ cuts_only bytes ps c
+-- in front of less than a piece stands no piece
+no_piece : (rest : List ℕ) → IsUnfinished rest → (p : Piece) (front back : List ℕ) → Spells p front
+    → rest ≢ front ++ back
+no_piece rest u p front back k e =
+    let none : [] ≡ p ∷ scan Between back =
+    sym (unfinished_is rest u) ∙ (ap (scan Between) e ∙ spelled_is p front k back) in
+    absurd (cc)
 
 -- what behind_end answers, by the grammar
 abbrev Closes : List ℕ → Option (List ℕ) → Type 0
@@ -144,14 +151,32 @@ starts (b ∷ bytes) =
       | false ↦ λ e. (b ∷ [], a_plain_byte b e, refl)
     ] refl
 
+-- where no piece stands in front, there is less than a piece
+unfinished : (rest : List ℕ) → ((p : Piece) (front back : List ℕ) → Spells p front → rest ≢ front ++ back)
+    → IsUnfinished rest
+unfinished rest u =
+    elim (first_piece rest) as (λ o. Starts rest o → IsUnfinished rest) [
+      | None ↦ λ s. s
+      | Some p ↦ λ s. absurd (u p.0 s.0 p.1 s.1 s.2)
+    ] (starts rest)
+
+-- no other pieces are cut from these bytes
+pub cuts_only : (bytes : List ℕ) (ps : List Piece) → Cuts bytes ps → scan Between bytes ≡ ps
+cuts_only bytes ps (to_rest rest u) = unfinished_is rest (unfinished rest u)
+cuts_only bytes ps (to_piece p front back others s c) =
+    spelled_is p front s back ∙ ap (λ qs. p ∷ qs) (cuts_only back others c)
+
+pub pieces_only : (bytes : List ℕ) (ps : List Piece) → Cuts bytes ps → pieces bytes ≡ ps
+pieces_only bytes ps c = pieces_is bytes ∙ cuts_only bytes ps c
+
 pieces_up_to_cut : (n : ℕ) (bytes : List ℕ) → length bytes ≤ n → Cuts bytes (pieces_up_to n bytes)
-pieces_up_to_cut zero [] h = to_rest [] no_byte
+pieces_up_to_cut zero [] h = to_rest [] (no_piece [] no_byte)
 pieces_up_to_cut zero (b ∷ bytes) h = absurd (omega arith)
 pieces_up_to_cut (suc n) bytes h =
     elim (first_piece bytes) as
     (λ o. Starts bytes o → Begins (length bytes) o (scan Between bytes)
     → Cuts bytes (elim o [ None ↦ [] | Some p ↦ p.0 ∷ pieces_up_to n p.1 ])) [
-      | None ↦ λ s l. to_rest bytes s
+      | None ↦ λ s l. to_rest bytes (no_piece bytes s)
       | Some p ↦
           λ s l. subst (λ bs. Cuts bs (p.0 ∷ pieces_up_to n p.1)) (sym s.2)
           (to_piece p.0 s.0 p.1 (pieces_up_to n p.1) s.1 (pieces_up_to_cut n p.1 (omega arith)))

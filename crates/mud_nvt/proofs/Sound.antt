@@ -12,7 +12,7 @@ use Rattle.mud_nvt.specs.declared.telnet.Piece.TheVariants.{Data, Command, Reque
 use Rattle.mud_nvt.specs.declared.strokes.Stroke.{Stroke}
 use Rattle.mud_nvt.specs.declared.strokes.Stroke.TheVariants.{Character, EraseCharacter, EraseLine, EndLine}
 use Rattle.mud_nvt.specs.declared.strokes.Stroke.TheVariants.{AreYouThere, Refuse, Nothing}
-use Rattle.mud_nvt.specs.Editing.{stroke, data_stroke}
+use Rattle.mud_nvt.specs.Editing.{stroke}
 use Rattle.mud_nvt.specs.Units.{Given, Text, TooLong, Ayt, units}
 use Rattle.mud_nvt.specs.Lines.{IsPrintable, IsSound, IsPlain}
 use Rattle.mud_nvt.specs.Machine.{Held, start, next, next_text, text_with, stroke_units, finished_piece, after_piece}
@@ -31,7 +31,7 @@ plain_character b =
       | false ↦ λ e. tt
     ] refl
 
-plain_data : (after_cr : Bool) (b : ℕ) → IsPlain (data_stroke after_cr b)
+plain_data : (after_cr : Bool) (b : ℕ) → IsPlain (stroke after_cr (Data b))
 plain_data after_cr b =
     plain_if (after_cr && ((b == LF) || (b == NUL))) Nothing _ tt
     (plain_if ((b == LF) || (b == CR)) EndLine _ tt

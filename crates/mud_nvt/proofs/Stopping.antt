@@ -49,9 +49,5 @@ stops_before old held bytes b e n = record {
   here = λ earlier s.
       let there : held ≡ run start (earlier ++ bytes) =
       e ∙ (ap (λ h. run h bytes) s.is ∙ sym (run-append earlier bytes start)) in
-      record {
-        fresh = byte_strokes held b;
-        here = rw there (strokes_more (earlier ++ bytes) b);
-        needs = n;
-      };
+      (byte_strokes held b, rw there (strokes_more (earlier ++ bytes) b), n);
 }

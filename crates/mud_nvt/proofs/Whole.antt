@@ -46,13 +46,7 @@ pub takes_in : (old new : Held) (before after : List Given) (bytes : List ℕ) �
 takes_in old new before after bytes n a = record {
   stands = λ earlier s. record { is = n ∙ (ap (λ h. run h bytes) s.is ∙ sym (run-append earlier bytes start)) };
   grows = λ earlier s.
-      record {
-        fresh =
-            run_units old bytes;
-        here =
-            a;
-        there = units-append earlier bytes ∙ ap (λ h. units earlier ++ run_units h bytes) (sym s.is);
-      };
+      (run_units old bytes, a, units-append earlier bytes ∙ ap (λ h. units earlier ++ run_units h bytes) (sym s.is));
 }
 
 -- after one byte more

@@ -1,5 +1,5 @@
--- The same pieces by a grammar: each has its spellings, and the rest begins one that isn't whole yet.
-use Rattle.std.specs.Prelude.{ℕ, List, [], ◌∷◌, ◌++◌, ◌==◌, true, false, ◌≡◌}
+-- The same pieces by a grammar: each has its spellings, and the rest is less than a whole one.
+use Rattle.std.specs.Prelude.{ℕ, List, [], ◌∷◌, ◌++◌, ◌==◌, true, false, ◌≡◌, ◌≢◌}
 use Rattle.mud_nvt.specs.declared.codes.TheConstants.{IAC, SE, SB}
 use Rattle.mud_nvt.specs.declared.telnet.Piece.{Piece}
 use Rattle.mud_nvt.specs.declared.telnet.Piece.TheVariants.{Data, Command, Request, Subnegotiation}
@@ -19,16 +19,8 @@ pub data Spells : Piece → List ℕ → Type 0 where
   a_request : (verb option : ℕ) → is_verb verb ≡ true → Spells (Request verb option) (IAC ∷ verb ∷ option ∷ [])
   a_subnegotiation : (inside : List ℕ) → IsInside inside → Spells Subnegotiation (IAC ∷ SB ∷ (inside ++ IAC ∷ SE ∷ []))
 
--- less than a whole piece
-pub data IsUnfinished : List ℕ → Type 0 where
-  no_byte : IsUnfinished []
-  an_iac : IsUnfinished (IAC ∷ [])
-  a_verb : (verb : ℕ) → is_verb verb ≡ true → IsUnfinished (IAC ∷ verb ∷ [])
-  an_open_subnegotiation : (inside : List ℕ) → IsInside inside → IsUnfinished (IAC ∷ SB ∷ inside)
-  an_iac_inside : (inside : List ℕ) → IsInside inside → IsUnfinished (IAC ∷ SB ∷ (inside ++ IAC ∷ []))
-
--- the bytes are the spellings of these pieces, one after the other, and then less than a whole piece
+-- the bytes are the spellings of these pieces, one after the other, and then a rest with no piece in front
 pub data Cuts : List ℕ → List Piece → Type 0 where
-  to_rest : (rest : List ℕ) → IsUnfinished rest → Cuts rest []
+  to_rest : (rest : List ℕ) → ((p : Piece) (front back : List ℕ) → Spells p front → rest ≢ front ++ back) → Cuts rest []
   to_piece : (p : Piece) (front back : List ℕ) (ps : List Piece) → Spells p front → Cuts back ps
       → Cuts (front ++ back) (p ∷ ps)

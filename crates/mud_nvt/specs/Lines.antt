@@ -6,13 +6,13 @@ use Rattle.mud_nvt.specs.declared.strokes.Stroke.{Stroke}
 use Rattle.mud_nvt.specs.declared.strokes.Stroke.TheVariants.{Character}
 use Rattle.mud_nvt.specs.Units.{Given, Text}
 
--- a character from the space to the tilde
+-- a character from the space to the tilde, for clauses of private parts
 abbrev pub IsPrintable : ℕ → Type 0
 IsPrintable c = (SPACE ≤ c) × (c ≤ TILDE)
 
--- a line is of printable characters, and of 1,000 at most
+-- a line is of characters from the space to the tilde, and of 1,000 at most
 abbrev pub IsSound : Given → Type 0
-IsSound (Text text) = All IsPrintable text × (length text ≤ MOST)
+IsSound (Text text) = All (λ c. (SPACE ≤ c) × (c ≤ TILDE)) text × (length text ≤ MOST)
 IsSound other = Unit {0}
 
 -- a stroke types a printable character, or none

@@ -1,7 +1,7 @@
 -- A machine that mirrors the code: the same units, a byte at a time. Only private clauses cite its steps; a lemma ties
 -- it to the definition: what it gives for all bytes is their units.
-use Rattle.std.specs.Prelude.{ℕ, List, [], ◌∷◌, ◌++◌, length, Option, Some, None, ◌==◌, nat_lt, Bool, true, false}
-use Rattle.std.specs.Prelude.{if◌then◌else◌}
+use Rattle.std.specs.Prelude.{ℕ, List, [], ◌∷◌, ◌++◌, length, take, ◌-◌, Option, Some, None, ◌==◌, nat_lt}
+use Rattle.std.specs.Prelude.{Bool, true, false, if◌then◌else◌}
 use Rattle.mud_nvt.specs.declared.codes.TheConstants.{IAC, SE, SB}
 use Rattle.mud_nvt.specs.declared.TheConstants.{MOST}
 use Rattle.mud_nvt.specs.declared.telnet.Piece.{Piece}
@@ -12,7 +12,7 @@ use Rattle.mud_nvt.specs.declared.strokes.Stroke.{Stroke}
 use Rattle.mud_nvt.specs.declared.strokes.Stroke.TheVariants.{Character, EraseCharacter, EraseLine, EndLine}
 use Rattle.mud_nvt.specs.declared.strokes.Stroke.TheVariants.{AreYouThere, Refuse}
 use Rattle.mud_nvt.specs.Telnet.{is_verb}
-use Rattle.mud_nvt.specs.Editing.{stroke, is_cr, without_last}
+use Rattle.mud_nvt.specs.Editing.{stroke, is_cr}
 use Rattle.mud_nvt.specs.Units.{Given, Text, TooLong, Ayt, Answer}
 
 -- where the byte leads
@@ -39,8 +39,7 @@ finished_piece (BehindVerb verb) b = Some (Request verb b)
 finished_piece Inside b = None
 finished_piece InsideBehindIac b = if b == SE then Some Subnegotiation else None
 
--- what a terminal holds: where in a piece it is, whether the last whole piece is a CR, the present line,
--- and whether that is too long already, in which case its text doesn't count
+-- what a terminal holds: its place in a piece, whether the piece before is a CR, the line, whether that is too long
 pub record Held : Type 0 where
   pub place : Place
   pub after_cr : Bool
@@ -50,6 +49,10 @@ pub record Held : Type 0 where
 -- what a terminal holds to which nothing came
 abbrev pub start : Held
 start = record { place = Between; after_cr = false; text = []; too_long = false }
+
+-- a text without its last character: no text stays so
+abbrev pub without_last : List ℕ → List ℕ
+without_last text = take (length text - 1) text
 
 -- the text after a character, where there is room for it
 abbrev pub text_with : Bool → List ℕ → ℕ → List ℕ

@@ -16,12 +16,8 @@ takes_memory EraseLine = false
 takes_memory Nothing = false
 takes_memory other = true
 
--- behind these bytes the byte finishes a piece whose stroke may take memory
-pub record NeedsMemory (bytes : List ℕ) (b : ℕ) : Type 0 where
-  pub fresh : List Stroke
-  pub here : strokes (pieces (bytes ++ b ∷ [])) ≡ strokes (pieces bytes) ++ fresh
-  pub needs : IsTrue (list_any takes_memory fresh)
-
--- the terminal that took these bytes in stops before a byte that needs memory, whatever came earlier
+-- whatever came earlier, behind these bytes the byte finishes a piece whose stroke may take memory
 pub record StopsBefore (old : Held) (bytes : List ℕ) (b : ℕ) : Type 0 where
-  pub here : (earlier : List ℕ) → StandsAfter old earlier → NeedsMemory (earlier ++ bytes) b
+  pub here : (earlier : List ℕ) → StandsAfter old earlier → (fresh : List Stroke)
+      × (strokes (pieces ((earlier ++ bytes) ++ b ∷ [])) ≡ strokes (pieces (earlier ++ bytes)) ++ fresh)
+      × IsTrue (list_any takes_memory fresh)

@@ -45,7 +45,6 @@ abbrev pub pieces_up_to : ℕ → List ℕ → List Piece
 pieces_up_to zero bytes = []
 pieces_up_to (suc n) bytes = elim (first_piece bytes) [ None ↦ [] | Some p ↦ p.0 ∷ pieces_up_to n p.1 ]
 
--- the whole pieces of these bytes: there are no more pieces than bytes, and what is unfinished is none.
--- A reader need not look into this: `laws::cutting` says that they are those of the grammar
+-- the whole pieces of these bytes. A reader need not look into this: the law `cutting` says them by the grammar
 abbrev pub pieces : List ℕ → List Piece
 pieces bytes = pieces_up_to (length bytes) bytes

@@ -1,7 +1,7 @@
 -- The roads of a player are the steps of the exits that are open to him, by rising number.
 use Rattle.std.proofs.Common.{◌≡◌, ℕ, zero, suc, ◌+◌, ◌<◌, ◌≤◌, ◌⊎◌, inl, inr, true, false, cond, List, [], ◌∷◌, Option}
 use Rattle.std.proofs.Common.{Some, None, refl, sym, ◌∙◌, ap, subst, arith, ⊎_elim}
-use Rattle.std.specs.Prelude.{nat_eq, IsTrue, Contains, All, AllPairs}
+use Rattle.std.specs.Prelude.{nat_eq, IsTrue, Contains, All, AllPairs, ◌↔◌}
 use Rattle.std.specs.Option.{option_map, option_map_or, option_and_then}
 use Rattle.std.specs.List.{list_any, filter_map, cons_option}
 use Rattle.std.proofs.lemmas.Bool.{eqb-true, eq-eqb, true≢false, or_cases, or_left, or_right}
@@ -17,8 +17,9 @@ use Rattle.mud_world.specs.Sound.{IsSound, IsPlacedWell}
 use Rattle.mud_world.proofs.Records.{record_cases, bool_cases, in_bounds}
 use Rattle.mud_world.proofs.Listed.{leaving_law}
 use Rattle.mud_roads.specs.declared.label.Step.{Step}
-use Rattle.mud_roads.specs.Open.{passable, step_by, open_step, roads_of, Knowledge, IsTraveller}
-use Rattle.mud_roads.specs.Laws.{IsRoad, AreRoads}
+use Rattle.mud_roads.specs.Open.{passable, roads_of, Knowledge, IsTraveller}
+use Rattle.mud_roads.specs.Inner.{step_by, open_step}
+use Rattle.mud_roads.specs.Laws.{IsRoad}
 
 -- ---- what a list of numbers gives
 pub passage_cases : {P : Type 0} (v : Option Passage) → (v ≡ None → P) → ((a : Passage) → v ≡ Some a → P) → P
@@ -166,7 +167,9 @@ unfolding roads_of
 roads-rise w sound p room =
     steps-rise (open_step w p) (open-numbered w p) 0 (leaving_of w room) (leaving_law w sound room).1
 
-pub roads_law : AreRoads
+pub roads_law : (w : State) → IsSound w → (p room : ℕ)
+    → ((s : Step) → Contains (roads_of w p room) s ↔ IsRoad w p room s)
+    × AllPairs (λ a b. a.exit < b.exit) (roads_of w p room)
 roads_law = λ w sound p room. (λ s. (road-at w sound p room s, road-to w sound p room s), roads-rise w sound p room)
 
 -- ---- where roads and travellers are

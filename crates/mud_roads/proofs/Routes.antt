@@ -7,7 +7,7 @@ use Rattle.mud_roads.specs.declared.label.Label.{Label}
 use Rattle.mud_roads.specs.declared.label.Step.{Step}
 use Rattle.mud_roads.specs.Walks.{Roads, Walk, AtMost, total, after, IsLeast, Least, EndsLeast}
 use Rattle.mud_roads.specs.Labels.{start_label}
-use Rattle.mud_roads.specs.Laws.{LeastIsOne, LeastIsValid}
+use Rattle.mud_roads.specs.Laws.{LeastIsValid, IsOne}
 
 pub label-ext : (a b : Label) → a.cost ≡ b.cost → a.exits ≡ b.exits → a ≡ b
 label-ext a b p q =
@@ -124,7 +124,7 @@ route-goes-on roads from known to l least = go least.walked.0 least.walked.1 lea
 
 -- ---- laws
 
-pub least_is_one : LeastIsOne
+pub least_is_one : (hop : ℕ) (roads : Roads) (from to : ℕ) → IsOne (Least hop roads from to)
 least_is_one hop roads from to None None p q = refl
 least_is_one hop roads from to None (Some b) p q = absurd (p q.walked.0 q.walked.1)
 least_is_one hop roads from to (Some a) None p q = absurd (q p.walked.0 p.walked.1)

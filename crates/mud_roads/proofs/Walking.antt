@@ -1,7 +1,7 @@
 -- A player who walks keeps his roads, so his walk goes on as it began.
 use Rattle.std.proofs.Common.{◌≡◌, ◌≢◌, ℕ, zero, suc, Bool, true, false, ◌&&◌, ◌||◌, cond, [], ◌∷◌, Option, Some, None}
 use Rattle.std.proofs.Common.{refl, sym, ◌∙◌, ap, subst, ⊎_elim}
-use Rattle.std.specs.Prelude.{nat_eq, is_some, is_none, IsTrue}
+use Rattle.std.specs.Prelude.{nat_eq, is_some, is_none, IsTrue, List}
 use Rattle.std.specs.Option.{option_map, option_map_or, option_and_then}
 use Rattle.std.specs.List.{filter_map}
 use Rattle.std.proofs.lemmas.Bool.{cases_eq, eq-eqb, and_parts, not_from_true, or_from, true≢false}
@@ -18,7 +18,8 @@ use Rattle.mud_world.specs.Kinds.{kind_at, kind_place, kind_passage, is_player_k
 use Rattle.mud_world.specs.State.{State, record_at, exists, has, is_exit, is_number, is_player, place_of, comes_to}
 use Rattle.mud_world.specs.State.{within, passage_of, destination_of, leaving_of, opens, unlocked}
 use Rattle.mud_world.specs.Sound.{IsSound}
-use Rattle.mud_world.specs.Legal.{with_record, moved, leaves_from, fails, refusal, after as world_after}
+use Rattle.mud_world.specs.Legal.{fails, refusal, after as world_after}
+use Rattle.mud_world.specs.Inner.{with_record, moved, leaves_from}
 use Rattle.mud_world.proofs.Records.{record_cases, lookup-set_value_same, lookup-set_value_other}
 use Rattle.mud_world.proofs.Numbering.{passing-keep}
 use Rattle.mud_world.proofs.Going.{moved_by}
@@ -26,8 +27,9 @@ use Rattle.mud_world.proofs.Least.{refusals_law}
 use Rattle.mud_world.proofs.Sounding.{soundness_law}
 use Rattle.mud_roads.specs.declared.label.Step.{Step}
 use Rattle.mud_roads.specs.Walks.{Roads, Walk}
-use Rattle.mud_roads.specs.Open.{passable, open_step, roads_of}
-use Rattle.mud_roads.specs.Laws.{IsRoad, IsWalked, WalksAreLegal}
+use Rattle.mud_roads.specs.Open.{passable, roads_of}
+use Rattle.mud_roads.specs.Inner.{open_step}
+use Rattle.mud_roads.specs.Laws.{IsRoad, IsWalked}
 use Rattle.mud_roads.proofs.Roads.{road-at}
 
 -- ---- object p gets another place
@@ -204,7 +206,9 @@ module _ (w : State) (p from : ℕ) (s : Step) (player : IsTrue (is_player w p))
   step-after r at = ap (λ v. option_map_or (moved w p) v w) leads ∙ moved_by w p s.to r at
 
 -- ---- the whole walk
-pub walks_law : WalksAreLegal
+pub walks_law : (w : State) → IsSound w → (p from to : ℕ) (ss : List Step) → IsTrue (is_player w p)
+    → place_of w p ≡ Some from
+    → Walk (roads_of w p) from ss to → IsWalked w p ss to
 walks_law w sound p from to [] player place walk = place ∙ ap (λ v. Some v) walk
 walks_law w sound p from to (s ∷ ss) player place walk =
     let road = road-at w sound p from s walk.0 in

@@ -1,7 +1,7 @@
 -- Laws of the definitions: what they say together.
-use Rattle.std.specs.Prelude.{◌≡◌, ℕ, ◌<◌, ◌↔◌, List, [], ◌∷◌, Contains, Option, Some, None, IsTrue, AllPairs}
+use Rattle.std.specs.Prelude.{◌≡◌, ℕ, List, [], ◌∷◌, Option, Some, None, IsTrue}
 use Rattle.mud_world.specs.declared.change.Deed.TheVariants.{Walk as WalkDeed}
-use Rattle.mud_world.specs.State.{State, is_player, place_of, passage_of}
+use Rattle.mud_world.specs.State.{State, place_of, passage_of}
 use Rattle.mud_world.specs.Sound.{IsSound}
 use Rattle.mud_world.specs.Legal.{refusal, after as world_after}
 use Rattle.mud_roads.specs.declared.label.Label.{Label}
@@ -14,10 +14,6 @@ use Rattle.mud_roads.specs.Open.{passable, roads_of}
 -- one at most is so
 abbrev pub IsOne : {A : Type 0} → (A → Type 0) → Type 0
 IsOne {A} IsSo = (a b : A) → IsSo a → IsSo b → a ≡ b
-
--- a room has one least label
-abbrev pub LeastIsOne : Type 0
-LeastIsOne = (hop : ℕ) (roads : Roads) (from to : ℕ) → IsOne (Least hop roads from to)
 
 -- a room with a least label has one whatever an exit counts as, at the same cost
 abbrev pub LeastIsAlike : Type 0
@@ -45,25 +41,12 @@ IsRoad w p room s =
     (passage_of w s.exit ≡ Some (record { source = room; destination = s.to; cost = s.cost }))
     × IsTrue (passable w p s.exit)
 
--- in a sound world p's roads are the steps of the open exits, by rising number
-abbrev pub AreRoads : Type 0
-AreRoads =
-    (w : State) → IsSound w → (p room : ℕ)
-    → ((s : Step) → Contains (roads_of w p room) s ↔ IsRoad w p room s)
-    × AllPairs (λ a b. a.exit < b.exit) (roads_of w p room)
-
 -- p's walks through these exits, one after the other, are legal changes that lead to a room
 abbrev pub IsWalked : State → ℕ → List Step → ℕ → Type 0
 IsWalked w p [] to = place_of w p ≡ Some to
 IsWalked w p (s ∷ ss) to =
     (refusal w (record { actor = p; deed = WalkDeed s.exit }) ≡ None)
     × IsWalked (world_after w (record { actor = p; deed = WalkDeed s.exit })) p ss to
-
--- a player's changes by the exits of his walk are each legal, and end where the walk leads
-abbrev pub WalksAreLegal : Type 0
-WalksAreLegal =
-    (w : State) → IsSound w → (p from to : ℕ) (ss : List Step) → IsTrue (is_player w p) → place_of w p ≡ Some from
-    → Walk (roads_of w p) from ss to → IsWalked w p ss to
 
 -- a room has one canonical route
 abbrev pub RouteIsOne : Type 0

@@ -3,3 +3,4 @@ pub mod Labels
 pub mod Open
 pub mod Tables
 pub mod Laws
+pub mod Inner

@@ -1,7 +1,8 @@
 //! What is unlocked for a player.
 
 ghost use Rattle.std.specs.Prelude.{◌≡◌, ℕ, [], ◌++◌, IfOk, OnOk, slice_index_or, false};
-ghost use Rattle.mud_roads.specs.Open.{passable, open_step, roads_of};
+ghost use Rattle.mud_roads.specs.Open.{passable, roads_of};
+ghost use Rattle.mud_roads.specs.Inner.{open_step};
 ghost use Rattle.mud_roads.specs.Tables.{Knows};
 
 use crate::Step;

@@ -1,11 +1,17 @@
 //! What is known of the definitions alone: each contract is a law, and its function does nothing.
 
-ghost use Rattle.mud_roads.specs.Laws.{LeastIsOne, LeastIsAlike, ValidIsLeast, LeastIsValid, AreRoads, WalksAreLegal};
+ghost use Rattle.mud_roads.specs.Laws.{LeastIsAlike, ValidIsLeast, LeastIsValid, IsOne, IsRoad, IsWalked};
 ghost use Rattle.mud_roads.specs.Laws.{RouteIsOne, MeetingIsOne, MeetingIsAlike};
+ghost use Rattle.std.specs.Prelude.{ℕ, AllPairs, Contains, ◌<◌, ◌↔◌, Some, IsTrue, List, ◌≡◌};
+ghost use Rattle.mud_roads.specs.Walks.{Least, Roads, Walk};
+ghost use Rattle.mud_roads.specs.Open.{roads_of};
+ghost use Rattle.mud_roads.specs.declared.label.Step.{Step};
+ghost use Rattle.mud_world.specs.Sound.{IsSound};
+ghost use Rattle.mud_world.specs.State.{State, is_player, place_of};
 
 /// A room has one least label.
 pub fn least()
-    ensures { LeastIsOne }
+    ensures { (hop : ℕ) (roads : Roads) (from to : ℕ) → IsOne (Least hop roads from to) }
 {}
 
 /// Costs alone and costs with exits are one notion: a least label exists for the one exactly where
@@ -28,12 +34,16 @@ pub fn least_labels()
 /// In a sound world the roads of a player are the steps of the exits that are open to him, by
 /// rising number.
 pub fn roads()
-    ensures { AreRoads }
+    ensures { (w : State) → IsSound w → (p room : ℕ)
+        → ((s : Step) → Contains (roads_of w p room) s ↔ IsRoad w p room s)
+        × AllPairs (λ a b. a.exit < b.exit) (roads_of w p room) }
 {}
 
 /// A player's changes by the exits of his walk are each legal, and end where the walk leads.
 pub fn walks()
-    ensures { WalksAreLegal }
+    ensures { (w : State) → IsSound w → (p from to : ℕ) (ss : List Step) → IsTrue (is_player w p)
+        → place_of w p ≡ Some from
+        → Walk (roads_of w p) from ss to → IsWalked w p ss to }
 {}
 
 /// A room has one canonical route at most.

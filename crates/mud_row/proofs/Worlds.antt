@@ -2,7 +2,8 @@
 use Rattle.std.proofs.Common.{◌≡◌, ℕ, zero, suc, ◌+◌, List, [], ◌∷◌, take, Some, slice_get, add-one, ap}
 use Rattle.mud_world.specs.State.{State}
 use Rattle.mud_world.specs.Opening.{opening_state}
-use Rattle.mud_world.specs.History.{stepped, world_from}
+use Rattle.mud_world.specs.History.{world_from}
+use Rattle.mud_world.specs.Inner.{stepped}
 use Rattle.mud_chron.specs.Entry.{Accepted}
 use Rattle.mud_chron.specs.Replay.{changes_of, world_at}
 

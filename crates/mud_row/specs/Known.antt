@@ -30,11 +30,11 @@ known_front zero ns = []
 known_front (suc k) [] = []
 known_front (suc k) (n ∷ ns) = entry_first n.known (known_front k ns)
 
--- what the holder of notes knows who counts so many of the first
+-- what a holder of notes knows. A reader need not look into this: contracts give each entry, and speak of a `Known`
 abbrev pub known_of : ℕ → List (Note Accepted) → Known
 known_of count notes = record { row = names_of notes; list = known_front count notes }
 
--- each of the notes that are counted knows an entry, and there are at most 65,536 notes
+-- how notes stand in memory. A reader need not look into this: contracts speak of a `Known` alone
 abbrev pub AreCounted : ℕ → List (Note Accepted) → Type 0
 AreCounted count notes = (length notes ≤ 65536) × (length (known_front count notes) ≡ count)
 

@@ -4,7 +4,7 @@ ghost use Rattle.std.specs.Prelude.{◌≡◌, ◌++◌, ◌∷◌, [], ◌<◌,
 ghost use Rattle.std.specs.Prelude.{IfOk, IfErr, OnErr, OnOk, IsErrAnd, MatchBool, MatchOption};
 ghost use Rattle.std.specs.Option.{option_copied};
 ghost use mathlib.Core.List.{IsPrefix};
-ghost use Rattle.mud_world.specs.History.{stepped};
+ghost use Rattle.mud_world.specs.Inner.{stepped};
 ghost use Rattle.mud_chron.specs.Replay.{world_at};
 ghost use Rattle.mud_row.specs.Known.{entry_at};
 

@@ -1,7 +1,7 @@
 -- What a line asks, the verb of a question asks.
 use Rattle.std.proofs.Common.{◌≡◌, ℕ, zero, suc, Bool, true, false, List, [], ◌∷◌, Option, None, Some, Result, Ok, Err}
 use Rattle.std.proofs.Common.{slice_get, refl, sym, ◌∙◌, subst, ap}
-use Rattle.std.specs.Prelude.{not, ◌&&◌, ◌||◌, codes, is_none, if◌then◌else◌, IsTrue}
+use Rattle.std.specs.Prelude.{not, ◌&&◌, ◌||◌, codes, is_none, if◌then◌else◌}
 use Rattle.std.specs.Option.{option_map_or}
 use Rattle.std.specs.List.{AllByRecursion, list_any}
 use Rattle.std.specs.Map.{lookup}
@@ -9,7 +9,8 @@ use Rattle.std.specs.Str.{str_eq_ignore_ascii_case}
 use Rattle.std.proofs.lemmas.Bool.{true≢false}
 use Rattle.mud_key.specs.Reading.{name_in}
 use Rattle.mud_words.specs.Line.{Line}
-use Rattle.mud_words.specs.Parse.{joined, parsed}
+use Rattle.mud_words.specs.Parse.{parsed}
+use Rattle.mud_words.specs.Searching.{joined}
 use Rattle.mud_words.specs.declared.Prep.TheVariants.{To}
 use Rattle.mud_world.specs.Refusals.{lesser}
 use Rattle.mud_world.specs.State.{State, named_player}
@@ -21,16 +22,15 @@ use Rattle.mud_world.specs.declared.refusal.Refusal.TheVariants.{BadName}
 use Rattle.mud_rules.specs.declared.verb.Verb.{Verb}
 use Rattle.mud_rules.specs.declared.verb.Verb.TheVariants as verb
 use Rattle.mud_rules.specs.declared.verdict.View.TheVariants.{Look, LookAt, Inventory, KeyOf, Version, Quit}
-use Rattle.mud_rules.specs.declared.verdict.Query.{Query}
 use Rattle.mud_rules.specs.declared.verdict.Query.TheVariants as query
 use Rattle.mud_rules.specs.declared.verdict.Verdict.{Verdict}
 use Rattle.mud_rules.specs.declared.verdict.Verdict.TheVariants as verdict
 use Rattle.mud_rules.specs.Matching.{is_empty}
 use Rattle.mud_rules.specs.Outcome.{outcome, does, on_found, shaped}
-use Rattle.mud_rules.specs.Commands.{connect, connecting, dig_room, dig_exits}
-use Rattle.mud_rules.specs.Shapes.{all_of, looked_at, object_named, first_of, is_pair, has_empty_side, text_behind}
+use Rattle.mud_rules.specs.Inner.{connect, connecting, dig_room, dig_exits, first_of, has_empty_side}
+use Rattle.mud_rules.specs.Shapes.{all_of, looked_at, object_named, is_pair, text_behind}
 use Rattle.mud_rules.specs.Table.{journey_of}
-use Rattle.mud_rules.specs.Table.{verbs, verb_named, connect_line, command, other_line, guest, decision, is_question}
+use Rattle.mud_rules.specs.Table.{verbs, verb_named, connect_line, command, other_line, guest, decision}
 use Rattle.mud_rules.specs.Laws.{AreQuestions}
 use Rattle.mud_rules.proofs.Ordered.{outcome_is}
 

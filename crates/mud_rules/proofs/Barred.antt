@@ -20,10 +20,11 @@ use Rattle.mud_world.specs.State.{State, exists, is_room, is_exit, is_player}
 use Rattle.mud_world.specs.Conditions.{owns}
 use Rattle.mud_world.specs.Legal.{fails, refusal}
 use Rattle.mud_rules.specs.declared.verdict.Verdict.TheVariants.{Change as Changes, Refused}
-use Rattle.mud_rules.specs.Outcome.{all_refusals, refuses, outcome, does}
+use Rattle.mud_rules.specs.Outcome.{outcome, does}
+use Rattle.mud_rules.specs.Inner.{all_refusals, refuses}
 use Rattle.mud_rules.specs.Steps.{no_player, no_room, not_his}
 use Rattle.mud_rules.proofs.Least.{Agree, lesser-agree}
-use Rattle.mud_rules.proofs.Ordered.{outcome_is}
+use Rattle.mud_rules.proofs.Ordered.{outcome_is, outcome_first}
 
 -- the line is refused by what bars p, or else by its own refusal
 abbrev pub IsBarred : State → ℕ → Option Refusal → Refusal → Deed → Type 0
@@ -182,10 +183,11 @@ find-agree p q (f ∷ fs) same =
 as_own : (w : State) (e : Change) (own : Refusal)
     → Agree (λ f. refuses None f || fails w e f) (λ f. refuses (Some own) f || fails w e f) all_refusals
     → outcome w None e ≡ outcome w (Some own) e
-unfolding outcome
 as_own w e own same =
-    ap (λ r. option_map_or Refused r (Changes e))
+    outcome_first w None e
+    ∙ ap (λ r. option_map_or Refused r (Changes e))
     (find-agree (λ f. refuses None f || fails w e f) (λ f. refuses (Some own) f || fails w e f) all_refusals same)
+    ∙ sym (outcome_first w (Some own) e)
 
 pub saying_barred : (w : State) (p : ℕ) (text : List ℕ) → is_speech text ≡ false
     → Refused (unwrap_or (no_player w p) BadName) ≡ does w p None (Say text)

@@ -18,7 +18,8 @@ use Rattle.mud_key.proofs.Found.{names_law, name_law, key_law}
 use Rattle.mud_key.proofs.NamesTaken.{are_names}
 use Rattle.mud_key.proofs.Resolving.{resolved_key}
 use Rattle.mud_words.specs.Line.{Line}
-use Rattle.mud_words.specs.Parse.{joined, parsed}
+use Rattle.mud_words.specs.Parse.{parsed}
+use Rattle.mud_words.specs.Searching.{joined}
 use Rattle.mud_words.specs.declared.Prep.TheVariants.{With, To, In, Is}
 use Rattle.mud_world.specs.Speech.{is_speech}
 use Rattle.mud_world.specs.Refusals.{number, lesser, refused_if}
@@ -27,7 +28,8 @@ use Rattle.mud_world.specs.Sound.{IsSound}
 use Rattle.mud_world.specs.Conditions.{shares_room}
 use Rattle.mud_world.specs.Reach.{in_reach}
 use Rattle.mud_world.specs.Legal.{refusal}
-use Rattle.mud_world.specs.Parts.{HasParts, AreDoors, IsTarget}
+use Rattle.mud_world.specs.Parts.{HasParts, IsTarget}
+use Rattle.mud_world.specs.Inner.{AreDoors}
 use Rattle.mud_world.specs.declared.change.Change.{Change}
 use Rattle.mud_world.specs.declared.change.Deed.{Deed}
 use Rattle.mud_world.specs.declared.change.Deed.TheVariants as deed
@@ -47,15 +49,19 @@ use Rattle.mud_rules.specs.declared.verdict.Verdict.{Verdict}
 use Rattle.mud_rules.specs.declared.verdict.Verdict.TheVariants as verdict
 use Rattle.mud_rules.specs.Matching.{is_empty, number_in, local_match, object_number, sole_like}
 use Rattle.mud_rules.specs.Outcome.{outcome, does, does_read, found, of_kind, on_found, shaped}
-use Rattle.mud_rules.specs.Commands.{kind_then_here, drop_down, create, rename, cost, lock, near_named, key_meant}
-use Rattle.mud_rules.specs.Commands.{dig_room}
-use Rattle.mud_rules.specs.Commands.{doors_in, has_bar, is_bar, target_in, dig_between, dig_exits, connecting, connect}
-use Rattle.mud_rules.specs.Shapes.{all_of, first_of, looked_at, is_pair, has_empty_side, text_behind}
+use Rattle.mud_rules.specs.Commands.{kind_then_here, key_meant}
+use Rattle.mud_rules.specs.Commands.{doors_in, is_bar, target_in, dig_between}
+use Rattle.mud_rules.specs.Inner.{create, rename, cost, lock, dig_room, has_bar, dig_exits, connecting, connect}
+use Rattle.mud_rules.specs.Inner.{drop_down}
+use Rattle.mud_rules.specs.Inner.{near_named}
+use Rattle.mud_rules.specs.Inner.{first_of, has_empty_side}
+use Rattle.mud_rules.specs.Shapes.{all_of, looked_at, is_pair, text_behind}
 use Rattle.mud_rules.specs.Shapes.{object_named, object_before, objects_round}
 use Rattle.mud_rules.specs.Table.{connect_line, journey_of, command, other_line, guest, decision, verb_named}
-use Rattle.mud_rules.specs.Laws.{IsMade, AreMade}
+use Rattle.mud_rules.specs.Laws.{IsMade}
 use Rattle.mud_rules.proofs.Bounds.{number_of_object}
 use Rattle.mud_rules.proofs.Ordered.{outcome_is}
+use Rattle.mud_rules.specs.declared.verdict.Verdict.TheVariants.{Change as Changes}
 
 -- a change that a line comes to is so
 abbrev IsFine : State → Verdict → Type 0
@@ -403,5 +409,6 @@ fine-decision w sound (Some p) l = go (verb_named l.verb)
         (sole_like Equal w (joined (l.verb ∷ l.args)) (option_map_or (leaving_of w) (place_of w p) [])))
     go (Some v) = fine-command w sound p l v
 
-pub are_made : AreMade
+pub are_made : (w : State) → IsSound w → (player : Option ℕ) (l : Line) (e : Change)
+    → decision w player l ≡ Changes e → IsMade w e
 are_made w sound player l e is = subst (IsFine w) is (fine-decision w sound player l)

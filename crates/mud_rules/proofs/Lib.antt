@@ -1,6 +1,7 @@
 pub mod Joining
 pub mod Searching
 pub mod Finding
+pub mod Longer
 pub mod Bounds
 pub mod Least
 pub mod Ordered

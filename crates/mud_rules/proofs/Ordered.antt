@@ -1,10 +1,8 @@
 -- The first refusal of a list by rising number, as the code finds it.
 use Rattle.std.proofs.Common.{◌≡◌, ℕ, Bool, false, cond, List, [], ◌∷◌, ◌++◌, Option, Some, Result, Ok, Err, refl, sym}
 use Rattle.std.proofs.Common.{◌∙◌, ap}
-use Rattle.std.specs.Prelude.{find}
+use Rattle.std.specs.Prelude.{find, ◌||◌}
 use Rattle.std.specs.Option.{option_map_or}
-use Rattle.std.specs.Result.{result_err}
-use Rattle.std.specs.List.{list_any}
 use Rattle.mud_world.specs.declared.change.Change.{Change}
 use Rattle.mud_world.specs.declared.change.Deed.{Deed}
 use Rattle.mud_world.specs.declared.change.Deed.TheVariants.{Dig, Make, Lock, Unlock, Move, Walk, Cost, Player, Rename}
@@ -18,11 +16,12 @@ use Rattle.mud_world.specs.Refusals.{lesser}
 use Rattle.mud_world.specs.State.{State}
 use Rattle.mud_world.specs.Legal.{fails, refusal, refusals}
 use Rattle.mud_rules.specs.declared.verdict.Verdict.TheVariants.{Change as Changes, Refused}
-use Rattle.mud_rules.specs.Outcome.{all_refusals, refuses, outcome}
+use Rattle.mud_rules.specs.Outcome.{outcome}
 use Rattle.mud_rules.specs.declared.verdict.Journey.TheVariants.{Meet}
-use Rattle.mud_rules.specs.Journeys.{members, is_unmet, meeting}
-use Rattle.mud_rules.specs.Steps.{unfit, least_refusal}
-use Rattle.mud_rules.proofs.Least.{lesser_first, find-append_miss, find-own, in_order}
+use Rattle.mud_rules.specs.Journeys.{meeting, least_refusal}
+use Rattle.mud_rules.specs.Inner.{members, all_refusals, refuses}
+use Rattle.mud_rules.specs.Steps.{unfit}
+use Rattle.mud_rules.proofs.Least.{lesser_first, find-append_miss}
 
 -- three refusals are of lines alone
 of_lines : (w : State) (p : ℕ) (deed : Deed) → let e : Change = record { actor = p; deed = deed } in
@@ -59,32 +58,23 @@ first_of_all w e =
     let none = of_lines w e.actor e.deed in
     all_or_some (fails w e) none.0 none.1.0 none.1.1
 
+-- the first refusal, by rising number, that is the command's own or whose condition holds
+pub outcome_first : (w : State) (own : Option Refusal) (e : Change)
+    → outcome w own e ≡ option_map_or Refused (find (λ f. refuses own f || fails w e f) all_refusals) (Changes e)
+unfolding outcome
+outcome_first w own e =
+    ap (λ r. option_map_or Refused (lesser own r) (Changes e)) (first_of_all w e)
+    ∙ ap (λ r. option_map_or Refused r (Changes e)) (lesser_first own (fails w e))
+
 -- a command's own refusal, or the lesser one of its change
 pub outcome_is : (w : State) (own : Option Refusal) (e : Change)
     → option_map_or Refused (lesser own (refusal w e)) (Changes e) ≡ outcome w own e
 unfolding outcome
-outcome_is w own e =
-    ap (λ r. option_map_or Refused (lesser own r) (Changes e)) (first_of_all w e)
-    ∙ ap (λ r. option_map_or Refused r (Changes e)) (lesser_first own (fails w e))
-
-abbrev has_refusal : List (Result ℕ Refusal) → Refusal → Bool
-has_refusal parts f = list_any (λ part. refuses (result_err part) f) parts
-
-least_is_first : (parts : List (Result ℕ Refusal)) → least_refusal parts ≡ find (has_refusal parts) all_refusals
-least_is_first [] = refl
-least_is_first (Ok n ∷ parts) = least_is_first parts
-least_is_first (Err f ∷ parts) =
-    ap (lesser (Some f)) (least_is_first parts) ∙ find-own f (has_refusal parts) all_refusals (in_order f)
-
-unmet_is : (parts : List (Result ℕ Refusal))
-    → lesser (unfit (members parts)) (least_refusal parts) ≡ find (is_unmet parts) all_refusals
-unmet_is parts =
-    ap (lesser (unfit (members parts))) (least_is_first parts)
-    ∙ lesser_first (unfit (members parts)) (has_refusal parts)
+outcome_is w own e = refl
 
 -- the refusal of the party, or the lesser one of a part
 pub meeting_is : (parts : List (Result ℕ Refusal))
     → option_map_or Err (lesser (unfit (members parts)) (least_refusal parts)) (Ok (Meet (members parts)))
     ≡ meeting parts
 unfolding meeting
-meeting_is parts = ap (λ r. option_map_or Err r (Ok (Meet (members parts)))) (unmet_is parts)
+meeting_is parts = refl

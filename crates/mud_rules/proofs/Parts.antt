@@ -5,7 +5,7 @@ use Rattle.std.specs.Prelude.{nat_lt}
 use Rattle.std.proofs.lemmas.Bool.{ltb-true, ltb-false, lt-ltb, le-ltb}
 use Rattle.mud_world.specs.declared.refusal.Refusal.{Refusal}
 use Rattle.mud_world.specs.Refusals.{number, lesser}
-use Rattle.mud_rules.specs.Steps.{least_refusal}
+use Rattle.mud_rules.specs.Journeys.{least_refusal}
 use Rattle.mud_rules.proofs.Least.{bool_cases}
 
 second : (f g : Refusal) → number g < number f → lesser (Some f) (Some g) ≡ Some g

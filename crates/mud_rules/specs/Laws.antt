@@ -1,6 +1,5 @@
 -- What the definitions of the table come to, said in other words.
 use Rattle.std.specs.Prelude.{◌≡◌, ℕ, IsTrue, Option, Some, None}
-use Rattle.std.specs.Option.{option_map_or}
 use Rattle.mud_world.specs.declared.change.Change.{Change}
 use Rattle.mud_world.specs.declared.change.Deed.{Deed}
 use Rattle.mud_world.specs.declared.change.Deed.TheVariants.{Dig, Make, Lock, Cost, Rename}
@@ -11,22 +10,12 @@ use Rattle.mud_world.specs.declared.refusal.Refusal.{Refusal}
 use Rattle.mud_world.specs.declared.refusal.Refusal.TheVariants.{BadName, BadKey, BadCost}
 use Rattle.mud_words.specs.Line.{Line}
 use Rattle.mud_world.specs.Parts.{HasParts}
-use Rattle.mud_world.specs.Refusals.{lesser}
-use Rattle.mud_world.specs.Sound.{IsSound}
 use Rattle.mud_world.specs.State.{State}
 use Rattle.mud_world.specs.Legal.{refusal}
-use Rattle.mud_rules.specs.declared.verdict.Verdict.TheVariants.{Change as Changes, Ask, Refused}
-use Rattle.mud_rules.specs.Outcome.{outcome, does}
+use Rattle.mud_rules.specs.declared.verdict.Verdict.TheVariants.{Ask}
+use Rattle.mud_rules.specs.Outcome.{does}
 use Rattle.mud_rules.specs.declared.verdict.Query.{Query}
 use Rattle.mud_rules.specs.Table.{decision, is_question}
-
--- ---- one list of refusals
-
--- the first refusal of that list is the lesser of two: the command's own, and the refusal of its change
-abbrev pub IsOneList : Type 0
-IsOneList =
-    (w : State) (own : Option Refusal) (e : Change)
-    → outcome w own e ≡ option_map_or Refused (lesser own (refusal w e)) (Changes e)
 
 -- ---- texts that can't be read
 
@@ -49,12 +38,6 @@ pub record IsAlikeWhateverIsRead (w : State) (p : ℕ) : Type 0 where
 pub record IsMade (w : State) (e : Change) : Type 0 where
   pub legal : refusal w e ≡ None
   pub parts : HasParts e.deed
-
--- each change that a line comes to in a sound world is so, whoever typed it
-abbrev pub AreMade : Type 0
-AreMade =
-    (w : State) → IsSound w → (player : Option ℕ) (l : Line) (e : Change)
-    → decision w player l ≡ Changes e → IsMade w e
 
 -- ---- what a line asks
 

@@ -11,3 +11,4 @@ pub mod Replies
 pub mod Answers
 pub mod Hearing
 pub mod Steps
+pub mod Inner

@@ -13,16 +13,10 @@ use Rattle.mud_rules.specs.declared.matching.Likeness.TheVariants.{Equal, Prefix
 use Rattle.mud_rules.specs.declared.matching.Match.{Match}
 use Rattle.mud_rules.specs.declared.matching.Match.TheVariants.{Nothing, NoSuch, Ambiguous}
 
--- ---- names
-
 -- the text is the name, or a beginning of it, ASCII case ignored
 abbrev pub is_like : Likeness → List ℕ → List ℕ → Bool
 is_like Equal text name = str_eq_ignore_ascii_case text name
 is_like Prefix text name = str_eq_ignore_ascii_case text (take (length text) name)
-
--- object n has a name that passes the test
-abbrev pub is_named : (List ℕ → Bool) → State → ℕ → Bool
-is_named test w n = has w n (λ r. list_any test r.names)
 
 -- ---- candidates
 
@@ -34,7 +28,8 @@ sole (n ∷ m ∷ ns) = Err Ambiguous
 
 -- the one candidate with a name that is like the text
 abbrev pub sole_like : Likeness → State → List ℕ → List ℕ → Result ℕ Match
-sole_like likeness w text candidates = sole (filter (is_named (is_like likeness text) w) candidates)
+sole_like likeness w text candidates =
+    sole (filter (λ n. has w n (λ r. list_any (is_like likeness text) r.names)) candidates)
 
 -- the first answer, or the second where the first finds none
 abbrev pub or_else : Result ℕ Match → Result ℕ Match → Result ℕ Match
@@ -43,14 +38,12 @@ or_else first second = first
 
 -- ---- numbers
 
--- the number that a text of decimal digits alone writes, behind those of `start`
-abbrev pub digits_value : ℕ → List ℕ → Option ℕ
-digits_value start text =
-    if list_all is_ascii_digit text then Some (fold (λ value digit. value * 10 + (digit - 48)) start text) else None
-
 -- 1 to 9 digits, as a number
 abbrev pub number_in : List ℕ → Option ℕ
-number_in text = if nat_lt 0 (length text) && nat_lt (length text) 10 then digits_value 0 text else None
+number_in text =
+    if nat_lt 0 (length text) && nat_lt (length text) 10 then
+    (if list_all is_ascii_digit text then Some (fold (λ value digit. value * 10 + (digit - 48)) 0 text) else None)
+    else None
 
 -- `#` and 1 to 9 digits, as a number
 abbrev pub object_number : List ℕ → Option ℕ
@@ -59,8 +52,7 @@ object_number (c ∷ digits) = if nat_eq c 35 then number_in digits else None
 
 -- ---- texts
 
--- the object that a text means to a player: `#n`, `me` and `here` are what they say; all else is the sole candidate
--- that has the text as a name, or if there is none, the sole one with a name that begins with it
+-- the object that a text means: `#n`, `me`, `here`, the sole candidate of that name, or the sole whose name begins so
 abbrev pub match_with : State → ℕ → List ℕ → List ℕ → Result ℕ Match
 match_with w player candidates text =
     if is_empty text then Err Nothing

@@ -1,18 +1,15 @@
 -- How the refusals of a line come together.
-use Rattle.std.specs.Prelude.{◌≡◌, ℕ, nat_eq, nat_lt, Bool, true, false, ◌||◌, List, [], ◌∷◌, find}
+use Rattle.std.specs.Prelude.{◌≡◌, ℕ, nat_lt, Bool, true, false}
 use Rattle.std.specs.Prelude.{Option, Some, None, is_none, unwrap_or, Result, Ok, Err, IsTrue, if◌then◌else◌}
 use Rattle.std.specs.Option.{option_map_or}
 use Rattle.std.specs.List.{All}
 use Rattle.mud_world.specs.declared.change.Change.{Change}
 use Rattle.mud_world.specs.declared.change.Deed.{Deed}
 use Rattle.mud_world.specs.declared.refusal.Refusal.{Refusal}
-use Rattle.mud_world.specs.declared.refusal.Refusal.TheVariants.{NotUnderstood, NoSuch, Ambiguous, WrongKind, NotHere}
-use Rattle.mud_world.specs.declared.refusal.Refusal.TheVariants.{Denied, BadName, NameTaken, BadKey, KeyNesting}
-use Rattle.mud_world.specs.declared.refusal.Refusal.TheVariants.{BadCost, RecursiveMove, LockedExit, LockedRoom}
-use Rattle.mud_world.specs.declared.refusal.Refusal.TheVariants.{LockedThing, InUse, WorldFull, PartyBad}
-use Rattle.mud_world.specs.Refusals.{number, refused_if}
+use Rattle.mud_world.specs.declared.refusal.Refusal.TheVariants.{NotUnderstood, Ambiguous, WrongKind}
+use Rattle.mud_world.specs.Refusals.{number, refused_if, lesser}
 use Rattle.mud_world.specs.State.{State, is_room, is_player}
-use Rattle.mud_world.specs.Legal.{refusal, fails, is_arrival}
+use Rattle.mud_world.specs.Legal.{refusal, is_arrival}
 use Rattle.mud_rules.specs.declared.matching.Match.{Match}
 use Rattle.mud_rules.specs.declared.matching.Match.TheVariants.{Ambiguous as MeansSeveral}
 use Rattle.mud_rules.specs.declared.verdict.Journey.{Journey}
@@ -25,27 +22,15 @@ use Rattle.mud_rules.specs.Party.{IsParty}
 
 -- ---- a change and its refusals
 
--- all refusals, by rising number
-abbrev pub all_refusals : List Refusal
-all_refusals =
-    NotUnderstood ∷ NoSuch ∷ Ambiguous ∷ WrongKind ∷ NotHere ∷ Denied ∷ BadName ∷ NameTaken ∷ BadKey ∷ KeyNesting
-    ∷ BadCost ∷ RecursiveMove ∷ LockedExit ∷ LockedRoom ∷ LockedThing ∷ InUse ∷ WorldFull ∷ PartyBad ∷ []
-
--- there is a refusal here, and it is f
-abbrev pub refuses : Option Refusal → Refusal → Bool
-refuses own f = option_map_or (λ g. nat_eq (number g) (number f)) own false
-
--- a command's own test and the conditions of its change are one list: the line is refused by the first refusal, by
--- rising number, that is the command's own or whose condition holds of the change; where none is, it is the change
+-- a change, or its refusal: of the command's own and the one of its conditions the lesser
 unfoldable pub outcome : State → Option Refusal → Change → Verdict
-outcome w own e = option_map_or Refused (find (λ f. refuses own f || fails w e f) all_refusals) (Changes e)
+outcome w own e = option_map_or Refused (lesser own (refusal w e)) (Changes e)
 
 -- the same for what player p does
 abbrev pub does : State → ℕ → Option Refusal → Deed → Verdict
 does w p own deed = outcome w own (record { actor = p; deed = deed })
 
--- the same for what he does by a text that is read. Where it can't be read, the command's own refusal says so, and
--- `blank` takes its place: whatever does, the verdict is the same (law `whatever_is_read`)
+-- the same for a text that may not be readable, in whose place then stands `blank` (law `whatever_is_read`: anything)
 abbrev pub does_read : {A : Type 0} → State → ℕ → Refusal → A → Option A → (A → Deed) → Verdict
 does_read w p own blank read deed = does w p (refused_if (is_none read) own) (deed (unwrap_or read blank))
 
@@ -96,8 +81,7 @@ IsQuestion w (query.Journey journey) = IsJourney w journey
 IsQuestion w (query.Proof journey) = IsJourney w journey
 IsQuestion w other = Unit {0}
 
--- a change that a line comes to is legal, and its actor is the one who typed the line; who sits down is a player of
--- the world; of a question see above
+-- what follows of a verdict. A reader need not look into this: the clause `decision` says what the verdict is
 abbrev pub IsLawful : State → Option ℕ → Verdict → Type 0
 IsLawful w player (Changes e) = (refusal w e ≡ None) × IsActor w player e
 IsLawful w player (Ask query) = IsQuestion w query

@@ -1,6 +1,6 @@
 -- Steps of the code. Cited by private clauses alone: what they come to, Matching, Outcome, Journeys and Table say.
-use Rattle.std.specs.Prelude.{ℕ, Bool, not, ◌||◌, List, [], ◌∷◌, codes, Option, Some, None}
-use Rattle.std.specs.Prelude.{ok_or, Result, Ok, Err, if◌then◌else◌}
+use Rattle.std.specs.Prelude.{ℕ, Bool, not, ◌&&◌, ◌||◌, nat_lt, List, [], ◌∷◌, length, filter, codes, Option, Some}
+use Rattle.std.specs.Prelude.{None, ok_or, Result, Ok, Err, if◌then◌else◌}
 use Rattle.std.specs.Option.{option_map_or}
 use Rattle.std.specs.List.{list_any}
 use Rattle.std.specs.Str.{str_eq_ignore_ascii_case}
@@ -12,9 +12,11 @@ use Rattle.mud_world.specs.declared.change.Target.TheVariants.{New, Old}
 use Rattle.mud_world.specs.declared.refusal.Refusal.{Refusal}
 use Rattle.mud_world.specs.declared.refusal.Refusal.TheVariants.{NotUnderstood, NoSuch as NoObject, WrongKind, Denied}
 use Rattle.mud_world.specs.declared.refusal.Refusal.TheVariants.{PartyBad}
-use Rattle.mud_world.specs.Refusals.{lesser, refused_if}
-use Rattle.mud_world.specs.State.{State, exists, is_room, is_player, place_of}
+use Rattle.mud_world.specs.Refusals.{refused_if}
+use Rattle.mud_world.specs.State.{State, has, exists, is_room, is_player, place_of}
 use Rattle.mud_world.specs.Conditions.{owns}
+use Rattle.mud_rules.specs.declared.matching.Likeness.{Likeness}
+use Rattle.mud_rules.specs.declared.matching.Likeness.TheVariants.{Equal, Prefix}
 use Rattle.mud_rules.specs.declared.matching.Match.{Match}
 use Rattle.mud_rules.specs.declared.matching.Match.TheVariants.{Nothing, NoSuch, Ambiguous}
 use Rattle.mud_rules.specs.declared.matching.Sort.{Sort}
@@ -25,10 +27,11 @@ use Rattle.mud_rules.specs.declared.verdict.View.TheVariants.{KeyOf}
 use Rattle.mud_rules.specs.declared.verdict.Query.TheVariants as query
 use Rattle.mud_rules.specs.declared.verdict.Verdict.{Verdict}
 use Rattle.mud_rules.specs.declared.verdict.Verdict.TheVariants.{Ask, Refused}
-use Rattle.mud_rules.specs.Matching.{is_empty, object_number}
+use Rattle.mud_rules.specs.Matching.{is_empty, is_like, sole, object_number}
 use Rattle.mud_rules.specs.Party.{is_party}
 use Rattle.mud_rules.specs.Outcome.{does, on_found}
-use Rattle.mud_rules.specs.Commands.{drop_down, put, give, lock, cost, rename}
+use Rattle.mud_rules.specs.Commands.{give}
+use Rattle.mud_rules.specs.Inner.{lock, cost, rename, drop_down, put}
 use Rattle.mud_rules.specs.Shapes.{all_of, object_named, object_before, objects_round}
 
 -- ---- matching
@@ -41,6 +44,16 @@ direct_match w player text =
     if str_eq_ignore_ascii_case text (codes "me") then Some (Ok player)
     else if str_eq_ignore_ascii_case text (codes "here") then Some (ok_or (place_of w player) NoSuch)
     else None)
+
+-- a text is a whole name, or the beginning of a longer one
+abbrev pub fits : Likeness → List ℕ → List ℕ → Bool
+fits Equal = is_like Equal
+fits Prefix = λ text name. nat_lt (length text) (length name) && is_like Prefix text name
+
+-- the one candidate with a name that fits
+abbrev pub sole_fit : Likeness → State → List ℕ → List ℕ → Result ℕ Match
+sole_fit likeness w text candidates =
+    sole (filter (λ n. has w n (λ r. list_any (fits likeness text) r.names)) candidates)
 
 -- what two lists of candidates give together
 abbrev pub together : Result ℕ Match → Result ℕ Match → Result ℕ Match
@@ -82,12 +95,6 @@ not_his w p x wrong_kind =
 -- the refusal of those who are no party
 abbrev pub unfit : List ℕ → Option Refusal
 unfit party = refused_if (not (is_party party)) PartyBad
-
--- of all parts the least refusal
-abbrev pub least_refusal : List (Result ℕ Refusal) → Option Refusal
-least_refusal [] = None
-least_refusal (Ok n ∷ parts) = least_refusal parts
-least_refusal (Err f ∷ parts) = lesser (Some f) (least_refusal parts)
 
 -- ---- verbs
 

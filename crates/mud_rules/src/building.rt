@@ -2,7 +2,7 @@
 
 ghost use Rattle.std.specs.Prelude.{◌≡◌, Some};
 ghost use Rattle.mud_rules.specs.Outcome.{IsLawful};
-ghost use Rattle.mud_rules.specs.Commands.{cost};
+ghost use Rattle.mud_rules.specs.Inner.{cost};
 
 use crate::Verdict;
 use crate::matching::number_in;

@@ -2,8 +2,8 @@
 
 ghost use Rattle.std.specs.Prelude.{◌≡◌, Some, IfOk};
 ghost use Rattle.mud_rules.specs.Outcome.{IsLawful};
-ghost use Rattle.mud_rules.specs.Shapes.{has_empty_side};
-ghost use Rattle.mud_rules.specs.Commands.{doors_in, target_in, dig_room, dig_between, dig_exits};
+ghost use Rattle.mud_rules.specs.Commands.{doors_in, target_in, dig_between};
+ghost use Rattle.mud_rules.specs.Inner.{dig_room, dig_exits, has_empty_side};
 
 use crate::Verdict;
 use crate::matching::object_number;

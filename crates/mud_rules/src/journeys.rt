@@ -6,8 +6,9 @@ ghost use Rattle.mud_world.specs.State.{is_room};
 ghost use Rattle.mud_rules.specs.Matching.{room_match};
 ghost use Rattle.mud_rules.specs.Party.{all_distinct, is_party};
 ghost use Rattle.mud_rules.specs.Outcome.{found as found_one, of_kind, IsJourney};
-ghost use Rattle.mud_rules.specs.Journeys.{route, player_meant, members, meeting, meet};
-ghost use Rattle.mud_rules.specs.Steps.{least_refusal, unfit};
+ghost use Rattle.mud_rules.specs.Journeys.{player_meant, meeting, least_refusal};
+ghost use Rattle.mud_rules.specs.Inner.{route, members, meet};
+ghost use Rattle.mud_rules.specs.Steps.{unfit};
 
 use crate::matching::{player_match, room_match};
 use crate::outcome::found;

@@ -3,7 +3,8 @@
 ghost use Rattle.std.specs.Prelude.{◌≡◌, ◌≤◌, Some, Result, IfOk, if◌then◌else◌};
 ghost use Rattle.mud_world.specs.State.{exists};
 ghost use Rattle.mud_rules.specs.Outcome.{IsLawful};
-ghost use Rattle.mud_rules.specs.Commands.{near_named, key_meant, lock};
+ghost use Rattle.mud_rules.specs.Commands.{key_meant};
+ghost use Rattle.mud_rules.specs.Inner.{lock, near_named};
 
 use crate::Verdict;
 use crate::matching::local_match;

@@ -6,7 +6,7 @@ ghost use Rattle.mud_words.specs.Line.{line_of};
 ghost use Rattle.mud_rules.specs.Outcome.{IsLawful};
 ghost use Rattle.mud_rules.specs.Table.{command, other_line, guest, decision, is_question, is_quit};
 
-use crate::matching::{Likeness, Match, sole_like};
+use crate::matching::{Likeness, Match, sole_fit};
 use crate::moving::walk;
 use crate::outcome::{asked_journey, asked_proof, shaped};
 use crate::rows::{
@@ -127,7 +127,7 @@ fn other_line(
 {
     let whole = whole_of(alloc, parsed)?;
     let found = match world.place(player) {
-        Some(room) => sole_like(world, world.leaving(room), &whole, Likeness::Equal),
+        Some(room) => sole_fit(world, world.leaving(room), &whole, Likeness::Equal),
         None => Err(Match::NoSuch),
     };
     Ok(walk(world, player, found))

@@ -2,9 +2,11 @@
 
 ghost use Rattle.std.specs.Prelude.{◌≡◌, ◌&&◌, ◌<◌, filter, length, map, string_bytes, Result, if◌then◌else◌};
 ghost use Rattle.std.specs.List.{list_any, range_with_len};
-ghost use Rattle.mud_rules.specs.Matching.{is_like, is_named, sole_like, digits_value, number_in, object_number};
+ghost use Rattle.mud_rules.specs.declared.matching.Likeness.TheVariants.{Equal, Prefix};
+ghost use Rattle.mud_rules.specs.Matching.{is_like, sole_like, or_else, number_in, object_number};
+ghost use Rattle.mud_rules.specs.Inner.{is_named, digits_value};
 ghost use Rattle.mud_rules.specs.Matching.{candidates, match_with, local_match, room_match, player_match};
-ghost use Rattle.mud_rules.specs.Steps.{direct_match, together, is_sort};
+ghost use Rattle.mud_rules.specs.Steps.{direct_match, fits, sole_fit, together, is_sort};
 ghost use Rattle.mud_world.specs.State.{exists, place_of};
 
 use mud_world::World;
@@ -48,11 +50,7 @@ pub fn local_match(world: &World, player: u32, text: &str) -> Result<u32, Match>
     if let Some(answer) = direct_match(world, player, text) {
         return answer;
     }
-    let place = world.place(player);
-    match sole_near(world, player, place, text, Likeness::Equal) {
-        Err(Match::NoSuch) => sole_near(world, player, place, text, Likeness::Prefix),
-        found => found,
-    }
+    near_match(world, player, world.place(player), text)
 }
 
 /// The room that a text means to a player: as [`local_match`], with all rooms as candidates. By
@@ -79,10 +77,7 @@ fn sort_match(world: &World, sort: Sort, player: u32, text: &str) -> Result<u32,
     if let Some(answer) = direct_match(world, player, text) {
         return answer;
     }
-    match sole_of_sort(world, sort, text, Likeness::Equal) {
-        Err(Match::NoSuch) => sole_of_sort(world, sort, text, Likeness::Prefix),
-        found => found,
-    }
+    named_match(world, sort, text)
 }
 
 // What a text means whatever the candidates are.
@@ -114,7 +109,32 @@ fn existing(world: &World, number: u32) -> Result<u32, Match>
     }
 }
 
-// The sole candidate near a player that is like the text.
+// The candidate near a player that a name means. A text is compared with whole names first, and then only with the
+// beginnings of longer ones: with no name twice.
+fn near_match(world: &World, player: u32, place: Option<u32>, text: &str) -> Result<u32, Match>
+    requires { place ≡ place_of world.now player }
+    ensures { result ≡ or_else (sole_like Equal world.now text.now (candidates world.now player))
+        (sole_like Prefix world.now text.now (candidates world.now player)) }
+{
+    match sole_near(world, player, place, text, Likeness::Equal) {
+        Err(Match::NoSuch) => sole_near(world, player, place, text, Likeness::Prefix),
+        found => found,
+    }
+}
+
+// The object of a sort that a name means, found in the same way.
+fn named_match(world: &World, sort: Sort, text: &str) -> Result<u32, Match>
+    ensures { result ≡ or_else
+        (sole_like Equal world.now text.now (filter (is_sort sort world.now) (range_with_len 0 world.now.next)))
+        (sole_like Prefix world.now text.now (filter (is_sort sort world.now) (range_with_len 0 world.now.next))) }
+{
+    match sole_of_sort(world, sort, text, Likeness::Equal) {
+        Err(Match::NoSuch) => sole_of_sort(world, sort, text, Likeness::Prefix),
+        found => found,
+    }
+}
+
+// The sole candidate near a player with a name that fits.
 fn sole_near(
     world: &World,
     player: u32,
@@ -123,24 +143,24 @@ fn sole_near(
     likeness: Likeness,
 ) -> Result<u32, Match>
     requires { place ≡ place_of world.now player }
-    ensures { result ≡ sole_like likeness world.now text.now (candidates world.now player) }
+    ensures { result ≡ sole_fit likeness world.now text.now (candidates world.now player) }
 {
-    let own = sole_like(world, world.contents(player), text, likeness);
+    let own = sole_fit(world, world.contents(player), text, likeness);
     let Some(room) = place else {
         return own;
     };
-    let lying = sole_like(world, world.contents(room), text, likeness);
-    let leaving = sole_like(world, world.leaving(room), text, likeness);
+    let lying = sole_fit(world, world.contents(room), text, likeness);
+    let leaving = sole_fit(world, world.leaving(room), text, likeness);
     together(own, together(lying, leaving))
 }
 
-pub(crate) fn sole_like(
+pub(crate) fn sole_fit(
     world: &World,
     numbers: &[u32],
     text: &str,
     likeness: Likeness,
 ) -> Result<u32, Match>
-    ensures { result ≡ sole_like likeness world.now text.now numbers.now }
+    ensures { result ≡ sole_fit likeness world.now text.now numbers.now }
 {
     let mut found = Err(Match::NoSuch);
     for number in numbers {
@@ -152,7 +172,7 @@ pub(crate) fn sole_like(
 }
 
 fn sole_of_sort(world: &World, sort: Sort, text: &str, likeness: Likeness) -> Result<u32, Match>
-    ensures { result ≡ sole_like likeness world.now text.now
+    ensures { result ≡ sole_fit likeness world.now text.now
         (filter (is_sort sort world.now) (range_with_len 0 world.now.next)) }
 {
     let mut found = Err(Match::NoSuch);
@@ -166,7 +186,7 @@ fn sole_of_sort(world: &World, sort: Sort, text: &str, likeness: Likeness) -> Re
 
 fn is_candidate(world: &World, sort: Sort, number: u32, text: &str, likeness: Likeness) -> bool
     ensures { result ≡ (is_sort sort world.now number
-        && is_named (is_like likeness text.now) world.now number) }
+        && is_named (fits likeness text.now) world.now number) }
 {
     is_sort(world, sort, number) && is_named(world, number, text, likeness)
 }
@@ -192,34 +212,41 @@ fn together(first: Result<u32, Match>, second: Result<u32, Match>) -> Result<u32
 }
 
 fn is_named(world: &World, number: u32, text: &str, likeness: Likeness) -> bool
-    ensures { result ≡ is_named (is_like likeness text.now) world.now number }
+    ensures { result ≡ is_named (fits likeness text.now) world.now number }
 {
     match world.get(number) {
-        Some(record) => any_like(record.names.list(), text, likeness),
+        Some(record) => any_fits(record.names.list(), text, likeness),
         None => false,
     }
 }
 
-fn any_like(names: &[String], text: &str, likeness: Likeness) -> bool
-    ensures { result ≡ list_any (is_like likeness text.now) (map string_bytes names.now) }
+fn any_fits(names: &[String], text: &str, likeness: Likeness) -> bool
+    ensures { result ≡ list_any (fits likeness text.now) (map string_bytes names.now) }
 {
     for name in names {
-        if is_like(text, name, likeness) {
+        if fits(text, name, likeness) {
             return true;
         }
     }
     false
 }
 
-fn is_like(text: &str, name: &str, likeness: Likeness) -> bool
-    ensures { result ≡ is_like likeness text.now name.now }
+// Whether a text is a whole name, or the beginning of a longer one.
+fn fits(text: &str, name: &str, likeness: Likeness) -> bool
+    ensures { result ≡ fits likeness text.now name.now }
 {
     match likeness {
         Likeness::Equal => text.eq_ignore_ascii_case(name),
-        Likeness::Prefix => match name.as_bytes().get(..text.len()) {
-            Some(head) => text.as_bytes().eq_ignore_ascii_case(head),
-            None => false,
-        },
+        Likeness::Prefix => text.len() < name.len() && begins(text, name),
+    }
+}
+
+fn begins(text: &str, name: &str) -> bool
+    ensures { result ≡ is_like Prefix text.now name.now }
+{
+    match name.as_bytes().get(..text.len()) {
+        Some(head) => text.as_bytes().eq_ignore_ascii_case(head),
+        None => false,
     }
 }
 

@@ -4,7 +4,8 @@ ghost use Rattle.std.specs.Prelude.{◌≡◌, Some, None};
 ghost use Rattle.mud_world.specs.Conditions.{shares_room};
 ghost use Rattle.mud_world.specs.declared.change.Deed.TheVariants as deed;
 ghost use Rattle.mud_rules.specs.Outcome.{found as found_one, on_found, does, IsLawful};
-ghost use Rattle.mud_rules.specs.Commands.{drop_down, put, give};
+ghost use Rattle.mud_rules.specs.Commands.{give};
+ghost use Rattle.mud_rules.specs.Inner.{drop_down, put};
 
 use crate::Verdict;
 use crate::matching::Match;

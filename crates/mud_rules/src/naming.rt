@@ -3,7 +3,7 @@
 ghost use Rattle.std.specs.Prelude.{◌≡◌, ℕ, Option, Some, IfOk};
 ghost use Rattle.mud_key.specs.Reading.{names_in, name_in};
 ghost use Rattle.mud_rules.specs.Outcome.{IsLawful};
-ghost use Rattle.mud_rules.specs.Commands.{create, rename, connecting, connect};
+ghost use Rattle.mud_rules.specs.Inner.{create, rename, connecting, connect};
 
 use crate::Verdict;
 use crate::outcome::{does, no_player, not_his, outcome, unread};

@@ -4,7 +4,7 @@ ghost use Rattle.std.specs.Prelude.{◌≡◌, ℕ, Option, Some, IfOk};
 ghost use Rattle.mud_words.specs.Line.{line_of};
 ghost use Rattle.mud_words.specs.Parse.{parsed as parsed_line};
 ghost use Rattle.mud_rules.specs.Outcome.{IsLawful, IsJourney, on_found};
-ghost use Rattle.mud_rules.specs.Commands.{dig_room};
+ghost use Rattle.mud_rules.specs.Inner.{dig_room};
 ghost use Rattle.mud_rules.specs.Shapes.{text_behind};
 ghost use Rattle.mud_rules.specs.Table.{command, connect_line, journey_of, verb_named};
 ghost use Rattle.mud_rules.specs.Steps.{pair_line, object_line, of_object};

@@ -10,7 +10,8 @@ use Rattle.mud_search.specs.declared.slot.Slot.{Slot}
 use Rattle.mud_search.specs.declared.slot.Slot.TheVariants.{Unknown, Open}
 use Rattle.mud_search.specs.declared.task.Task.{Task}
 use Rattle.mud_search.specs.Boards.{slot_at, is_below, IsBefore, slot_of, lesser}
-use Rattle.mud_search.specs.Tasks.{IsTaskBefore, IsFirst}
+use Rattle.mud_search.specs.Tasks.{IsFirst}
+use Rattle.mud_search.specs.Inner.{IsTaskBefore}
 
 -- the task is the first of the members so far; with none no room of theirs is open
 abbrev pub BestSoFar : List (List Slot) → ℕ → Option Task → Type 0

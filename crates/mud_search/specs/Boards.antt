@@ -98,8 +98,7 @@ pub record IsBoardOf (roads : Roads) (from rooms : ℕ) (slots : List Slot) : Ty
   pub whole : length slots ≡ rooms
   pub faithful : IsTraced roads from (slot_at slots)
 
--- the world is sound, there are at most 8 members, and each has a board that is faithful to his roads.
--- A reader need not look into this: `Frontier::facts` says what is to be known of it
+-- how a frontier stands in memory. A reader need not look into this: `Frontier::facts` says what is to be known of it
 pub record IsKept (w : State) (ts : List Knowledge) (boards : List (List Slot)) : Type 0 where
   pub sound : IsSound w
   pub count : length boards ≡ length ts

@@ -19,8 +19,7 @@ pub record IsFaithful (roads : Roads) (from : ℕ) (slots : ℕ → Slot) : Type
   pub finished : (room : ℕ) (l : Label) (s : Step) → slots room ≡ Finished l → Contains (roads room) s
       → Reaches (labels_of slots) s.to (after 1 l s)
 
--- the world is sound, there are at most 8 members, only their rooms are known, and the slots of each are faithful to
--- his roads
+-- the world is sound, of at most 8 members only rooms are known, and the slots of each are faithful to his roads
 pub record IsFrontier (w : State) (ts : List Knowledge) (slots : ℕ → ℕ → Slot) : Type 0 where
   pub sound : IsSound w
   pub few : length ts ≤ 8

@@ -8,3 +8,4 @@ pub mod Slots
 pub mod Tables
 pub mod Tasks
 pub mod Trails
+pub mod Inner

@@ -1,15 +1,9 @@
 -- What a search knows of the rooms of all members.
-use Rattle.std.specs.Prelude.{ℕ, Option}
-use Rattle.mud_roads.specs.declared.label.Label.{Label}
+use Rattle.std.specs.Prelude.{ℕ}
 use Rattle.mud_search.specs.declared.slot.Slot.{Slot}
 use Rattle.mud_search.specs.declared.slot.Slot.TheVariants.{Unknown}
-use Rattle.mud_search.specs.Slots.{labels_of}
 use Rattle.mud_search.specs.Tables.{Table, at}
 
 -- the slot of a member's room; past the last member and room all are unknown
 abbrev pub slot_in : Table Slot → ℕ → ℕ → Slot
 slot_in f m room = at Unknown f m room
-
--- the label of a member's room, if it has one
-abbrev pub labels_in : Table Slot → ℕ → ℕ → Option Label
-labels_in f m = labels_of (slot_in f m)

@@ -20,27 +20,19 @@ pub record IsChanged (old new : ℕ → ℕ → Slot) (m room : ℕ) (v : Slot) 
   pub here : new m room ≡ v
   pub others : (n q : ℕ) → (n ≢ m) ⊎ (q ≢ room) → new n q ≡ old n q
 
--- a lesser label, or the same and an earlier member, or the same and no greater room
-abbrev pub IsTaskBefore : Task → ℕ → ℕ → Label → Type 0
-IsTaskBefore a m r b = AtMost a.label b × (a.label ≡ b → (a.member ≤ m) × (a.member ≡ m → a.room ≤ r))
-
--- the task's room is open with its label, and no open room comes before
+-- the task's room is open with its label, the least; of those alike it is of the first member, his lowest room
 pub record IsFirst (slots : ℕ → ℕ → Slot) (t : Task) : Type 0 where
   pub is_open : slots t.member t.room ≡ Open t.label
-  pub before : (m r : ℕ) (l : Label) → slots m r ≡ Open l → IsTaskBefore t m r l
+  pub before : (m r : ℕ) (l : Label) → slots m r ≡ Open l
+      → AtMost t.label l × (t.label ≡ l → (t.member ≤ m) × (t.member ≡ m → t.room ≤ r))
 
--- a step leads to the room, which had no label as small as the step's, and is now open with that
-abbrev pub HasFallen : (ℕ → Slot) → (ℕ → Slot) → Label → List Step → ℕ → Type 0
-HasFallen old new l steps room =
-    (s : Step) × Contains steps s × (s.to ≡ room) × (new room ≡ Open (after 1 l s))
-    × (Reaches (labels_of old) room (after 1 l s) → ⊥)
-
--- what a settled task leaves: its room is finished; another is as before or has fallen; no step leads to a greater
--- label than its own
+-- a settled task: its room is finished; another is as before, or open with the lesser label of a step that leads there
 pub record IsDone (old new : ℕ → ℕ → Slot) (t : Task) (steps : List Step) : Type 0 where
   pub was : labels_of (old t.member) t.room ≡ Some t.label
   pub finished : new t.member t.room ≡ Finished t.label
   pub others : (m room : ℕ) → m ≢ t.member → new m room ≡ old m room
   pub fell : (room : ℕ) → room ≢ t.room
-      → (new t.member room ≡ old t.member room) ⊎ HasFallen (old t.member) (new t.member) t.label steps room
+      → (new t.member room ≡ old t.member room)
+      ⊎ ((s : Step) × Contains steps s × (s.to ≡ room) × (new t.member room ≡ Open (after 1 t.label s))
+      × (Reaches (labels_of (old t.member)) room (after 1 t.label s) → ⊥))
   pub reached : (s : Step) → Contains steps s → Reaches (labels_of (new t.member)) s.to (after 1 t.label s)

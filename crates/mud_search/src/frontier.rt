@@ -5,7 +5,7 @@ ghost use Rattle.mud_roads.specs.declared.label.Label.{Label};
 ghost use Rattle.mud_roads.specs.Open.{Knowledge, IsTraveller, roads_of};
 ghost use Rattle.mud_search.specs.Slots.{is_open, is_held, labels_of};
 ghost use Rattle.mud_search.specs.Tables.{lists_in, how_many};
-ghost use Rattle.mud_search.specs.Rooms.{slot_in, labels_in};
+ghost use Rattle.mud_search.specs.Rooms.{slot_in};
 ghost use Rattle.mud_search.specs.Facts.{IsFrontier};
 ghost use Rattle.mud_search.specs.Tasks.{IsBegun, IsFirst, IsChanged, IsDone};
 ghost use Rattle.mud_search.specs.Least.{label_in, AreLeast, AreBounded};
@@ -156,7 +156,8 @@ impl<J: Job> Frontier<J> {
     pub fn rest(&self) -> Rest
         ensures opened { result.opened ≡ how_many is_open self.now }
         ensures held { result.held ≡ how_many is_held self.now }
-        ensures least { result.opened ≡ 0 → result.held ≡ 0 → AreLeast J.world J.travellers (labels_in self.now) }
+        ensures least { result.opened ≡ 0 → result.held ≡ 0
+            → AreLeast J.world J.travellers (λ m. labels_of (slot_in self.now m)) }
     {
         let mut opened = 0;
         let mut held = 0;
@@ -190,7 +191,7 @@ impl<J: Job> Frontier<J> {
     fn left(&self) -> Option<Task>
         ensures some { IfSome result (λ t. IsLeft (slot_in self.now) t) }
         ensures member { IfSome result (λ t. t.member < length J.travellers) }
-        ensures none { IfNone result (AreLeast J.world J.travellers (labels_in self.now)) }
+        ensures none { IfNone result (AreLeast J.world J.travellers (λ m. labels_of (slot_in self.now m))) }
     {
         let _boards = &self.boards;
         match self.first() {
@@ -203,7 +204,7 @@ impl<J: Job> Frontier<J> {
     pub fn finish(&mut self, travellers: &[Traveller])
         requires travellers { travellers.now ≡ J.travellers }
         requires these { All (IsTraveller J.world) J.travellers }
-        ensures { AreLeast J.world J.travellers (labels_in self.new) }
+        ensures { AreLeast J.world J.travellers (λ m. labels_of (slot_in self.new m)) }
     {
         self.finish_by(travellers, Part::whole(0), &OpenGate);
     }
@@ -212,7 +213,7 @@ impl<J: Job> Frontier<J> {
     pub(crate) fn finish_by<G: Gate>(&mut self, travellers: &[Traveller], part: Part, gate: &G)
         requires travellers { travellers.now ≡ J.travellers }
         requires these { All (IsTraveller J.world) J.travellers }
-        ensures { AreLeast J.world J.travellers (labels_in self.new) }
+        ensures { AreLeast J.world J.travellers (λ m. labels_of (slot_in self.new m)) }
     {
         while let Some(task) = self.left() {
             part.pass(gate, 0, &task);
@@ -223,7 +224,7 @@ impl<J: Job> Frontier<J> {
 
     /// The labels as they are.
     pub fn into_labels(self) -> Labels
-        ensures labels { (m room : ℕ) → label_in result m room ≡ labels_in self m room }
+        ensures labels { (m room : ℕ) → label_in result m room ≡ labels_of (slot_in self m) room }
         ensures members { (m room : ℕ) → length J.travellers ≤ m → label_in result m room ≡ None }
         ensures bounded { AreBounded (label_in result) }
     {
@@ -232,7 +233,7 @@ impl<J: Job> Frontier<J> {
 
     // The same; there is a list for each member.
     pub(crate) fn found(self) -> Labels
-        ensures labels { (m room : ℕ) → label_in result m room ≡ labels_in self m room }
+        ensures labels { (m room : ℕ) → label_in result m room ≡ labels_of (slot_in self m) room }
         ensures count { length (lists_in result) ≡ length J.travellers }
         ensures bounded { AreBounded (label_in result) }
     {

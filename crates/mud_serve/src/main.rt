@@ -1,6 +1,7 @@
 //! `mud_serve`: a server of text worlds.
 //!
-//! `mud_serve script` answers the lines of standard input; `mud_serve listen` serves players who come by Telnet.
+//! `mud_serve script` answers the lines of standard input; `mud_serve listen` serves players who come by Telnet or from
+//! a browser.
 //! docs/SERVER.md has the command lines and the statuses.
 #![tactic(auto)]
 

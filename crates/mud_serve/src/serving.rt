@@ -6,11 +6,12 @@ ghost use Rattle.mud_command.specs.Service.{AreWithin};
 use crate::stop::Stop;
 use log::Log;
 use mud_chron::Entry;
-use mud_command::{Limits, Listening};
+use mud_command::{Limits, Listening, WebListening};
 use mud_ends::{Sink, Source};
 use mud_journal::found;
-use mud_listen::{StopSign, listen_journaled, listen_on};
+use mud_listen::{Doors, Site, StopSign, WebDoor, listen_journaled, listen_on};
 use mud_load::loaded;
+use mud_page::PAGE;
 use mud_session::script;
 use std::fs::File;
 use std::io;
@@ -83,15 +84,43 @@ fn tell_torn<R: Eprint>(rt: &R, torn: usize) {
     };
 }
 
-// The listener that was asked for.
+// The listener at this address and port.
 fn bound<R: Net<Listener = TcpListener, Stream = TcpStream>>(
     rt: &R,
-    listening: Listening<'_>,
+    address: &str,
+    port: u16,
 ) -> Result<TcpListener, Stop> {
-    match TcpListener::bind(rt, (listening.address, listening.port)) {
+    match TcpListener::bind(rt, (address, port)) {
         Ok(listener) => Ok(listener),
         Err(_) => Err(Stop::Listen),
     }
+}
+
+// The door on the web that was asked for.
+fn web_door<R: AllocGlobal + Net<Listener = TcpListener, Stream = TcpStream>>(
+    rt: &R,
+    web: WebListening<'_>,
+) -> Result<WebDoor, Stop> {
+    let Ok(origin) = String::from_str(rt.alloc(), web.origin) else {
+        return Err(Stop::OutOfMemory);
+    };
+    Ok(WebDoor {
+        listener: bound(rt, web.address, web.port)?,
+        site: Site { origin, page: PAGE },
+    })
+}
+
+// The doors that were asked for.
+fn doors<R: AllocGlobal + Net<Listener = TcpListener, Stream = TcpStream>>(
+    rt: &R,
+    listening: Listening<'_>,
+) -> Result<Doors, Stop> {
+    let telnet = bound(rt, listening.address, listening.port)?;
+    let web = match listening.web {
+        Some(web) => Some(web_door(rt, web)?),
+        None => None,
+    };
+    Ok(Doors { telnet, web })
 }
 
 // What the server keeps to.
@@ -148,12 +177,12 @@ fn keep_nothing<
     requires { AreWithin listening.limits }
 {
     let entries = begun(rt, listening.load)?;
-    let listener = bound(rt, listening)?;
+    let doors = doors(rt, listening)?;
     let mut sink = Sink::new(io::writer(rt));
     match listen_on(
         rt,
         rt.alloc(),
-        listener,
+        doors,
         limits_of(listening),
         entries,
         sign,
@@ -184,12 +213,12 @@ fn keep_journal<
     };
     tell_torn(rt, torn);
     let entries = begun_after(rt, listening.load, had)?;
-    let listener = bound(rt, listening)?;
+    let doors = doors(rt, listening)?;
     let mut sink = Sink::new(io::writer(rt));
     match listen_journaled(
         rt,
         rt.alloc(),
-        listener,
+        doors,
         limits_of(listening),
         entries,
         found,

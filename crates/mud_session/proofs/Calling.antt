@@ -12,8 +12,8 @@ use Rattle.mud_nvt.specs.Units.{Given, Text, TooLong, Ayt, Answer}
 use Rattle.mud_rules.specs.Table.{is_question}
 use Rattle.mud_hall.specs.Desk.{DeskState, TakesIn}
 use Rattle.mud_hall.specs.Steps.{Call, See, Act, Ask, Told, PerformsAll}
-use Rattle.mud_session.specs.Session.{Talk, Said, Turn, Does, Rests, Looks, IsActed, IsAsked, IsAnswered}
-use Rattle.mud_session.specs.Laws.{reply_in, reply_by, handed_by, AreCalls, TurnsAreCalls}
+use Rattle.mud_session.specs.Session.{Talk, Said, Turn, Does, Rests, Looks, IsActed, IsAsked, IsAnswered, Plays}
+use Rattle.mud_session.specs.Laws.{reply_in, reply_by, handed_by, AreCalls}
 
 -- one turn is these calls
 record IsCalls (capacity : ℕ) (old : DeskState) (unit : Option Given) (notices : List (List ℕ)) (reply : Option Said)
@@ -109,7 +109,8 @@ goes-on : (capacity : ℕ) (a b c : DeskState) (xs ys : List Call) → PerformsA
 goes-on capacity a b c [] ys same more = subst (λ (d : DeskState). PerformsAll capacity d ys c) same more
 goes-on capacity a b c (x ∷ xs) ys (now, does, rest) more = (now, does, goes-on capacity now b c xs ys rest more)
 
-pub turns_are_calls : TurnsAreCalls
+pub turns_are_calls : (old new : Talk) (turns : List Turn) → Plays TakesIn old turns new
+    → AreCalls old.capacity old.desk turns new.desk
 turns_are_calls old new [] same =
     record { calls = []; performs = ap (λ (t : Talk). t.desk) same; notices = refl; replies = refl }
 turns_are_calls old new (turn ∷ turns) (goes, mid, takes, plays) =

@@ -25,17 +25,19 @@ use Rattle.mud_rules.specs.Hearing.{heard_line}
 use Rattle.mud_rules.specs.Replies.{welcome_text, refusal_text}
 use Rattle.mud_chron.specs.Entry.{Accepted as Entry}
 use Rattle.mud_hall.specs.declared.fault.Fault.TheVariants.{OutOfMemory, HistoryFull, Unpublished, DesksFull}
-use Rattle.mud_hall.specs.Told.{world_after, notice_of, notice_in, notices}
+use Rattle.mud_hall.specs.Told.{world_after, notices}
+use Rattle.mud_hall.specs.Inner.{notice_of, notice_in}
 use Rattle.mud_hall.specs.Desk.{DeskState, TakesIn}
 use Rattle.mud_hall.specs.Replies.{Reply, Accepted, Became, Refused, Question, Failed, Stores, Replies, verdict_on}
 use Rattle.mud_hall.proofs.Coming.{Plain as Comes, plainly}
 use Rattle.mud_session.specs.State.{State, DoorState, talk_of}
 use Rattle.mud_session.specs.Session.{Talk, Said, Turn, Takes, Plays, Does, Rests, IsActed, IsAsked, IsAnswered}
-use Rattle.mud_session.specs.Session.{numbered, reply_line, sent, answer_to, text_of_turn, text_of, greeting}
+use Rattle.mud_session.specs.Session.{numbered, reply_line, sent, answer_to, text_of_turn, text_of}
+use Rattle.mud_session.specs.Inner.{greeting}
 use Rattle.mud_session.specs.Feeding.{Feeds, Nudges}
 use Rattle.mud_session.specs.Naming.{Piece, Numbered, Notice, Plain, Signal, plain_lines, IsSaidOf, IsNotice, bytes_of}
-use Rattle.mud_session.specs.Naming.{IsUpTo, NamesUpTo, NamesSeen}
-use Rattle.mud_session.specs.Laws.{IsToldOnce, NothingBeyond}
+use Rattle.mud_session.specs.Naming.{IsUpTo, NamesUpTo}
+use Rattle.mud_session.specs.Laws.{IsToldOnce, NamesSeen}
 use Rattle.mud_session.proofs.Telling.{told_once}
 
 -- ---- texts that name no version above a number
@@ -376,7 +378,9 @@ nudges old new was is names n =
     (takes-turn (talk_of old was) (talk_of new is) n.turn (subst Signals (sym n.none) tt) n.takes names.told)
     (subst (λ t. StandsAfter t names.earlier) (sym n.terminal) names.stands) n.out
 
-pub nothing_beyond : NothingBeyond
+pub nothing_beyond : (old new : State) (was is : DoorState) (names : NamesSeen old was.desk)
+    → ((bytes : List ℕ) → Feeds TakesIn names.earlier bytes old new was is → NamesSeen new is.desk)
+    × (Nudges TakesIn old new was is → NamesSeen new is.desk)
 nothing_beyond old new was is names = (feeds old new was is names, nudges old new was is names)
 
 -- ---- for callers

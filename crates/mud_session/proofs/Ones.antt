@@ -33,9 +33,10 @@ use Rattle.mud_hall.proofs.Coming.{Plain, plainly}
 use Rattle.mud_hall.specs.Answers.{Answered, Answers, IsGuided, IsShown, Shows}
 use Rattle.mud_hall.proofs.Worlds.{world-sound}
 use Rattle.mud_session.specs.Session.{Said, Talk, TakesNone, IsShared, Turn, Looks, IsActed, IsAsked, IsAnswered}
-use Rattle.mud_session.specs.Session.{Rests, Does, Takes, Plays, is_last, numbered, reply_line, text_of}
+use Rattle.mud_session.specs.Session.{Rests, Does, Takes, Plays, numbered, reply_line, text_of}
+use Rattle.mud_session.specs.Inner.{is_last, replied}
 use Rattle.mud_session.specs.Script.{begins}
-use Rattle.mud_session.specs.Laws.{ScriptTextIsOne, replied}
+use Rattle.mud_session.specs.Laws.{ScriptTextIsOne}
 use Rattle.mud_session.proofs.Playing.{unit_of}
 
 -- ---- answers

@@ -15,7 +15,8 @@ use Rattle.mud_rules.specs.declared.verdict.Verdict.TheVariants as verdict
 use Rattle.mud_rules.specs.Table.{is_question}
 use Rattle.mud_chron.specs.Entry.{Accepted as Entry}
 use Rattle.mud_hall.specs.declared.fault.Fault.TheVariants.{OutOfMemory, HistoryFull, Unpublished, DesksFull}
-use Rattle.mud_hall.specs.Desk.{DeskState, HandsOut, took_in}
+use Rattle.mud_hall.specs.Desk.{DeskState, HandsOut}
+use Rattle.mud_hall.specs.Inner.{took_in}
 use Rattle.mud_hall.specs.Replies.{Reply, Accepted, Became, Refused, Question, Failed, Stores, Replies, verdict_on}
 use Rattle.mud_hall.specs.Steps.{Call, See, Act, Ask, Told, Performs, Hall, seats, lone_desk, opened_alone, At, Makes}
 use Rattle.mud_hall.specs.Steps.{Grows, IsRun}
@@ -23,7 +24,7 @@ use Rattle.mud_hall.proofs.Coming.{Plain, plainly}
 use Rattle.mud_session.specs.Session.{Talk, TakesNone, Said, Turn, Does, Plays, Rests, Looks, IsActed, IsAsked}
 use Rattle.mud_session.specs.Session.{IsAnswered}
 use Rattle.mud_session.specs.Script.{begins}
-use Rattle.mud_session.specs.Laws.{reply_in, reply_by, ScriptIsRun}
+use Rattle.mud_session.specs.Laws.{reply_in, reply_by, AreScript}
 use Rattle.mud_session.proofs.Calling.{unsaid}
 
 -- ---- one call of a desk that nobody shares
@@ -252,7 +253,8 @@ turns-are old new (turn ∷ turns) (goes, mid, takes, plays) =
           ∙ sym (flat_map-append reply_by one.calls rest.calls);
     }
 
-pub script_is_run : ScriptIsRun
+pub script_is_run : (capacity : ℕ) (turns : List Turn) (new : Talk) → Plays TakesNone (begins capacity) turns new
+    → AreScript capacity turns new.desk
 script_is_run capacity turns new plays =
     let are : AreTurns capacity lone_desk turns new.desk = turns-are (begins capacity) new turns plays in
     let ran : Runs capacity opened_alone are.calls new.desk =

@@ -13,7 +13,8 @@ use Rattle.mud_session.specs.State.{State, DoorState, talk_of}
 use Rattle.mud_ends.specs.Ends.{Reader, Writer, unread}
 use Rattle.mud_session.specs.Session.{TakingIn, Talk, Turn, Plays, Play, text_of}
 use Rattle.mud_session.specs.Serving.{Serves, ServesInPart}
-use Rattle.mud_session.specs.Script.{heard, Script, IsWhole, IsFront, IsOpen}
+use Rattle.mud_session.specs.Script.{Script, IsWhole, IsFront, IsOpen}
+use Rattle.mud_session.specs.Inner.{heard}
 use Rattle.mud_session.proofs.Playing.{unit_of, retold, joined, text_of-append}
 
 -- a read saw the end, or did not

@@ -2,7 +2,8 @@
 use Rattle.std.proofs.Common.{◌≡◌, List, [], ◌∷◌, refl, ap}
 use Rattle.mud_world.specs.declared.change.Deed.TheVariants.{Say}
 use Rattle.mud_chron.specs.Entry.{Accepted}
-use Rattle.mud_hall.specs.Desk.{DeskState, new_desk, took_in, TakesIn}
+use Rattle.mud_hall.specs.Desk.{DeskState, new_desk, TakesIn}
+use Rattle.mud_hall.specs.Inner.{took_in}
 use Rattle.mud_session.specs.Session.{IsShared}
 
 sample : Accepted

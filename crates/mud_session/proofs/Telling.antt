@@ -15,8 +15,8 @@ use Rattle.mud_hall.specs.declared.fault.Fault.TheVariants.{OutOfMemory, History
 use Rattle.mud_hall.specs.Desk.{DeskState, TakesIn, HandsOut}
 use Rattle.mud_hall.specs.Replies.{Reply, Accepted, Became, Refused, Question, Failed, Stores, Replies, verdict_on}
 use Rattle.mud_hall.proofs.Coming.{Plain, plainly}
-use Rattle.mud_session.specs.Session.{Talk, Said, Turn, Does, Rests, Looks, IsActed, IsAsked, IsAnswered}
-use Rattle.mud_session.specs.Laws.{IsToldOnce, NoticesAreToldOnce}
+use Rattle.mud_session.specs.Session.{Talk, Said, Turn, Does, Rests, Looks, IsActed, IsAsked, IsAnswered, Takes}
+use Rattle.mud_session.specs.Laws.{IsToldOnce}
 
 -- the desk made an entry itself, or none, and is told nothing of it
 record Adds (old new : DeskState) : Type 0 where
@@ -121,5 +121,6 @@ turned old new turn (Some (Text line)) does = go (is_blank line) does
     go true rests = rested old new turn rests
     go false is = answered old new line turn.notices turn.reply is
 
-pub told_once : NoticesAreToldOnce
+pub told_once : (old new : Talk) (turn : Turn) → Takes TakesIn old turn new
+    → IsToldOnce old.desk turn.notices new.desk
 told_once old new turn takes = turned old new turn turn.unit takes.does

@@ -5,8 +5,7 @@ use Rattle.mud_nvt.specs.History.{StandsAfter}
 use Rattle.mud_session.specs.State.{State, DoorState, talk_of}
 use Rattle.mud_session.specs.Session.{TakingIn, Turn, Takes, Play, text_of, text_of_turn}
 
--- after the earlier bytes it takes these: the units that they add have their turns, up to the last reply, and what is
--- sent for them is to be taken out
+-- after the earlier bytes it takes these: the units that they add have their turns, up to the last reply
 pub record Feeds (takes_in : TakingIn) (earlier bytes : List ℕ) (old new : State)
     (old_door new_door : DoorState) : Type 0 where
   pub stands : StandsAfter new.terminal (earlier ++ bytes)

@@ -6,3 +6,4 @@ pub mod Script
 pub mod Serving
 pub mod Naming
 pub mod Laws
+pub mod Inner

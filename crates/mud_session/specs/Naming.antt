@@ -1,8 +1,7 @@
 -- The versions that a session names in what it sends.
-use Rattle.std.specs.Prelude.{◌≡◌, ◌≤◌, ◌⊎◌, ℕ, List, [], ◌∷◌, length, codes, Some, All, Contains}
+use Rattle.std.specs.Prelude.{◌≡◌, ◌≤◌, ◌⊎◌, ℕ, List, [], ◌∷◌, codes, Some, All, Contains}
 use Rattle.std.specs.List.{flat_map}
 use Rattle.mud_nvt.specs.declared.codes.TheConstants.{IAC}
-use Rattle.mud_nvt.specs.History.{StandsAfter}
 use Rattle.mud_world.specs.State.{State as World}
 use Rattle.mud_world.specs.declared.change.Change.{Change}
 use Rattle.mud_world.specs.declared.refusal.Refusal.{Refusal}
@@ -11,7 +10,6 @@ use Rattle.mud_rules.specs.Hearing.{heard_line}
 use Rattle.mud_hall.specs.Told.{notice_text}
 use Rattle.mud_hall.specs.Desk.{DeskState}
 use Rattle.mud_hall.specs.Answers.{Answered, Answers}
-use Rattle.mud_session.specs.State.{State}
 use Rattle.mud_session.specs.Session.{numbered, sent}
 
 -- the lines that name no version
@@ -33,8 +31,7 @@ IsNotice most text =
     (v : ℕ) × (w : World) × (e : Change) × (p : ℕ) × (line : List ℕ)
     × (v ≤ most) × (heard_line w e p ≡ Some line) × (text ≡ notice_text v line)
 
--- what is sent is made of these: replies and answers, notices, lines that name no version, and what the terminal itself
--- answers to a request
+-- what is sent is made of these: replies and answers, notices, lines that name no version, and answers to requests
 pub data Piece : Type 0 where
   Numbered : (version : ℕ) → (text : List ℕ) → Piece
   Notice : (text : List ℕ) → Piece
@@ -60,11 +57,3 @@ pub record NamesUpTo (most : ℕ) (text : List ℕ) : Type 0 where
   pub pieces : List Piece
   pub each : All (IsUpTo most) pieces
   pub is : text ≡ flat_map bytes_of pieces
-
--- a session, to which these bytes came, names no version beyond what its desk has seen: neither in what is to be sent
--- nor in what the desk was told
-pub record NamesSeen (session : State) (desk : DeskState) : Type 0 where
-  pub earlier : List ℕ
-  pub stands : StandsAfter session.terminal earlier
-  pub out : NamesUpTo (length desk.seen) session.out
-  pub told : All (IsNotice (length desk.seen)) desk.told

@@ -10,17 +10,13 @@ use Rattle.mud_session.specs.Session.{TakingIn, Talk, Play, text_of}
 abbrev pub begins : ℕ → Talk
 begins capacity = record { capacity = capacity; desk = lone_desk; has_ended = false }
 
--- the bytes that were read, and a line feed after them where the reader's end was seen
-abbrev pub heard : Reader → List ℕ → List ℕ
-heard reader bytes = if reader.at_end then bytes ++ 10 ∷ [] else bytes
-
--- what a session that stood at the start played of what was read
+-- what a session that stood at the start played of what was read, and of a line feed where the end was seen
 pub record Script (takes_in : TakingIn) (start : Talk) (old new : Reader) : Type 0 where
   pub bytes : List ℕ
   pub read : Consumes old.left new.left bytes
   pub end : new.at_end ≡ true → IsAtEnd new.left
   pub talk : Talk
-  pub play : Play takes_in start (units (heard new bytes)) talk
+  pub play : Play takes_in start (units (if new.at_end then bytes ++ 10 ∷ [] else bytes)) talk
 
 -- all its text was written; the end was seen and each unit had its turn, or `quit` was answered
 pub record IsWhole (takes_in : TakingIn) (start : Talk) (reader read : Reader)
@@ -36,8 +32,7 @@ pub record IsFront (takes_in : TakingIn) (start : Talk) (reader read : Reader)
   pub count : ℕ
   pub writes : Appends writer.holds written.holds (take count (text_of script.play.turns))
 
--- all its text was written and each unit had its turn, none of them an answered `quit`; the end was not seen, and
--- each read gave a byte
+-- all its text was written, each unit had its turn, no `quit` was answered, no end seen, and each read gave a byte
 pub record IsOpen (takes_in : TakingIn) (start : Talk) (reader read : Reader)
     (writer written : Writer) : Type 0 where
   pub script : Script takes_in start reader read

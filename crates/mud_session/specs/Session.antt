@@ -6,10 +6,11 @@ use Rattle.mud_words.specs.Parse.{parsed}
 use Rattle.mud_words.specs.Words.{is_blank}
 use Rattle.mud_nvt.specs.Units.{Given, Text, TooLong, Ayt, Answer}
 use Rattle.mud_rules.specs.Table.{is_question, is_quit}
-use Rattle.mud_hall.specs.declared.fault.Fault.TheVariants.{OutOfMemory, HistoryFull, Unpublished, DesksFull}
+use Rattle.mud_hall.specs.declared.fault.Fault.TheVariants.{HistoryFull, Unpublished}
 use Rattle.mud_hall.specs.Desk.{DeskState, HandsOut}
-use Rattle.mud_hall.specs.Replies.{Reply, Accepted, Became, Refused, Question, Failed, Replies}
+use Rattle.mud_hall.specs.Replies.{Reply, Accepted, Became, Refused, Failed, Replies}
 use Rattle.mud_hall.specs.Answers.{Answered, Answers}
+use Rattle.std.specs.Option.{option_map_or}
 
 -- ---- a session, and what came to it
 
@@ -35,8 +36,7 @@ pub record Said : Type 0 where
   pub text : List ℕ
   pub is_last : Bool
 
--- a turn: of a unit, or of none where the session only looks for what others did; the notices that are sent in it, and
--- the reply to its line, if that got one
+-- a turn: of a unit, or of none where the session only looks; the notices sent in it, and the reply to its line, if any
 pub record Turn : Type 0 where
   pub unit : Option Given
   pub notices : List (List ℕ)
@@ -53,11 +53,9 @@ abbrev pub reply_line : Reply → Option (List ℕ)
 reply_line (Accepted v text) = Some (numbered v text)
 reply_line (Became v text) = Some (numbered v text)
 reply_line (Refused v refusal text) = Some (numbered v text)
-reply_line (Question v) = None
 reply_line (Failed HistoryFull) = Some (codes "(history full)")
 reply_line (Failed Unpublished) = Some (codes "(not stored)")
-reply_line (Failed OutOfMemory) = None
-reply_line (Failed DesksFull) = None
+reply_line other = None
 
 -- a desk takes entries in, and some of what it was told is sent: all that happens where memory is refused
 pub record Looks (takes_in : TakingIn) (old : DeskState) (lines : List (List ℕ)) (new : DeskState) : Type 0 where
@@ -65,8 +63,7 @@ pub record Looks (takes_in : TakingIn) (old : DeskState) (lines : List (List ℕ
   pub takes : takes_in old ready
   pub tells : HandsOut ready lines new
 
--- a line acts: the desk takes entries in and replies; all that it was told is sent, and then the reply; only at a desk
--- that is shared a change is not stored
+-- a line acts: the desk takes entries in and replies; all that it was told is sent, and then the reply
 pub record IsActed (takes_in : TakingIn) (old : Talk) (line : List ℕ) (lines : List (List ℕ)) (said : Said)
     (new : Talk) : Type 0 where
   pub ready : DeskState
@@ -90,10 +87,6 @@ pub record IsAsked (takes_in : TakingIn) (old : Talk) (line : List ℕ) (lines :
   pub text : said.text ≡ numbered answer.version answer.text
   pub last : said.is_last ≡ is_quit (parsed line)
 
-abbrev pub is_last : Option Said → Bool
-is_last None = false
-is_last (Some said) = said.is_last
-
 -- a line that is not blank is replied to, or memory is refused
 abbrev pub IsAnswered : TakingIn → Talk → List ℕ → List (List ℕ) → Option Said → Talk → Type 0
 IsAnswered takes_in old line lines None new = Looks takes_in old.desk lines new.desk
@@ -110,17 +103,15 @@ pub record Rests (old : Talk) (turn : Turn) (new : Talk) : Type 0 where
 -- what a unit does: a line that is not blank is answered; without a unit the desk looks for what others did
 abbrev pub Does : TakingIn → Talk → Turn → Talk → Option Given → Type 0
 Does takes_in old turn new None = Looks takes_in old.desk turn.notices new.desk × (turn.reply ≡ None)
-Does takes_in old turn new (Some TooLong) = Rests old turn new
-Does takes_in old turn new (Some Ayt) = Rests old turn new
-Does takes_in old turn new (Some (Answer bytes)) = Rests old turn new
 Does takes_in old turn new (Some (Text line)) =
     MatchBool (is_blank line) (Rests old turn new) (IsAnswered takes_in old line turn.notices turn.reply new)
+Does takes_in old turn new (Some other) = Rests old turn new
 
 -- one turn
 pub record Takes (takes_in : TakingIn) (old : Talk) (turn : Turn) (new : Talk) : Type 0 where
   pub does : Does takes_in old turn new turn.unit
   pub capacity : new.capacity ≡ old.capacity
-  pub ended : new.has_ended ≡ is_last turn.reply
+  pub ended : new.has_ended ≡ option_map_or (λ said. said.is_last) turn.reply false
 
 -- turns one after the other, none after the last reply
 abbrev pub Plays : TakingIn → Talk → List Turn → Talk → Type 0
@@ -130,13 +121,9 @@ Plays takes_in old (turn ∷ turns) new =
 
 -- ---- what is sent
 
--- a line ends with CR LF on the wire
-abbrev pub on_wire : ℕ → List ℕ
-on_wire b = if b == 10 then 13 ∷ 10 ∷ [] else b ∷ []
-
 -- a text of one or more lines, each ended by CR LF
 abbrev pub sent : List ℕ → List ℕ
-sent text = flat_map on_wire text ++ 13 ∷ 10 ∷ []
+sent text = flat_map (λ b. if b == 10 then 13 ∷ 10 ∷ [] else b ∷ []) text ++ 13 ∷ 10 ∷ []
 
 -- what is sent for a unit with this reply; for a blank line nothing
 abbrev pub answer_to : Option Given → Option Said → List ℕ
@@ -154,10 +141,6 @@ text_of_turn turn = flat_map sent turn.notices ++ answer_to turn.unit turn.reply
 -- what is sent for these turns
 abbrev pub text_of : List Turn → List ℕ
 text_of turns = flat_map text_of_turn turns
-
--- the first line of a session that greets
-abbrev pub greeting : List ℕ
-greeting = sent (codes "Welcome. Type: connect NAME")
 
 -- what was played: the first of these units had their turns, and no other had one
 pub record Play (takes_in : TakingIn) (old : Talk) (units : List Given) (new : Talk) : Type 0 where

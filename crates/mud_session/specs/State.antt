@@ -10,8 +10,7 @@ pub record State : Type 0 where
   pub has_ended : Bool
   pub out : List ℕ
 
--- a door: how many entries the history can have, its desk, and what the desk is not told yet of the entries that it has
--- seen
+-- a door: how many entries the history can have, its desk, and what of the seen entries it is not told yet
 pub record DoorState : Type 0 where
   pub capacity : ℕ
   pub desk : DeskState

@@ -7,7 +7,8 @@ use Rattle.mud_hall.specs.declared.fault.Fault.TheVariants.{OutOfMemory, History
 use Rattle.mud_hall.specs.Desk.{DeskState, HandsOut}
 use Rattle.mud_hall.specs.Replies.{Reply, Accepted, Became, Refused, Question, Failed}
 use Rattle.mud_session.specs.State.{State, DoorState, talk_of}
-use Rattle.mud_session.specs.Session.{TakingIn, Said, Turn, Takes, Looks, IsAnswered, is_last, sent}
+use Rattle.mud_session.specs.Session.{TakingIn, Said, Turn, Takes, Looks, IsAnswered, sent}
+use Rattle.mud_session.specs.Inner.{is_last}
 use Rattle.mud_session.specs.Session.{text_of_turn}
 
 -- the session with more to be sent

@@ -1,19 +1,26 @@
 //! Laws of the definitions: each contract is a law, and its function does nothing.
 
-ghost use Rattle.mud_session.specs.Laws.{NoticesAreToldOnce, NothingBeyond, ScriptIsRun, ScriptTextIsOne};
-ghost use Rattle.mud_session.specs.Laws.{TurnsAreCalls};
+ghost use Rattle.mud_session.specs.Laws.{ScriptTextIsOne, IsToldOnce, AreCalls, AreScript, NamesSeen};
+ghost use Rattle.mud_session.specs.Session.{Takes, Talk, Turn, Plays, TakesNone};
+ghost use Rattle.mud_hall.specs.Desk.{TakesIn};
+ghost use Rattle.std.specs.Prelude.{List, ℕ};
+ghost use Rattle.mud_session.specs.Script.{begins};
+ghost use Rattle.mud_session.specs.State.{DoorState, State};
+ghost use Rattle.mud_session.specs.Feeding.{Nudges, Feeds};
 
 /// In each turn at a desk of a hall what the desk had been told, and the notices of the others' entries that it came
 /// to see, are what was sent and what is left to be told, each once and in order.
 pub fn notices()
-    ensures { NoticesAreToldOnce }
+    ensures { (old new : Talk) (turn : Turn) → Takes TakesIn old turn new → IsToldOnce old.desk turn.notices new.desk }
 {}
 
 /// What a session at a desk of a hall sends names no version above the number of entries that the desk has seen by
 /// then: not in front of a reply, an answer or a notice, and the answer to `@history` has as many entries as its
 /// number says.
 pub fn nothing_beyond()
-    ensures { NothingBeyond }
+    ensures { (old new : State) (was is : DoorState) (names : NamesSeen old was.desk)
+        → ((bytes : List ℕ) → Feeds TakesIn names.earlier bytes old new was is → NamesSeen new is.desk)
+        × (Nudges TakesIn old new was is → NamesSeen new is.desk) }
 {}
 
 /// What a script sends depends on its bytes, on how many changes its history takes, and on which of its
@@ -25,10 +32,12 @@ pub fn one_script_text()
 /// The turns of a session at a desk of a hall are calls of that desk, of which the steps of the hall are made: so
 /// `mud_hall::laws::guide` speaks of all sessions. What a session sends is what its calls hand out and answer.
 pub fn turns()
-    ensures { TurnsAreCalls }
+    ensures { (old new : Talk) (turns : List Turn) → Plays TakesIn old turns new
+        → AreCalls old.capacity old.desk turns new.desk }
 {}
 
 /// The turns of a script are a run of the hall of one caller: so `mud_hall::laws::guide` speaks of every script.
 pub fn runs()
-    ensures { ScriptIsRun }
+    ensures { (capacity : ℕ) (turns : List Turn) (new : Talk) → Plays TakesNone (begins capacity) turns new
+        → AreScript capacity turns new.desk }
 {}

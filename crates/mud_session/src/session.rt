@@ -1,12 +1,12 @@
 //! A session: bytes in, bytes out.
 
-ghost use Rattle.std.specs.Prelude.{◌≡◌, ℕ, List, ◌++◌, [], false, true, if◌then◌else◌, Some, Err};
+ghost use Rattle.std.specs.Prelude.{◌≡◌, ℕ, List, ◌++◌, [], false, true, if◌then◌else◌, Some, Err, codes};
 ghost use Rattle.std.specs.Prelude.{OnOk, OnErr, IfOk};
 ghost use Rattle.std.specs.List.{flat_map};
 ghost use Rattle.mud_nvt.specs.History.{StandsAfter};
 ghost use Rattle.mud_nvt.specs.Units.{Text};
 ghost use Rattle.mud_nvt.specs.Shown.{shown};
-ghost use Rattle.mud_session.specs.Session.{on_wire};
+ghost use Rattle.mud_session.specs.Inner.{on_wire};
 
 use crate::door::Door;
 use crate::fault::SessionFault;
@@ -42,7 +42,7 @@ impl Session {
     ghost use Rattle.mud_rules.specs.Table.{is_question, is_quit};
     ghost use Rattle.mud_hall.specs.Desk.{with_told};
     ghost use Rattle.mud_hall.specs.Replies.{shown as replied};
-    ghost use Rattle.mud_session.specs.Session.{sent, numbered, greeting, reply_line};
+    ghost use Rattle.mud_session.specs.Session.{sent, numbered, reply_line};
     ghost use Rattle.mud_session.specs.Turning.{sends, sent_for, Told, Looked, IsSaid, Replied, HasTurn};
     ghost use Rattle.mud_session.specs.Feeding.{Feeds, Nudges};
 
@@ -51,7 +51,8 @@ impl Session {
     pub fn new(alloc: Global, greet: bool) -> Result<Session, AllocError>
         ensures terminal { IfOk result (λ session. StandsAfter session.terminal []) }
         ensures open_still { IfOk result (λ session. session.has_ended ≡ false) }
-        ensures out { IfOk result (λ session. session.out ≡ (if greet then greeting else [])) }
+        ensures out { IfOk result (λ session. session.out
+            ≡ (if greet then sent (codes "Welcome. Type: connect NAME") else [])) }
     {
         let mut session = Session {
             alloc,

@@ -92,7 +92,7 @@ impl Site<'_> {
     // The first name that the player has in the end.
     fn name(&self, number: u32, name: &Name) -> Result<Name, AllocError> {
         if let Some(record) = self.goal.get(number) {
-            if let Ok(first) = Name::read(self.alloc, record.names.first()) {
+            if let Ok(first) = Name::read(self.alloc, &record.names.list()[0]) {
                 return Ok(first);
             }
         }

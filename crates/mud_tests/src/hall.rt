@@ -1,8 +1,9 @@
 //! Halls with each desk on a thread of its own: what no contract of a call can refuse, since none knows
 //! what lies under a lock, or whether a cell is found that another desk has set.
 
-ghost use Rattle.std.specs.Prelude.{◌≡◌};
+ghost use Rattle.std.specs.Prelude.{◌≡◌, ◌≤◌};
 
+use crate::rows::same;
 use mud_hall::{CloseFault, Desk, Fault, Hall, HallName, NewHall, Reply};
 use std::alloc::{AllocError, Global};
 use std::marker::{Brand, PhantomData};
@@ -157,15 +158,21 @@ fn crowd_in<J: HallName + Send + Sync, R: Threads + Wait + Sync + Abort>(
     Ok(format!(in alloc; "{told}, {entries} entries")?)
 }
 
-// The same of any hall.
-fn crowd<R: Threads + Wait + Sync + Abort>(
+// Sees what comes of a crowd at a new hall.
+fn check_crowd<R: Threads + Wait + Sync + Abort>(
     rt: &R,
     alloc: Global,
-    hall: NewHall,
+    capacity: u32,
     count: u32,
     lines: u32,
-) -> Result<String, Fail> {
-    crowd_in::<Brand, R>(rt, alloc, hall, count, lines)
+    wanted: &str,
+) -> Result<(), Fail>
+    requires { (1 ≤ capacity) × (capacity ≤ 65536) }
+{
+    let hall = NewHall::open(alloc, capacity)?;
+    let found = crowd_in::<Brand, R>(rt, alloc, hall, count, lines)?;
+    same(rt, "a crowd", found.as_str(), wanted);
+    Ok(())
 }
 
 // Four desks at once; eight, with so many lines that their threads meet; and four at a history that is
@@ -175,19 +182,28 @@ fn crowd<R: Threads + Wait + Sync + Abort>(
 // ends the hall all the same.
 #[test]
 fn crowds(rt: HostRuntime) -> Result<(), Fail> {
-    for (capacity, count, lines, wanted) in [
-        (256, 4, 50, "200 accepted, 0 full, 4 else, 201 entries"),
-        (
-            65_536,
-            8,
-            5_000,
-            "40000 accepted, 0 full, 8 else, 40001 entries",
-        ),
-        (100, 4, 50, "100 accepted, 100 full, 4 else, 100 entries"),
-    ] {
-        let hall = NewHall::open(rt.alloc(), capacity)?;
-        let found = crowd(&rt, rt.alloc(), hall, count, lines)?;
-        assert_eq!(rt; found.as_str(), wanted);
-    }
-    Ok(())
+    check_crowd(
+        &rt,
+        rt.alloc(),
+        256,
+        4,
+        50,
+        "200 accepted, 0 full, 4 else, 201 entries",
+    )?;
+    check_crowd(
+        &rt,
+        rt.alloc(),
+        65_536,
+        8,
+        5_000,
+        "40000 accepted, 0 full, 8 else, 40001 entries",
+    )?;
+    check_crowd(
+        &rt,
+        rt.alloc(),
+        100,
+        4,
+        50,
+        "100 accepted, 100 full, 4 else, 100 entries",
+    )
 }

@@ -1,5 +1,6 @@
 //! Histories and certificates as texts: entry by entry, copied, whole, replayed and judged.
 
+use crate::rows::same;
 use crate::village::world;
 use mud_cert::{check, read};
 use mud_chron::{Entry, read_history, write_entry, write_history};
@@ -69,12 +70,12 @@ fn a_history_is_written_as_it_was_read(rt: HostRuntime) -> Result<(), Fail> {
     let alloc = rt.alloc();
     let entries = read_history(alloc, WAY_ROUND.as_bytes())?;
     let copies = copied(alloc, entries.as_slice())?;
-    assert_eq!(rt; by_entries(alloc, copies.as_slice())?.as_str(), WAY_ROUND);
+    assert!(rt; by_entries(alloc, copies.as_slice())?.as_str() == WAY_ROUND);
     let mut whole = String::new(alloc);
     let entries = entries.as_slice();
     assert!(rt; entries.len() <= 65_536);
     write_history(alloc, entries, &mut whole)?;
-    assert_eq!(rt; whole.as_str(), WAY_ROUND);
+    assert!(rt; whole.as_str() == WAY_ROUND);
     Ok(())
 }
 
@@ -84,7 +85,7 @@ fn a_certificate_is_read_written_and_judged(rt: HostRuntime) -> Result<(), Fail>
     let cert = read(alloc, PROOF.as_bytes())?;
     let mut text = String::new(alloc);
     cert.write(alloc, &mut text)?;
-    assert_eq!(rt; text.as_str(), PROOF);
+    assert!(rt; text.as_str() == PROOF);
     assert!(rt; check(&world(alloc, WAY_ROUND)?, &cert).is_ok());
     Ok(())
 }
@@ -104,24 +105,35 @@ route #2 cost 1
 end
 ";
 
-// What stands in place of a part of that proof, and the verdict then.
-const VERDICTS: [(&str, &str, &str); 8] = [
-    ("end", "end", "accepted"),
-    ("#2:1", "#2:0", "refused: walk cost of #1"),
-    ("#2:1", "#2:2", "refused: arc #3 of #1"),
-    ("version 1", "version 2", "refused: version 2"),
-    ("cost 1", "cost 2", "refused: conclusion"),
-    ("end\n", "end", "unreadable: proof line 7"),
-    ("end\n", "end\nend\n", "unreadable: proof line 8"),
-    (TO_LIBRARY, "", "unreadable: proof line 1"),
-];
+// Sees what the verdict is where something stands in place of a part of that proof.
+fn check_verdict(
+    rt: &impl Abort,
+    alloc: Global,
+    part: &str,
+    instead: &str,
+    wanted: &str,
+) -> Result<(), Fail> {
+    let proof = TO_LIBRARY.replace(alloc, part, instead)?;
+    let outcome = verdict(alloc, LIBRARY.as_bytes(), proof.as_bytes())?;
+    same(rt, instead, outcome.text.as_str(), wanted);
+    Ok(())
+}
 
 #[test]
 fn verdicts_of_changed_proofs(rt: HostRuntime) -> Result<(), Fail> {
-    for (part, instead, wanted) in VERDICTS {
-        let proof = TO_LIBRARY.replace(rt.alloc(), part, instead)?;
-        let outcome = verdict(rt.alloc(), LIBRARY.as_bytes(), proof.as_bytes())?;
-        assert_eq!(rt; (instead, outcome.text.as_str()), (instead, wanted));
-    }
-    Ok(())
+    let alloc = rt.alloc();
+    check_verdict(&rt, alloc, "end", "end", "accepted")?;
+    check_verdict(&rt, alloc, "#2:1", "#2:0", "refused: walk cost of #1")?;
+    check_verdict(&rt, alloc, "#2:1", "#2:2", "refused: arc #3 of #1")?;
+    check_verdict(&rt, alloc, "version 1", "version 2", "refused: version 2")?;
+    check_verdict(&rt, alloc, "cost 1", "cost 2", "refused: conclusion")?;
+    check_verdict(&rt, alloc, "end\n", "end", "unreadable: proof line 7")?;
+    check_verdict(
+        &rt,
+        alloc,
+        "end\n",
+        "end\nend\n",
+        "unreadable: proof line 8",
+    )?;
+    check_verdict(&rt, alloc, TO_LIBRARY, "", "unreadable: proof line 1")
 }

@@ -1,11 +1,12 @@
 //! Journals on a disk in memory, of which each call fails in turn; by their own calls, and under a server.
 
-use crate::listen::{bound, ended, limits, play};
+use crate::client::{bound, play};
+use crate::rows::same;
 use log::Log;
 use mud_chron::{Entry, read_front};
 use mud_ends::Sink;
-use mud_journal::{Disk, DiskFault, Journal, recovered};
-use mud_listen::{ListenFault, listen_journaled};
+use mud_journal::{Disk, DiskFault, Journal, JournalFault, recovered};
+use mud_listen::{Doors, Limits, ListenFault, listen_journaled};
 use std::alloc::Global;
 use std::io::Write;
 use std::net::{Net, TcpListener, TcpStream};
@@ -137,8 +138,8 @@ fn check_fronts(
         let left = store.bytes.get(..len).ok_or("fewer bytes")?;
         let mut found = Store::new(Vec::from_slice(alloc, left)?, 0);
         let (had, _) = completed(rt, alloc, &mut found, text)?;
-        assert!(rt; synced <= had, "{synced} of {had}");
-        assert_eq!(rt; found.bytes.as_slice(), text.as_bytes());
+        assert!(rt; synced <= had);
+        assert!(rt; found.bytes.as_slice() == text.as_bytes());
     }
     Ok(())
 }
@@ -161,7 +162,7 @@ fn each_call_of_a_disk_fails(rt: HostRuntime) -> Result<(), Fail> {
     for fails_at in 1..=CALLS + 1 {
         let mut store = Store::new(Vec::new(alloc), fails_at);
         let (_, synced) = completed(&rt, alloc, &mut store, TEXT)?;
-        assert_eq!(rt; store.calls, fails_at.min(CALLS));
+        assert!(rt; store.calls == fails_at.min(CALLS));
         check_fronts(&rt, alloc, &store, TEXT, synced)?;
     }
     Ok(())
@@ -177,51 +178,66 @@ fn serve<
         + Clock
         + Sync,
     W: Write,
->(rt: &R, listener: TcpListener, store: &mut Store, out: &mut Sink<W>) -> Result<(), ListenFault> {
+>(rt: &R, telnet: TcpListener, store: &mut Store, out: &mut Sink<W>) -> Result<(), ListenFault> {
     let alloc = rt.alloc();
     let bytes = store.bytes.clone()?;
     let Ok((found, had, _)) = recovered(alloc, MemoryDisk { store }, &bytes) else {
         return Err(ListenFault::OutOfMemory);
     };
-    match listen_journaled(
-        rt,
-        alloc,
-        listener,
-        limits(64, 1, 16),
-        had,
-        found,
-        None,
-        out,
-    ) {
+    let doors = Doors { telnet, web: None };
+    let limits = Limits {
+        sessions: 64,
+        per_address: 0,
+        total: 1,
+        counts_players: false,
+        workers: 0,
+        capacity: 16,
+        idle: 0,
+        unnamed: 0,
+    };
+    match listen_journaled(rt, alloc, doors, limits, had, found, None, out) {
         Ok(_) => Ok(()),
         Err(fault) => Err(fault),
     }
 }
 
-// A server over a disk: what the client sees of it, how it ends, and what it writes behind the line of its port.
-fn outcome<
+// How a server ended.
+fn ended(served: Result<(), ListenFault>) -> &'static str {
+    match served {
+        Ok(()) => "done",
+        Err(ListenFault::Journal(JournalFault::Disk)) => "journal fault: disk",
+        Err(_) => "another fault",
+    }
+}
+
+// Sees what a client of a server over a disk is sent for the lines that he types, how the server ends, and what it
+// writes behind the line of its port.
+fn check_served<
     R: Net<Listener = TcpListener, Stream = TcpStream>
         + AllocGlobal
         + Threads
         + Wait
         + Log
         + Clock
-        + Sync,
->(rt: &R, store: &mut Store, rows: &str) -> Result<String, Fail> {
+        + Sync
+        + Abort,
+>(rt: &R, store: &mut Store, lines: &str, wanted: &str, end: &str, text: &str) -> Result<(), Fail> {
     let alloc = rt.alloc();
     let (listener, address) = bound(rt)?;
     let mut written = Vec::new(alloc);
     let mut sink = Sink::new(&mut written);
-    let (served, played) = thread::join(
+    let (served, heard) = thread::join(
         rt,
         || serve(rt, listener, store, &mut sink),
-        || play(rt, address, rows),
+        || play(rt, alloc, address, lines),
     );
-    let (played, ended) = (played?, ended(alloc, &served)?);
-    let (_, text) = str::from_utf8(&written)?
+    same(rt, lines, heard?.as_str(), wanted);
+    same(rt, lines, ended(served), end);
+    let (_, found) = str::from_utf8(&written)?
         .split_once('\n')
         .unwrap_or(("", ""));
-    Ok(format!(in alloc; "{played}; {ended}; {text}")?)
+    same(rt, lines, found, text);
+    Ok(())
 }
 
 const OF_BOB: &str = "mud history 2
@@ -229,63 +245,62 @@ const OF_BOB: &str = "mud history 2
 2 1 say #2 hi
 ";
 
-const UNKNOWN: &str = "
-0 comes => Welcome. Type: connect NAME
-0 connect Bob => (journal fault)
-0 waits => 
-";
+// Sees what a client is sent for the lines that he types, where each call of the disk from the first to the last of
+// these fails; the journal that is left has so many of the changes at least.
+fn check_faults<
+    R: Net<Listener = TcpListener, Stream = TcpStream>
+        + AllocGlobal
+        + Threads
+        + Wait
+        + Log
+        + Clock
+        + Sync
+        + Abort,
+>(rt: &R, first: u32, last: u32, lines: &str, wanted: &str, told: usize) -> Result<(), Fail> {
+    for fails_at in first..=last {
+        let mut store = Store::new(Vec::new(rt.alloc()), fails_at);
+        check_served(rt, &mut store, lines, wanted, "journal fault: disk", "")?;
+        assert!(rt; store.calls == fails_at);
+        check_fronts(rt, rt.alloc(), &store, OF_BOB, told)?;
+    }
+    Ok(())
+}
 
-const UNHEARD: &str = "
-0 comes => Welcome. Type: connect NAME
-0 connect Bob => [1] welcome #2
-0 say hi => (journal fault)
-0 waits => 
-";
+// What Bob types: first he only waits for a line, and last, where the server ends before him, for another.
+const UNKNOWN: &str = ";connect Bob;";
 
-const HEARD: &str = "
-0 comes => Welcome. Type: connect NAME
-0 connect Bob => [1] welcome #2
-0 say hi => [2] said
-0 quit => [2] bye
-";
+const OF_UNKNOWN: &str = "Welcome. Type: connect NAME;(journal fault);;";
 
-const FAULT: &str = "all as told; journal fault: disk; ";
+const UNHEARD: &str = ";connect Bob;say hi;";
 
-const DONE: &str = "all as told; done; mud history 2
-1 1 player #2 \"Bob\"
-2 1 say #2 hi
-end 2
-";
+const OF_UNHEARD: &str = "Welcome. Type: connect NAME;[1] welcome #2;(journal fault);;";
+
+const HEARD: &str = ";connect Bob;say hi;quit";
+
+const OF_HEARD: &str = "Welcome. Type: connect NAME;[1] welcome #2;[2] said;[2] bye;";
 
 // Refused are a server that tells of a change before it is synced, or that the disk failed and goes on all the same.
 // Behind the two calls for each change are two of the server's end.
 #[test]
 fn each_call_of_a_disk_fails_under_a_server(rt: HostRuntime) -> Result<(), Fail> {
-    let alloc = rt.alloc();
-    for (first, last, rows, told) in [
-        (1, 3, "", 0),
-        (4, 5, UNKNOWN, 0),
-        (6, 7, UNHEARD, 1),
-        (8, 9, HEARD, 2),
-    ] {
-        for fails_at in first..=last {
-            let mut store = Store::new(Vec::new(alloc), fails_at);
-            let outcome = outcome(&rt, &mut store, rows)?;
-            assert_eq!(rt; (fails_at, outcome.as_str()), (fails_at, FAULT));
-            assert_eq!(rt; store.calls, fails_at);
-            check_fronts(&rt, alloc, &store, OF_BOB, told)?;
-        }
-    }
-    Ok(())
+    check_faults(&rt, 1, 3, "", "", 0)?;
+    check_faults(&rt, 4, 5, UNKNOWN, OF_UNKNOWN, 0)?;
+    check_faults(&rt, 6, 7, UNHEARD, OF_UNHEARD, 1)?;
+    check_faults(&rt, 8, 9, HEARD, OF_HEARD, 2)
 }
+
+const DONE: &str = "mud history 2
+1 1 player #2 \"Bob\"
+2 1 say #2 hi
+end 2
+";
 
 // Refused are a journal that lacks an entry of the history that is written, and one that has a last line.
 #[test]
 fn a_journal_has_the_history_without_its_last_line(rt: HostRuntime) -> Result<(), Fail> {
     let mut store = Store::new(Vec::new(rt.alloc()), 0);
-    let outcome = outcome(&rt, &mut store, HEARD)?;
-    assert_eq!(rt; outcome.as_str(), DONE);
-    assert_eq!(rt; store.bytes.as_slice(), OF_BOB.as_bytes());
-    assert_eq!(rt; store.synced, OF_BOB.len());
+    check_served(&rt, &mut store, HEARD, OF_HEARD, "done", DONE)?;
+    assert!(rt; store.bytes.as_slice() == OF_BOB.as_bytes());
+    assert!(rt; store.synced == OF_BOB.len());
     Ok(())
 }

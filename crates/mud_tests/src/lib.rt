@@ -8,13 +8,13 @@
 #![tactic(auto)]
 
 #[cfg(test)]
+mod client;
+#[cfg(test)]
 mod hall;
 #[cfg(test)]
 mod histories;
 #[cfg(test)]
 mod journal;
-#[cfg(test)]
-mod listen;
 #[cfg(test)]
 mod rows;
 #[cfg(test)]

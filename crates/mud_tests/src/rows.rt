@@ -1,17 +1,24 @@
-//! Tables as texts: a row for each thing that is done, with what is to come of it.
+//! Tables as texts: a row for each thing that is asked, with what is to come of it.
+
+use std::process::Abort;
+
+/// Sees that a row is answered as it says.
+pub(crate) fn same(rt: &impl Abort, asked: &str, found: &str, wanted: &str) {
+    assert!(rt; found == wanted, "{asked}: {found}");
+}
 
 /// The first word of a text, and what is behind it.
-pub(crate) fn parted(asked: &str) -> (&str, &str) {
-    match asked.split_once(' ') {
+pub(crate) fn parted(text: &str) -> (&str, &str) {
+    match text.split_once(' ') {
         Some(parts) => parts,
-        None => (asked, ""),
+        None => (text, ""),
     }
 }
 
-/// The number that a text is; 99 for any other text.
-pub(crate) fn number(text: &str) -> u32 {
-    match text.parse::<u32>() {
-        Ok(number) => number,
-        Err(_) => 99,
+/// The number of one digit with which a text begins.
+pub(crate) fn digit(text: &str) -> u32 {
+    match text.as_bytes().first() {
+        Some(byte) => u32::from(byte.wrapping_sub(b'0')),
+        None => 0,
     }
 }

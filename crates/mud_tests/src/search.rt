@@ -3,9 +3,10 @@
 ghost use Rattle.std.specs.Prelude.{◌≡◌, ◌≤◌, All, length};
 ghost use Rattle.mud_roads.specs.Open.{IsTraveller};
 
+use crate::rows::{digit, parted};
 use crate::village::world;
 use mud_roads::{Label, Traveller};
-use mud_search::{Frontier, Job, Labels, Put, Rest, Task};
+use mud_search::{Frontier, Job, Labels, Put, Task};
 use mud_world::World;
 use std::alloc::{AllocError, Global};
 use std::marker::Brand;
@@ -57,70 +58,83 @@ fn moves<J: Job>(
     world: &World,
     party: &[Traveller],
     what: &str,
-    task: Task,
+    task: &Task,
 ) -> Result<bool, AllocError>
     requires world { world.now ≡ J.world }
     requires party { party.now ≡ J.travellers }
     requires travellers { All (IsTraveller J.world) J.travellers }
 {
     match what {
-        "take" => Ok(frontier.take() == Some(task)),
+        "take" => Ok(frontier.take() == Some(*task)),
         "back" => {
-            frontier.back(&task);
+            frontier.back(task);
             Ok(true)
         }
-        "done" => Ok(put(frontier, alloc, world, party, &task)? == Put::Done),
-        _ => Ok(put(frontier, alloc, world, party, &task)? == Put::Stale),
+        "done" => Ok(put(frontier, alloc, world, party, task)? == Put::Done),
+        _ => Ok(put(frontier, alloc, world, party, task)? == Put::Stale),
     }
 }
 
-// The moves of the wizard alone, who begins at #0: with the task of which room, cost and exits, and how
-// many rooms are then open and held.
-const TURNS: [(&str, u32, u32, u32, usize, usize); 15] = [
-    ("take", 0, 0, 0, 0, 1),
-    ("back", 0, 0, 1, 0, 1),
-    ("back", 0, 0, 0, 1, 0),
-    ("take", 0, 0, 0, 0, 1),
-    ("done", 0, 0, 0, 2, 0),
-    ("take", 4, 3, 1, 1, 1),
-    ("take", 2, 9, 1, 0, 2),
-    ("done", 4, 3, 1, 1, 0),
-    ("take", 2, 7, 2, 0, 1),
-    ("done", 2, 7, 2, 1, 0),
-    ("stale", 2, 9, 1, 1, 0),
-    ("done", 4, 3, 1, 1, 0),
-    ("stale", 7, 5, 1, 1, 0),
-    ("take", 7, 8, 3, 0, 1),
-    ("done", 7, 8, 3, 0, 0),
-];
+// The moves of the wizard alone, who begins at #0: each `MOVE ROOM COST EXITS`, with a task of his, and how many rooms
+// are open and held behind it.
+const MOVES: &str = "
+take 0 0 0 => 0 1
+back 0 0 1 => 0 1
+back 0 0 0 => 1 0
+take 0 0 0 => 0 1
+done 0 0 0 => 2 0
+take 4 3 1 => 1 1
+take 2 9 1 => 0 2
+done 4 3 1 => 1 0
+take 2 7 2 => 0 1
+done 2 7 2 => 1 0
+stale 2 9 1 => 1 0
+done 4 3 1 => 1 0
+stale 7 5 1 => 1 0
+take 7 8 3 => 0 1
+done 7 8 3 => 0 0
+";
 
-// Does each move with a frontier; no room is open at the end.
-fn play<J: Job>(
-    rt: &impl Abort,
+// The task of `ROOM COST EXITS`.
+fn task_of(text: &str) -> Task {
+    let (room, label) = parted(text);
+    Task {
+        member: 0,
+        room: digit(room),
+        label: label_of(label),
+    }
+}
+
+// The label of `COST EXITS`.
+fn label_of(text: &str) -> Label {
+    let (cost, exits) = parted(text);
+    Label {
+        cost: digit(cost),
+        exits: digit(exits),
+    }
+}
+
+// Does a move, and tells whether so many rooms are then open and held.
+fn goes_so<J: Job>(
+    frontier: &mut Frontier<J>,
     alloc: Global,
     world: &World,
     party: &[Traveller],
-    frontier: &mut Frontier<J>,
-) -> Result<(), Fail>
+    asked: &str,
+    wanted: &str,
+) -> Result<bool, AllocError>
     requires world { world.now ≡ J.world }
     requires party { party.now ≡ J.travellers }
     requires travellers { All (IsTraveller J.world) J.travellers }
 {
-    for (what, room, cost, exits, opened, held) in TURNS {
-        let task = Task {
-            member: 0,
-            room,
-            label: Label { cost, exits },
-        };
-        let is_so = moves(frontier, alloc, world, party, what, task)?;
-        assert!(rt; is_so && frontier.rest() == Rest { opened, held });
-    }
-    frontier.facts();
-    assert!(rt; frontier.take().is_none());
-    Ok(())
+    let (what, task) = parted(asked);
+    let (opened, held) = parted(wanted);
+    let is_so = moves(frontier, alloc, world, party, what, &task_of(task))?;
+    let rest = frontier.rest();
+    Ok(is_so && rest.opened == digit(opened) as usize && rest.held == digit(held) as usize)
 }
 
-// The labels that a frontier has after the moves.
+// The labels that a frontier has after the moves, each as told; no room is open at the end.
 fn by_hand<J: Job>(
     rt: &impl Abort,
     alloc: Global,
@@ -133,32 +147,42 @@ fn by_hand<J: Job>(
     requires few { length J.travellers ≤ 8 }
 {
     let mut frontier = Frontier::<J>::new(alloc, world, party)?;
-    play(rt, alloc, world, party, &mut frontier)?;
+    for row in MOVES.split('\n') {
+        if let Some((asked, wanted)) = row.split_once(" => ") {
+            assert!(rt;
+                goes_so(&mut frontier, alloc, world, party, asked, wanted)?,
+                "{row}"
+            );
+        }
+    }
+    frontier.facts();
+    assert!(rt; frontier.take().is_none());
     Ok(frontier.into_labels())
 }
 
 // The cost and exits of the label of each room of the crossing, from #0; of some there is none.
-const LABELS: [(u32, Option<(u32, u32)>); 8] = [
-    (0, Some((0, 0))),
-    (1, None),
-    (2, Some((7, 2))),
-    (4, Some((3, 1))),
-    (5, None),
-    (7, Some((8, 3))),
-    (9, None),
-    (4_294_967_295, None),
-];
+const LABELS: &str = "
+0 => 0 0
+1 => none
+2 => 7 2
+4 => 3 1
+5 => none
+7 => 8 3
+9 => none
+";
 
 // What the labels of the crossing are, from #0.
 pub(crate) fn check_labels(rt: &impl Abort, labels: &Labels) {
-    for (room, wanted) in LABELS {
-        let found = match labels.get(0, room) {
-            Some(label) => Some((label.cost, label.exits)),
-            None => None,
-        };
-        assert!(rt; found == wanted);
+    for row in LABELS.split('\n') {
+        if let Some((room, wanted)) = row.split_once(" => ") {
+            let is_so = match labels.get(0, digit(room)) {
+                Some(label) => label == label_of(wanted),
+                None => wanted == "none",
+            };
+            assert!(rt; is_so, "{row}");
+        }
     }
-    assert!(rt; labels.get(1, 0).is_none());
+    assert!(rt; labels.get(0, u32::MAX).is_none() && labels.get(1, 0).is_none());
 }
 
 // The labels of the wizard's rooms.

@@ -2,10 +2,10 @@
 
 ghost use Rattle.std.specs.Prelude.{◌≡◌};
 
-use crate::rows::parted;
+use crate::rows::{parted, same};
 use mud_hall::{Desk, Fault, Hall, HallName, NewHall, Reply};
-use mud_session::{Seat, Session};
-use std::alloc::{AllocError, Global};
+use mud_session::{Seat, Session, SessionFault};
+use std::alloc::Global;
 use std::marker::Brand;
 use std::process::Abort;
 use std::sync::Wait;
@@ -32,33 +32,46 @@ fn greeted<'h, J: HallName, R: Wait>(
     })
 }
 
-// What a guest is sent, each line with a `;` in place of its end.
-fn sent(alloc: Global, session: &mut Session) -> Result<String, AllocError> {
-    let bytes = session.take_out();
-    if bytes.is_empty() {
-        return String::from_str(alloc, "nothing");
-    }
-    String::from_utf8_lossy(alloc, &bytes)?.replace(alloc, "\r\n", ";")
-}
-
-// What a guest is sent for a line; for an empty one he types nothing, and what others did is looked for.
-fn turn<J: HallName, R: Threads + Wait + Sync>(
+// What a guest is sent for a line, with a `;` in place of each line's end; for an empty one he types nothing, and what
+// others did is looked for.
+fn sent<J: HallName, R: Threads + Wait + Sync>(
     rt: &R,
     alloc: Global,
     guest: &mut Guest<'_, J>,
     line: &str,
 ) -> Result<String, Fail> {
-    let outcome = if line.is_empty() {
-        guest.session.nudge(&mut guest.seat)
-    } else {
-        let typed = format!(in alloc; "{line}\r\n")?;
-        guest.session.feed(rt, &mut guest.seat, typed.as_bytes())
+    let (session, seat) = (&mut guest.session, &mut guest.seat);
+    let outcome = match line {
+        "" => session.nudge(seat),
+        _ => session.feed(
+            rt,
+            seat,
+            [line, "\r\n"].as_slice().join(alloc, "")?.as_bytes(),
+        ),
     };
-    match outcome {
-        Ok(()) => Ok(sent(alloc, &mut guest.session)?),
-        Err(fault) => Ok(format!(in alloc; "{fault}")?),
+    if let Err(SessionFault::Ended) = outcome {
+        return Ok(String::from_str(alloc, "the session has ended")?);
     }
+    let text = String::from_utf8_lossy(alloc, &session.take_out())?;
+    Ok(text.replace(alloc, "\r\n", ";")?)
 }
+
+// Refused are a session that tells its guest nothing of what others did, late, twice, or behind its
+// reply; one that greets twice or not at all; and one that goes on behind `quit`.
+const GUESTS: &str = "
+1 => Welcome. Type: connect NAME;
+2 => Welcome. Type: connect NAME;
+1 connect Wizard => [0] welcome #1;
+2 connect Bob => [1] welcome #2;
+1 \"hi => (1) Bob arrives.;[2] said;
+2 => (2) Wizard says, \"hi\";
+2 => 
+1 => 
+2 quit => [2] bye;
+2 look => the session has ended
+2 => the session has ended
+1 @version => [2] version;
+";
 
 // Sees that the row `GUEST LINE => TEXT` is answered as it says.
 fn check_row<'h, J: HallName, R: Threads + Wait + Sync + Abort>(
@@ -71,32 +84,17 @@ fn check_row<'h, J: HallName, R: Threads + Wait + Sync + Abort>(
     if let Some((asked, wanted)) = row.split_once(" => ") {
         let (who, line) = parted(asked);
         let guest = if who == "1" { first } else { second };
-        let text = turn(rt, alloc, guest, line)?;
-        assert_eq!(rt; (asked, text.as_str()), (asked, wanted));
+        let text = sent(rt, alloc, guest, line)?;
+        same(rt, asked, text.as_str(), wanted);
     }
     Ok(())
 }
 
-// Sees that each row is answered as it says.
-fn play<'h, J: HallName, R: Threads + Wait + Sync + Abort>(
-    rt: &R,
-    alloc: Global,
-    first: &mut Guest<'h, J>,
-    second: &mut Guest<'h, J>,
-    rows: &String,
-) -> Result<(), Fail> {
-    for row in rows.split('\n') {
-        check_row(rt, alloc, first, second, row)?;
-    }
-    Ok(())
-}
-
-// The same of two guests of a hall.
-fn two_guests_in<J: HallName, R: Threads + Wait + Sync + Abort>(
+// Two guests of a hall are sent what the rows say.
+fn play<J: HallName, R: Threads + Wait + Sync + Abort>(
     rt: &R,
     alloc: Global,
     hall: NewHall,
-    rows: &String,
 ) -> Result<(), Fail>
     requires cells { hall.cells ≡ J.cells }
     requires loaded { hall.loaded ≡ J.loaded }
@@ -104,40 +102,16 @@ fn two_guests_in<J: HallName, R: Threads + Wait + Sync + Abort>(
     let hall = hall.named::<J>();
     let mut first = greeted(rt, alloc, &hall)?;
     let mut second = greeted(rt, alloc, &hall)?;
-    play(rt, alloc, &mut first, &mut second, rows)
+    for row in GUESTS.split('\n') {
+        check_row(rt, alloc, &mut first, &mut second, row)?;
+    }
+    Ok(())
 }
-
-// Two guests at one hall.
-fn two_guests<R: Threads + Wait + Sync + Abort>(
-    rt: &R,
-    alloc: Global,
-    rows: &str,
-) -> Result<(), Fail> {
-    let hall = NewHall::open(alloc, 16)?;
-    let rows = String::from_str(alloc, rows)?;
-    two_guests_in::<Brand, R>(rt, alloc, hall, &rows)
-}
-
-// Refused are a session that tells its guest nothing of what others did, late, twice, or behind its
-// reply; one that greets twice or not at all; and one that goes on behind `quit`.
-const GUESTS: &str = "
-1 => Welcome. Type: connect NAME;
-2 => Welcome. Type: connect NAME;
-1 connect Wizard => [0] welcome #1;
-2 connect Bob => [1] welcome #2;
-1 \"hi => (1) Bob arrives.;[2] said;
-2 => (2) Wizard says, \"hi\";
-2 => nothing
-1 => nothing
-2 quit => [2] bye;
-2 look => the session has ended
-2 => the session has ended
-1 @version => [2] version;
-";
 
 #[test]
 fn guests_at_one_hall(rt: HostRuntime) -> Result<(), Fail> {
-    two_guests(&rt, rt.alloc(), GUESTS)
+    let hall = NewHall::open(rt.alloc(), 16)?;
+    play::<Brand, _>(&rt, rt.alloc(), hall)
 }
 
 // A desk, where one request for memory may be refused.
@@ -174,6 +148,11 @@ fn act_on<J: HallName, R: Wait>(
     Ok(())
 }
 
+// Whether a text begins with these bytes.
+fn is_front(bytes: &[u8], text: &str) -> bool {
+    text.as_bytes().starts_with(bytes)
+}
+
 // What one who has not looked since he came is sent when he looks twice: whether it is each line once, in order; where
 // memory is refused to the session itself it ends, with a front of them.
 fn hears_each_once<J: HallName>(
@@ -183,11 +162,10 @@ fn hears_each_once<J: HallName>(
 ) -> Result<bool, Fail> {
     let mut seat = Seat::new(hall, desk, 0);
     let mut session = Session::new(alloc, false)?;
-    for _ in 0..2 {
-        let _ = session.nudge(&mut seat);
-    }
+    let _ = session.nudge(&mut seat);
+    let _ = session.nudge(&mut seat);
     let sent = session.take_out();
-    Ok(HEARD.as_bytes().starts_with(&sent) && (session.ended() || sent.len() == HEARD.len()))
+    Ok(is_front(&sent, HEARD) && (session.ended() || sent.len() == HEARD.len()))
 }
 
 // Whether Bob hears so what the Wizard does.

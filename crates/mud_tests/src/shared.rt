@@ -2,76 +2,64 @@
 
 ghost use Rattle.std.specs.Prelude.{◌≡◌, IfOk};
 
-use crate::rows::parted;
 use crate::village::entry;
-use mud_chron::{ChronFault, Entry, read_history, write_entry};
-use mud_row::{Pass, Replica, Row};
+use mud_chron::{ChronFault, Entry, write_entry};
+use mud_row::{Pass, Replica, Row, RowFault};
 use std::alloc::Global;
 use std::boxed::Box;
-use std::process::Abort;
 use std::test::Fail;
 
-// A say of the wizard's.
-fn say(alloc: Global, text: &str) -> Result<Box<Entry>, Fail> {
-    Ok(Box::new(
-        alloc,
-        entry(alloc, format!(in alloc; "say #1 {text}")?.as_str())?,
-    )?)
+// Whether an entry is this change of desk 1's.
+fn is_so(alloc: Global, entry: &Entry, change: &str) -> Result<bool, ChronFault> {
+    let mut line = String::new(alloc);
+    write_entry(alloc, 1, entry, &mut line)?;
+    Ok(match line.as_str().strip_prefix("1 1 ") {
+        Some(found) => found.trim_ascii_end() == change,
+        None => false,
+    })
 }
 
-// The line of an entry, as one that makes version 1.
-fn line(alloc: Global, entry: &Entry) -> Result<String, Fail> {
-    let mut text = String::new(alloc);
-    write_entry(alloc, 1, entry, &mut text)?;
-    Ok(text)
-}
-
-// What becomes of an entry that is published at a pass, or of the look for the next one.
-fn done(alloc: Global, row: &Row, pass: &mut Pass, call: &str, text: &str) -> Result<String, Fail>
+// What comes of a change that is published; a fault is told where the entry comes back as it was.
+fn outcome(
+    alloc: Global,
+    row: &Row,
+    pass: &mut Pass,
+    change: &str,
+) -> Result<&'static str, ChronFault>
     requires { pass.old.row ≡ row.now }
     ensures { pass.new.row ≡ row.now }
 {
-    if call == "next" {
-        return match row.next(pass) {
-            Some(entry) => line(alloc, entry),
-            None => Err("nothing is there".into()),
-        };
-    }
-    match row.publish(pass, say(alloc, text)?) {
-        Ok(version) => Ok(format!(in alloc; "{version}")?),
-        Err((entry, fault)) => Ok(format!(in alloc;
-            "{fault:?} {}",
-            line(alloc, &entry)?.as_str()
-        )?),
+    let entry = Box::new(alloc, entry(alloc, change)?)?;
+    match row.publish(pass, entry) {
+        Ok(_) => Ok("published"),
+        Err((entry, fault)) => match (is_so(alloc, &entry, change)?, fault) {
+            (false, _) => Ok("changed"),
+            (true, RowFault::HistoryFull) => Ok("full"),
+            (true, RowFault::Unpublished) => Ok("unpublished"),
+        },
     }
 }
 
-// Sees that the row `PASS CALL TEXT => WANTED` is answered as it says.
-fn check_row(
-    rt: &impl Abort,
-    alloc: Global,
-    cells: &Row,
-    first: &mut Pass,
-    second: &mut Pass,
-    row: &str,
-) -> Result<(), Fail>
-    requires first { first.old.row ≡ cells.now }
-    requires second { second.old.row ≡ cells.now }
-    ensures first { first.new.row ≡ cells.now }
-    ensures second { second.new.row ≡ cells.now }
+// Whether that comes of it.
+fn publishes(alloc: Global, row: &Row, pass: &mut Pass, change: &str, wanted: &str) -> bool
+    requires { pass.old.row ≡ row.now }
+    ensures { pass.new.row ≡ row.now }
 {
-    let Some((asked, wanted)) = row.split_once(" => ") else {
-        return Ok(());
-    };
-    let (who, what) = parted(asked);
-    let (call, text) = parted(what);
-    let found = if who == "first" {
-        done(alloc, cells, first, call, text)?
-    } else {
-        done(alloc, cells, second, call, text)?
-    };
-    assert_eq!(rt; (asked, found.as_str().trim_ascii_end()), (asked, wanted));
-    Ok(())
+    match outcome(alloc, row, pass, change) {
+        Ok(found) => found == wanted,
+        Err(_) => false,
+    }
+}
+
+// Whether a pass comes to this change next.
+fn follows(alloc: Global, row: &Row, pass: &mut Pass, change: &str) -> bool
+    requires { pass.old.row ≡ row.now }
+    ensures { pass.new.row ≡ row.now }
+{
+    match row.next(pass) {
+        Some(entry) => matches!(is_so(alloc, entry, change), Ok(true)),
+        None => false,
+    }
 }
 
 // Two passes of a row of two cells. An entry comes back where another was there first, and where all cells are known.
@@ -81,66 +69,25 @@ fn two_passes_of_a_row(rt: HostRuntime) -> Result<(), Fail> {
     let cells = Row::new(alloc, 2)?;
     let mut first = cells.pass(alloc)?;
     let mut second = cells.pass(alloc)?;
-    check_row(
-        &rt,
-        alloc,
-        &cells,
-        &mut first,
-        &mut second,
-        "first publish e => 1",
-    )?;
-    check_row(
-        &rt,
-        alloc,
-        &cells,
-        &mut first,
-        &mut second,
-        "second publish f => Unpublished 1 1 say #1 f",
-    )?;
-    check_row(
-        &rt,
-        alloc,
-        &cells,
-        &mut first,
-        &mut second,
-        "second next => 1 1 say #1 e",
-    )?;
-    check_row(
-        &rt,
-        alloc,
-        &cells,
-        &mut first,
-        &mut second,
-        "second publish f => 2",
-    )?;
-    check_row(
-        &rt,
-        alloc,
-        &cells,
-        &mut first,
-        &mut second,
-        "second publish g => HistoryFull 1 1 say #1 g",
-    )?;
-    check_row(
-        &rt,
-        alloc,
-        &cells,
-        &mut first,
-        &mut second,
-        "first next => 1 1 say #1 f",
-    )?;
+    assert!(rt; publishes(alloc, &cells, &mut first, "say #1 e", "published"));
+    assert!(rt; publishes(alloc, &cells, &mut second, "say #1 f", "unpublished"));
+    assert!(rt; follows(alloc, &cells, &mut second, "say #1 e"));
+    assert!(rt; publishes(alloc, &cells, &mut second, "say #1 f", "published"));
+    assert!(rt; publishes(alloc, &cells, &mut second, "say #1 g", "full"));
+    assert!(rt; follows(alloc, &cells, &mut first, "say #1 f"));
     first.agree(&mut second);
-    assert_eq!(rt; (first.known(), second.known()), (2, 2));
+    assert!(rt; first.known() == 2 && second.known() == 2);
     Ok(())
 }
 
-// A say of the wizard's, or that memory ran out.
-fn say_or_fault(alloc: Global, text: &str) -> Result<Box<Entry>, ChronFault> {
-    let history = format!(in alloc; "mud history 2\n1 1 say #1 {text}\nend 1\n")?;
-    match read_history(alloc, history.as_bytes())?.pop() {
-        Some(entry) => Ok(Box::new(alloc, entry)?),
-        None => Err(ChronFault::NoEnd),
-    }
+// The wizard says this.
+fn say(alloc: Global, row: &Row, replica: &mut Replica, change: &str) -> Result<(), ChronFault>
+    requires { replica.old.row ≡ row.now }
+    ensures { replica.new.row ≡ row.now }
+{
+    let entry = Box::new(alloc, entry(alloc, change)?)?;
+    let _ = replica.publish(row, entry);
+    Ok(())
 }
 
 // A row of three says, and a replica that knows them and has taken in none.
@@ -149,9 +96,9 @@ fn three_says(alloc: Global) -> Result<(Row, Replica), ChronFault>
 {
     let row = Row::new(alloc, 4)?;
     let mut replica = Replica::new(alloc, &row)?;
-    let _ = replica.publish(&row, say_or_fault(alloc, "a")?);
-    let _ = replica.publish(&row, say_or_fault(alloc, "b")?);
-    let _ = replica.publish(&row, say_or_fault(alloc, "c")?);
+    say(alloc, &row, &mut replica, "say #1 a")?;
+    say(alloc, &row, &mut replica, "say #1 b")?;
+    say(alloc, &row, &mut replica, "say #1 c")?;
     Ok((row, replica))
 }
 
@@ -165,6 +112,6 @@ fn says_are_taken_in_without_memory(rt: HostRuntime) -> Result<(), Fail> {
     };
     assert!(rt; replica.catch_up(&row).is_ok());
     assert!(rt; replica.catch_up(&row).is_ok());
-    assert_eq!(rt; (replica.at(), replica.known()), (3, 3));
+    assert!(rt; replica.at() == 3 && replica.known() == 3);
     Ok(())
 }

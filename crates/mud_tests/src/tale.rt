@@ -5,7 +5,7 @@ ghost use Rattle.std.specs.Prelude.{◌≤◌, IsTrue};
 ghost use Rattle.mud_world.specs.State.{is_player};
 ghost use Rattle.mud_rules.specs.Outcome.{IsJourney, IsQuestion};
 
-use crate::rows::{number, parted};
+use crate::rows::{digit, parted, same};
 use mud_guide::{Answer, meet, meet_alone, route, route_alone};
 use mud_rules::{
     Journey, Query, Verdict, decide, heard, refusal_text, reply_text, show, welcome_text,
@@ -179,13 +179,13 @@ fn check_row<R: Threads + Wait + Sync + Abort>(
 ) -> Result<(), Fail> {
     if let Some((asked, wanted)) = row.split_once(" => ") {
         let (who, line) = parted(asked);
-        let (player, hearer) = match who.split_once('>') {
-            Some((player, hearer)) => (number(player), Some(number(hearer))),
-            None => (number(who), None),
+        let hearer = match who.split_once('>') {
+            Some((_, other)) => Some(digit(other)),
+            None => None,
         };
-        let text = told(rt, alloc, world, player, hearer, line, guide)?;
+        let text = told(rt, alloc, world, digit(who), hearer, line, guide)?;
         let text = text.replace(alloc, "\n", " / ")?;
-        assert_eq!(rt; (asked, text.as_str()), (asked, wanted));
+        same(rt, asked, text.as_str(), wanted);
     }
     Ok(())
 }
@@ -204,17 +204,21 @@ fn check_tale<R: Threads + Wait + Sync + Abort>(
     Ok(())
 }
 
+// Sees that all tales are answered as they say.
+fn check_tales<R: Threads + Wait + Sync + Abort>(
+    rt: &R,
+    alloc: Global,
+    guide: Guide,
+) -> Result<(), Fail> {
+    check_tale(rt, alloc, DOORS, guide)?;
+    check_tale(rt, alloc, TWO_WAYS, guide)?;
+    check_tale(rt, alloc, MEETINGS, guide)
+}
+
 #[test]
 fn each_line_is_decided_and_done(rt: HostRuntime) -> Result<(), Fail> {
-    for tale in [DOORS, TWO_WAYS, MEETINGS] {
-        for guide in [
-            Guide::Alone,
-            Guide::Workers(0),
-            Guide::Workers(1),
-            Guide::Workers(8),
-        ] {
-            check_tale(&rt, rt.alloc(), tale, guide)?;
-        }
-    }
-    Ok(())
+    check_tales(&rt, rt.alloc(), Guide::Alone)?;
+    check_tales(&rt, rt.alloc(), Guide::Workers(0))?;
+    check_tales(&rt, rt.alloc(), Guide::Workers(1))?;
+    check_tales(&rt, rt.alloc(), Guide::Workers(8))
 }

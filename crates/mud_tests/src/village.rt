@@ -1,6 +1,6 @@
 //! Worlds and entries that tests use, made of histories as they are written.
 
-use mud_chron::{Entry, read_history, replay};
+use mud_chron::{ChronFault, Entry, read_history, replay};
 use mud_world::World;
 use std::alloc::Global;
 use std::test::Fail;
@@ -12,8 +12,11 @@ pub(crate) fn world(alloc: Global, history: &str) -> Result<World, Fail> {
 }
 
 /// The entry of a change.
-pub(crate) fn entry(alloc: Global, change: &str) -> Result<Entry, Fail> {
-    let text = format!(in alloc; "mud history 2\n1 1 {change}\nend 1\n")?;
-    let mut entries = read_history(alloc, text.as_bytes())?;
-    Ok(entries.pop().ok_or("no entry")?)
+pub(crate) fn entry(alloc: Global, change: &str) -> Result<Entry, ChronFault> {
+    let lines = ["mud history 2\n1 1 ", change, "\nend 1\n"];
+    let text = lines.as_slice().join(alloc, "")?;
+    match read_history(alloc, text.as_bytes())?.pop() {
+        Some(entry) => Ok(entry),
+        None => Err(ChronFault::NoEnd),
+    }
 }

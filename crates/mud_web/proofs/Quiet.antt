@@ -17,7 +17,7 @@ use Rattle.mud_nvt.specs.declared.telnet.Place.{Place}
 use Rattle.mud_nvt.specs.declared.telnet.Place.TheVariants.{Between}
 use Rattle.mud_nvt.specs.declared.strokes.Stroke.{Stroke}
 use Rattle.mud_nvt.specs.declared.strokes.Stroke.TheVariants.{Character, EraseCharacter, EraseLine, EndLine, AreYouThere, Refuse, Nothing}
-use Rattle.mud_nvt.specs.Editing.{data_stroke}
+use Rattle.mud_nvt.specs.Editing.{stroke}
 use Rattle.mud_nvt.specs.Units.{Given, Text, TooLong, units}
 use Rattle.mud_nvt.specs.Machine.{Held, start, next, next_place, finished_piece, stroke_units, byte_units, run_units}
 use Rattle.mud_nvt.proofs.Whole.{units_is}
@@ -116,7 +116,7 @@ typing_if : (t : Bool) (r s : Stroke) → IsTyping r → IsTyping s → IsTyping
 typing_if true r s p q = p
 typing_if false r s p q = q
 
-data_typing : (after_cr : Bool) (b : ℕ) → IsTyping (data_stroke after_cr b)
+data_typing : (after_cr : Bool) (b : ℕ) → IsTyping (stroke after_cr (Data b))
 data_typing after_cr b =
     typing_if (after_cr && ((b == LF) || (b == NUL))) _ _ tt
     (typing_if ((b == LF) || (b == CR)) _ _ tt
@@ -149,7 +149,7 @@ is_data place b between low = rw (between, is_no_iac b low) refl
 
 byte_lines : (h : Held) (b : ℕ) → h.place ≡ Between → b < 255 → All IsLine (byte_units h b)
 byte_lines h b between low =
-    rw (is_data h.place b between low) (stroke_lines h.too_long h.text (data_stroke h.after_cr b) (data_typing h.after_cr b))
+    rw (is_data h.place b between low) (stroke_lines h.too_long h.text (stroke h.after_cr (Data b)) (data_typing h.after_cr b))
 
 run_lines : (bytes : List ℕ) (h : Held) → h.place ≡ Between → All IsLow bytes → All IsLine (run_units h bytes)
 run_lines [] h between low = All-nil IsLine

@@ -49,6 +49,7 @@ Answers head origin (Refused Status.Forbidden) = IsGet head × (head.target ≡ 
 Answers head origin (Refused Status.BadRequest) =
     IsGet head × (head.target ≡ codes "/play") × ComesFrom head origin × ¬ ((key : List ℕ) × Upgrades head key)
 Answers head origin (Refused Status.RequestTimeout) = ⊥
+Answers head origin (Refused Status.TooMany) = ⊥
 Answers head origin (Refused Status.TooLarge) = ⊥
 Answers head origin (Refused Status.Unavailable) = ⊥
 
@@ -64,6 +65,7 @@ Waits bytes (Refused Status.MethodNotAllowed) = ⊥
 Waits bytes (Refused Status.NotFound) = ⊥
 Waits bytes (Refused Status.Forbidden) = ⊥
 Waits bytes (Refused Status.RequestTimeout) = ⊥
+Waits bytes (Refused Status.TooMany) = ⊥
 Waits bytes (Refused Status.Unavailable) = ⊥
 
 -- a whole head is answered, or refused where it is too large

@@ -2,7 +2,7 @@
 use Rattle.std.specs.Prelude.{ℕ, List, [], ◌++◌, codes}
 use Rattle.mud_web.specs.declared.refusal.Refusal.{Refusal}
 use Rattle.mud_web.specs.declared.refusal.Refusal.TheVariants.{BadRequest, Forbidden, NotFound, MethodNotAllowed}
-use Rattle.mud_web.specs.declared.refusal.Refusal.TheVariants.{RequestTimeout, TooLarge, Unavailable}
+use Rattle.mud_web.specs.declared.refusal.Refusal.TheVariants.{RequestTimeout, TooMany, TooLarge, Unavailable}
 
 -- the status and its phrase
 abbrev pub status_of : Refusal → List ℕ
@@ -11,6 +11,7 @@ status_of Forbidden = codes "403 Forbidden"
 status_of NotFound = codes "404 Not Found"
 status_of MethodNotAllowed = codes "405 Method Not Allowed"
 status_of RequestTimeout = codes "408 Request Timeout"
+status_of TooMany = codes "429 Too Many Requests"
 status_of TooLarge = codes "431 Request Header Fields Too Large"
 status_of Unavailable = codes "503 Service Unavailable"
 
@@ -19,8 +20,9 @@ abbrev pub field_of : Refusal → List ℕ
 field_of MethodNotAllowed = codes "Allow: GET\r\n"
 field_of other = []
 
--- a 503 says why, and any other its status
+-- a 429 and a 503 say why, and any other its status
 abbrev pub body_of : Refusal → List ℕ
+body_of TooMany = codes "(too many sessions)"
 body_of Unavailable = codes "(server full)"
 body_of other = status_of other
 

@@ -19,6 +19,8 @@ pub enum Refusal {
     MethodNotAllowed,
     /// 408: the head did not come in time.
     RequestTimeout,
+    /// 429: the address has as many sessions as it may have.
+    TooMany,
     /// 431: the head is too long, or has too many fields.
     TooLarge,
     /// 503: no place is free.
@@ -36,6 +38,7 @@ impl Refusal {
             Refusal::NotFound => "404 Not Found",
             Refusal::MethodNotAllowed => "405 Method Not Allowed",
             Refusal::RequestTimeout => "408 Request Timeout",
+            Refusal::TooMany => "429 Too Many Requests",
             Refusal::TooLarge => "431 Request Header Fields Too Large",
             Refusal::Unavailable => "503 Service Unavailable",
         }
@@ -56,6 +59,7 @@ impl Refusal {
         ensures { result.now ≡ body_of self }
     {
         match self {
+            Refusal::TooMany => "(too many sessions)",
             Refusal::Unavailable => "(server full)",
             _ => self.status(),
         }

@@ -93,7 +93,7 @@ fed_to_end takes_in bytes line old new mid old_door new_door out_old out_new e s
 
 -- ---- as the code has it
 
-typed_none : typed_of [] ≡ []
+pub typed_none : typed_of [] ≡ []
 unfolding read_times read_step decode_frame decode_header
 typed_none = refl
 

@@ -1,17 +1,17 @@
 //! A session over a web socket.
 
-ghost use Rattle.std.specs.Prelude.{◌≡◌, ◌++◌, ℕ, List, [], false, true, if◌then◌else◌};
+ghost use Rattle.std.specs.Prelude.{◌≡◌, ◌++◌, ℕ, List, [], false, true, codes, if◌then◌else◌};
 ghost use Rattle.std.specs.Prelude.{OnOk, OnErr, IfOk, IfErr};
-ghost use Rattle.mud_web.specs.Channel.{TakesIn, EndsWith};
+ghost use Rattle.mud_web.specs.Channel.{TakesIn, EndsWith, framed};
 ghost use Rattle.mud_web.specs.Closing.{closes_once};
 ghost use Rattle.mud_web.specs.Steps.{IfOver as IfChannelOver};
-ghost use Rattle.mud_session.specs.Session.{greeting};
+ghost use Rattle.mud_session.specs.Session.{sent as line_sent};
 ghost use Rattle.mud_web_session.specs.Web.{StandsAfter, AnswersTyped, NudgesWeb, FeedsWeb, EndsWeb, IfOver, IsNotOver};
 ghost use Rattle.mud_web_session.specs.Web.{has_ended, Sent};
 
 use crate::fault::WebFault;
 use mud_session::{Door, Session};
-use mud_web::{Channel, Ending, Fault};
+use mud_web::{Channel, Ending, Fault, SendFault};
 use std::alloc::{AllocError, Global};
 use std::marker::Model;
 use std::sync::Wait;
@@ -39,7 +39,8 @@ impl WebSession {
     pub fn new(alloc: Global, greet: bool) -> Result<WebSession, AllocError>
         ensures stands { IfOk result (λ web. StandsAfter web []) }
         ensures open_still { IfOk result (λ web. has_ended web ≡ false) }
-        ensures out { IfOk result (λ web. web.session.out ≡ (if greet then greeting else [])) }
+        ensures out { IfOk result (λ web. web.session.out
+            ≡ (if greet then line_sent (codes "Welcome. Type: connect NAME") else [])) }
     {
         let session = Session::new(alloc, greet)?;
         Ok(WebSession {
@@ -142,6 +143,15 @@ impl WebSession {
             Ok(()) => self.send_out(out),
             Err(fault) => Err(WebFault::of_session(fault)),
         }
+    }
+
+    /// Adds a text of the server's own to `out`, as one message. After an error nothing has changed.
+    pub fn tell(&mut self, text: &[u8], out: &mut Vec<u8>) -> Result<(), SendFault>
+        ensures ok { OnOk result (out.new.items ≡ out.old.items ++ framed text.now) }
+        ensures same { self.new ≡ self.old }
+        ensures err { OnErr result (out.new.items ≡ out.old.items) }
+    {
+        self.channel.send(text, out)
     }
 
     /// Adds the close frame of an ending to `out`, unless a close was sent already. It takes nothing more then. The

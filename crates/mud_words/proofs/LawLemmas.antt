@@ -1,5 +1,6 @@
 -- The laws of the words of a line.
 use Rattle.std.proofs.Common.{◌≡◌, ℕ, ◌==◌, Bool, true, false, not, ◌&&◌, ◌||◌, cond, eqb, List, [], ◌∷◌, ◌++◌, map}
+use Rattle.std.proofs.Common.{if◌then◌else◌}
 use Rattle.std.proofs.Common.{filter, None, refl, sym, ap, ◌∙◌, append_assoc}
 use Rattle.std.specs.List.{slice_split, onto_first, flat_map, join_with_byte, list_all}
 use Rattle.std.proofs.lemmas.List.{append-nil}
@@ -7,11 +8,15 @@ use Rattle.std.proofs.lemmas.Bool.{false≢true}
 use Rattle.mud_words.specs.declared.piece.Piece.{Piece}
 use Rattle.mud_words.specs.declared.piece.Piece.TheVariants.{Gap, Char}
 use Rattle.mud_words.specs.Words.{pieces_from, pieces, is_gap, text_of, texts_of, plain_words, is_space}
-use Rattle.mud_words.specs.Laws.{is_mark, guarded, quoted, is_empty}
+use Rattle.mud_words.specs.Laws.{is_mark, quoted, is_empty}
 use Rattle.mud_words.specs.Cutting.{goes_on}
 use Rattle.mud_words.proofs.CuttingLemmas.{onto, more_mark, mark}
 
 -- ---- words between quotes
+-- a byte that stands for itself between quotes: a quote or a backslash has a backslash before it
+abbrev guarded : ℕ → List ℕ
+guarded b = if is_mark b then 92 ∷ b ∷ [] else b ∷ []
+
 -- a word goes on with a text, with these flags
 abbrev goes : List ℕ → Bool → Bool → List ℕ → List (List ℕ)
 goes word quoted escaped text = goes_on word (slice_split is_gap (pieces_from quoted escaped text))

@@ -1,17 +1,15 @@
 -- The words of a line by a grammar, over whole lists: which texts spell a word, and which lines have which words.
--- The law `laws::grammar` says that a line has the words that `plain_words` gives and no others.
-use Rattle.std.specs.Prelude.{◌≡◌, ◌≢◌, ◌↔◌, ℕ, List, [], ◌∷◌, ◌++◌, codes}
-use Rattle.mud_words.specs.Words.{plain_words, after_first_word}
+-- The law `laws::grammar` says that a line has the words that `plain_words` gives and no others. 32 is a space, 34 a
+-- quote, 92 a backslash.
+use Rattle.std.specs.Prelude.{◌≢◌, ℕ, List, [], ◌∷◌, ◌++◌, codes}
 
--- what stands between two quotes, and its characters: bytes but quotes (34) and backslashes (92), and any byte behind a
--- backslash
+-- what stands between two quotes, and its characters: bytes but quotes and backslashes, and any byte behind a backslash
 pub data SpellsQuoted : List ℕ → List ℕ → Type 0 where
   nothing : SpellsQuoted [] []
   byte : {b : ℕ} {x text : List ℕ} → b ≢ 34 → b ≢ 92 → SpellsQuoted x text → SpellsQuoted (b ∷ x) (b ∷ text)
   guarded : {b : ℕ} {x text : List ℕ} → SpellsQuoted x text → SpellsQuoted (codes "\\" ++ b ∷ x) (b ∷ text)
 
--- a run of a word, and its characters: a byte but a space (32), a quote and a backslash; any byte behind a backslash;
--- what stands between quotes
+-- a run of a word, and its characters: one plain byte, any byte behind a backslash, or what stands between quotes
 pub data SpellsRun : List ℕ → List ℕ → Type 0 where
   plain : {b : ℕ} → b ≢ 32 → b ≢ 34 → b ≢ 92 → SpellsRun (b ∷ []) (b ∷ [])
   escaped : {b : ℕ} → SpellsRun (codes "\\" ++ b ∷ []) (b ∷ [])
@@ -22,8 +20,7 @@ pub data SpellsWord : List ℕ → List ℕ → Type 0 where
   one : {x w : List ℕ} → SpellsRun x w → SpellsWord x w
   more : {x v y w : List ℕ} → SpellsWord x v → SpellsRun y w → SpellsWord (x ++ y) (v ++ w)
 
--- what may stand at the end of a line alone: a backslash with nothing behind it, a quote that is left open, and the one
--- within the other
+-- what may stand at the end of a line alone: a last backslash, a quote that is left open, and the one in the other
 pub data SpellsOpen : List ℕ → List ℕ → Type 0 where
   backslash : SpellsOpen (codes "\\") []
   quote : {x text : List ℕ} → SpellsQuoted x text → SpellsOpen (codes "\"" ++ x) text
@@ -42,12 +39,3 @@ pub data HasWords : List ℕ → List (List ℕ) → Type 0 where
   word : {x w y : List ℕ} {ws : List (List ℕ)} → SpellsWord x w → HasWords y ws
       → HasWords (x ++ codes " " ++ y) (w ∷ ws)
   last : {x w : List ℕ} → SpellsLast x w → HasWords x (w ∷ [])
-
--- the words that `plain_words` gives are the words of the line, and no others are
-abbrev pub WordsAreSpelled : Type 0
-WordsAreSpelled = (line : List ℕ) (ws : List (List ℕ)) → (plain_words line ≡ ws) ↔ HasWords line ws
-
--- what stands behind the first word of a line is what follows the space that ends it, and nothing where it is the last
-pub record RestFollowsFirstWord : Type 0 where
-  pub follows : {x w : List ℕ} → SpellsWord x w → (rest : List ℕ) → after_first_word (x ++ codes " " ++ rest) ≡ rest
-  pub nothing : {x w : List ℕ} → SpellsLast x w → after_first_word x ≡ []

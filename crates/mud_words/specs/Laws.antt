@@ -1,20 +1,18 @@
 -- What the laws of the words of a line say.
 use Rattle.std.specs.Prelude.{◌≡◌, ℕ, Bool, true, false, not, ◌||◌, ◌==◌, if◌then◌else◌, List, [], ◌∷◌, ◌++◌, filter}
+use Rattle.std.specs.Prelude.{◌↔◌, codes}
 use Rattle.std.specs.Prelude.{map}
 use Rattle.std.specs.List.{slice_split, flat_map, join_with_byte, list_all}
-use Rattle.mud_words.specs.Words.{plain_words, is_space}
+use Rattle.mud_words.specs.Words.{plain_words, is_space, after_first_word}
+use Rattle.mud_words.specs.Grammar.{SpellsWord, SpellsLast, HasWords}
 
--- a double quote or a backslash
+-- a double quote, 34, or a backslash, 92
 abbrev pub is_mark : ℕ → Bool
 is_mark b = b == 34 || b == 92
 
--- a byte that stands for itself between quotes: a quote or a backslash has a backslash before it
-abbrev pub guarded : ℕ → List ℕ
-guarded b = if is_mark b then 92 ∷ b ∷ [] else b ∷ []
-
--- a word between double quotes
+-- a word between double quotes, with a backslash before each quote and each backslash of it
 abbrev pub quoted : List ℕ → List ℕ
-quoted word = 34 ∷ (flat_map guarded word ++ 34 ∷ [])
+quoted word = 34 ∷ (flat_map (λ b. if is_mark b then 92 ∷ b ∷ [] else b ∷ []) word ++ 34 ∷ [])
 
 -- every list of words can be written as a line, each word between quotes, with one space between two, and reads back
 abbrev pub QuotedWordsReadBack : Type 0
@@ -30,3 +28,13 @@ abbrev pub PlainLinesSplitAtSpaces : Type 0
 PlainLinesSplitAtSpaces =
     (line : List ℕ) → list_all (λ b. not (is_mark b)) line ≡ true
     → plain_words line ≡ filter (λ word. not (is_empty word)) (slice_split is_space line)
+
+-- the words that `plain_words` gives are the words of the line, and no others are
+abbrev pub WordsAreSpelled : Type 0
+WordsAreSpelled = (line : List ℕ) (ws : List (List ℕ)) → (plain_words line ≡ ws) ↔ HasWords line ws
+
+-- what stands behind the first word of a line is what follows the space that ends it, and nothing where there is none
+pub record RestFollowsFirstWord : Type 0 where
+  pub follows : {x w : List ℕ} → SpellsWord x w → (rest : List ℕ) → after_first_word (x ++ codes " " ++ rest) ≡ rest
+  pub nothing : {x w : List ℕ} → SpellsLast x w → after_first_word x ≡ []
+  pub blank : after_first_word [] ≡ []

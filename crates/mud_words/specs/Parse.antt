@@ -6,34 +6,23 @@ use Rattle.mud_words.specs.Words.{words, after_first_word, without_front, withou
 use Rattle.mud_words.specs.Line.{Line}
 use Rattle.mud_words.specs.Prepositions.{Found, lower, counted}
 
--- the words, joined by one space
-abbrev pub joined : List (List ℕ) → List ℕ
-joined ws = join_with_byte 32 ws
-
--- the text after the first word, without the spaces at its ends
-abbrev pub rest_of : List ℕ → List ℕ
-rest_of text = without_back (without_front (after_first_word text))
-
 -- the objects round a preposition: the words before it are direct, those behind it indirect; without one all are direct
 abbrev pub round : List ℕ → List (List ℕ) → List ℕ → Option Found → Line
 round verb args rest found = record {
   verb = verb;
   args = args;
-  direct = joined (option_map_or (λ f. take f.place args) found args);
+  direct = join_with_byte 32 (option_map_or (λ f. take f.place args) found args);
   prep = option_map (λ f. f.phrase.prep) found;
-  indirect = joined (option_map_or (λ f. drop (f.place + length f.phrase.words) args) found []);
+  indirect = join_with_byte 32 (option_map_or (λ f. drop (f.place + length f.phrase.words) args) found []);
   rest = rest;
 }
 
--- the arguments parted at the preposition that counts
-abbrev pub split : List ℕ → List (List ℕ) → List ℕ → Line
-split verb args rest = round verb args rest (counted args)
-
--- what some words say, of which the first is the verb
+-- what some words say: the first is the verb, and the others are parted at the preposition that counts
 abbrev pub said : List (List ℕ) → List ℕ → Line
 said [] rest = round [] [] rest None
-said (verb ∷ args) rest = split (lower verb) args rest
+said (verb ∷ args) rest = round (lower verb) args rest (counted args)
 
--- what a line says: what its words say, with the text behind the first of them
+-- what a line says: what its words say, with the text behind the first of them, without the spaces at its ends
 unfoldable pub parsed : List ℕ → Line
-parsed line = said (words line) (rest_of (spelled_out (without_front line)))
+parsed line =
+    said (words line) (without_back (without_front (after_first_word (spelled_out (without_front line)))))

@@ -75,8 +75,7 @@ or_later (Some phrase) later = Some (record { place = 0; phrase = phrase })
 or_later None None = None
 or_later None (Some f) = Some (record f { place = f.place + 1 })
 
--- the preposition that counts, sought word by word. A reader need not look into this:
--- `laws::preposition` says that it is the one of `Counts`
+-- the preposition that counts. A reader need not look into this: `laws::preposition` says that it is that of `Counts`
 unfoldable pub counted : List (List ℕ) → Option Found
 counted [] = None
 counted (w ∷ ws) = or_later (phrase_at (w ∷ ws)) (counted ws)

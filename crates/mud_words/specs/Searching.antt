@@ -1,11 +1,14 @@
 -- What the code's own values are seen as, cited by private clauses alone.
 use Rattle.std.specs.Prelude.{ℕ, ◌+◌, List, map, length, string_bytes}
 use Rattle.std.specs.Borrow.{Bor}
-use Rattle.mud_words.specs.Prepositions.{Phrase, Found}
+use Rattle.mud_words.specs.Prepositions.{Phrase, Found, counted}
 use Rattle.mud_words.specs.Line.{Line}
 use Rattle.mud_words.specs.declared.Prep.{Prep}
 use Rattle.mud_words.specs.declared.split.Objects.{Objects}
 use Rattle.mud_words.specs.declared.prepositions.Spot.{Spot}
+use Rattle.mud_words.specs.Parse.{round}
+use Rattle.mud_words.specs.Words.{after_first_word, without_front, without_back}
+use Rattle.std.specs.List.{join_with_byte}
 
 -- which preposition it is, and the places before and behind its words
 abbrev pub spot_of : Found → Spot
@@ -33,3 +36,15 @@ line_with verb args rest o = record {
   indirect = string_bytes o.indirect;
   rest = rest;
 }
+
+-- the arguments parted at the preposition that counts
+abbrev pub split : List ℕ → List (List ℕ) → List ℕ → Line
+split verb args rest = round verb args rest (counted args)
+
+-- the text after the first word, without the spaces at its ends
+abbrev pub rest_of : List ℕ → List ℕ
+rest_of text = without_back (without_front (after_first_word text))
+
+-- the words, joined by one space
+abbrev pub joined : List (List ℕ) → List ℕ
+joined ws = join_with_byte 32 ws

@@ -57,13 +57,11 @@ text_of stretch = flat_map chars_of stretch
 abbrev pub texts_of : List (List Piece) → List (List ℕ)
 texts_of stretches = map text_of (filter is_word stretches)
 
--- the words of a line as it stands: the stretches between its gaps. A reader need not look into this:
--- `laws::grammar` says that they are those of the grammar
+-- the words of a line as it stands. A reader need not look into this: `laws::grammar` says that they are the grammar's
 abbrev pub plain_words : List ℕ → List (List ℕ)
 plain_words line = texts_of (slice_split is_gap (pieces line))
 
--- what stands behind the first gap, the one that ends the first word of a line without spaces in front.
--- A reader need not look into this: `laws::rest` says what it is
+-- what stands behind the first word of a line. A reader need not look into this: `laws::rest` says what it is
 abbrev pub after_first_word : List ℕ → List ℕ
 after_first_word line = drop (position_or_len is_gap (pieces line) + 1) line
 
@@ -80,18 +78,12 @@ without_front (b ∷ bs) = if is_space b then without_front bs else b ∷ bs
 abbrev pub without_back : List ℕ → List ℕ
 without_back text = reverse (without_front (reverse text))
 
--- what a first byte `"`, `:` or `;` stands for; each other stands for itself
-abbrev pub shorthand : ℕ → List ℕ
-shorthand b =
-    if b == 34 then codes "say "
-    else if b == 58 then codes "emote "
-    else if b == 59 then codes "eval "
-    else b ∷ []
-
--- the line that a line stands for
+-- the line that a line stands for: a first byte `"`, `:` or `;` stands for a word
 abbrev pub spelled_out : List ℕ → List ℕ
 spelled_out [] = []
-spelled_out (b ∷ bs) = shorthand b ++ bs
+spelled_out (b ∷ bs) =
+    (if b == 34 then codes "say " else if b == 58 then codes "emote " else if b == 59 then codes "eval " else b ∷ [])
+    ++ bs
 
 -- the words of a line: those of the line that it stands for
 unfoldable pub words : List ℕ → List (List ℕ)

@@ -2,8 +2,8 @@
 
 ghost use Rattle.std.specs.Prelude.{◌≡◌, ◌↔◌, List, ℕ, Some, None};
 ghost use Rattle.mud_words.specs.Prepositions.{Found, Stands, Counts, counted};
-ghost use Rattle.mud_words.specs.Laws.{QuotedWordsReadBack, PlainLinesSplitAtSpaces};
-ghost use Rattle.mud_words.specs.Grammar.{WordsAreSpelled, RestFollowsFirstWord};
+ghost use Rattle.mud_words.specs.Laws.{QuotedWordsReadBack, PlainLinesSplitAtSpaces, WordsAreSpelled};
+ghost use Rattle.mud_words.specs.Laws.{RestFollowsFirstWord};
 
 /// The preposition that the words are searched for is the one that counts: of those that stand
 /// at the earliest place the longest. There is none exactly where no preposition stands at all.

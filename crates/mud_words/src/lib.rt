@@ -40,7 +40,8 @@
 ghost use Rattle.std.specs.Prelude.{◌≡◌, ◌↔◌, [], IsTrue, map, string_bytes, IfOk};
 ghost use Rattle.mud_words.specs.Words.{words, plain_words, is_blank};
 ghost use Rattle.mud_words.specs.Line.{line_of};
-ghost use Rattle.mud_words.specs.Parse.{parsed, said, rest_of};
+ghost use Rattle.mud_words.specs.Parse.{parsed, said};
+ghost use Rattle.mud_words.specs.Searching.{rest_of};
 
 mod cut;
 pub mod laws;

@@ -1,6 +1,6 @@
 ghost use Rattle.std.specs.Prelude.{◌≡◌};
 ghost use Rattle.mud_words.specs.Words.{after_first_word};
-ghost use Rattle.mud_words.specs.Parse.{rest_of};
+ghost use Rattle.mud_words.specs.Searching.{rest_of};
 
 use crate::piece::{Piece, Quotes};
 use crate::spaces::{without_back, without_front};

@@ -1,7 +1,7 @@
 ghost use Rattle.std.specs.Prelude.{◌≡◌, ℕ, List, [], map, string_bytes, IfOk};
 ghost use Rattle.mud_words.specs.Line.{line_of};
-ghost use Rattle.mud_words.specs.Parse.{joined, said, split};
-ghost use Rattle.mud_words.specs.Searching.{line_with};
+ghost use Rattle.mud_words.specs.Parse.{said};
+ghost use Rattle.mud_words.specs.Searching.{line_with, split, joined};
 
 use crate::prepositions::counted;
 use crate::{Parsed, Prep};

@@ -11,7 +11,8 @@ use Rattle.mud_world.specs.declared.record.Kind.{Kind}
 use Rattle.mud_world.specs.declared.record.Kind.TheVariants.{Room, Exit, Thing, Player}
 use Rattle.mud_world.specs.Kinds.{kind_place, is_room_kind, is_exit_kind}
 use Rattle.mud_world.specs.State.{State, record_at, exists, has, is_room, is_exit, place_of, key_of, nests, follow}
-use Rattle.mud_world.specs.Sound.{AreNamedApart, IsSound, IsRising, IsPlacedWell}
+use Rattle.mud_world.specs.Sound.{IsSound, IsRising, IsPlacedWell}
+use Rattle.mud_world.specs.Inner.{AreNamedApart}
 use Rattle.mud_world.specs.Legal.{with_new, numbered_from}
 use Rattle.mud_world.specs.Going.{IsNew}
 use Rattle.mud_world.proofs.Records.{record_cases, in_bounds, lookup-append_left, lookup-append_right, option_map_or-agree_keys, list_all-agree}

@@ -16,7 +16,8 @@ use Rattle.mud_world.specs.declared.change.Doors.{Doors}
 use Rattle.mud_world.specs.Kinds.{kind_place, is_room_kind, is_player_kind}
 use Rattle.mud_world.specs.State.{State, record_at, has, is_room, is_player, place_of}
 use Rattle.mud_world.specs.Sound.{IsSound, IsRising, IsPlacedWell}
-use Rattle.mud_world.specs.Legal.{with_new, numbered_from, new_record, new_exit, dug, removed, refusal, refusals, fails}
+use Rattle.mud_world.specs.Legal.{with_new, numbered_from, new_record, new_exit, dug, refusal, refusals, fails}
+use Rattle.mud_world.specs.Inner.{removed}
 use Rattle.mud_world.specs.Going.{CanAdd, CanJoin}
 use Rattle.mud_world.proofs.Records.{record_cases, lookup-append_left, lookup-append_right}
 use Rattle.mud_world.proofs.Going.{nothing_fails}

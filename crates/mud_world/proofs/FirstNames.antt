@@ -1,7 +1,7 @@
 -- The names of the first room and the first player are names texts.
 use Rattle.std.proofs.Common.{[], ◌∷◌, refl}
 use Rattle.std.specs.Prelude.{codes}
-use Rattle.mud_key.specs.Names.{IsNamesText}
+use Rattle.mud_key.specs.InnerNames.{IsNamesText}
 use Rattle.mud_key.proofs.NamesSound.{names_sound}
 
 pub hall_text : IsNamesText (codes "The Hall") (codes "The Hall" ∷ [])

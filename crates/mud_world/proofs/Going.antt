@@ -13,7 +13,8 @@ use Rattle.mud_world.specs.declared.change.Deed.TheVariants.{Move, Walk}
 use Rattle.mud_world.specs.Kinds.{kind_place, kind_passage, kind_at, is_player_kind, is_room_kind}
 use Rattle.mud_world.specs.State.{State, record_at, exists, is_room, is_exit, is_thing_kind, is_number, place_of, destination_of, follow, comes_to, within}
 use Rattle.mud_world.specs.Sound.{IsSound, IsPlacedWell}
-use Rattle.mud_world.specs.Legal.{with_record, moved, refusals, refusal, fails}
+use Rattle.mud_world.specs.Legal.{refusals, refusal, fails}
+use Rattle.mud_world.specs.Inner.{with_record, moved}
 use Rattle.mud_world.specs.Going.{CanGo}
 use Rattle.mud_world.proofs.Records.{record_cases, bool_cases, in_bounds}
 use Rattle.mud_world.proofs.Containing.{follow-past}

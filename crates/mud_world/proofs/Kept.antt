@@ -5,13 +5,15 @@ use Rattle.std.specs.Option.{option_map, option_map_or, option_and_then}
 use Rattle.std.specs.Map.{lookup, set_value, remove_entry}
 use Rattle.mud_lists.specs.Rising.{inserted, put, without}
 use Rattle.mud_lists.specs.Lists.{list_at, AreChanged, AreSame}
-use Rattle.mud_lists.specs.Owners.{AreOwnersPassed, HaveSameOwners}
+use Rattle.mud_lists.specs.Owners.{AreOwnersPassed}
+use Rattle.mud_lists.specs.Inner.{HaveSameOwners}
 use Rattle.mud_world.specs.declared.record.Record.{Record}
 use Rattle.mud_world.specs.declared.world.World.TheInside.{Inside}
 use Rattle.mud_world.specs.Kinds.{kind_place, is_player_kind}
 use Rattle.mud_world.specs.State.{State, record_at, is_number}
 use Rattle.mud_world.specs.Sound.{IsRising, IsSound}
-use Rattle.mud_world.specs.Legal.{with_record, changed, with_new, removed, moved}
+use Rattle.mud_world.specs.Legal.{changed, with_new}
+use Rattle.mud_world.specs.Inner.{with_record, removed, moved}
 use Rattle.mud_world.specs.Going.{CanGo, CanAdd, CanName}
 use Rattle.mud_world.specs.Edits.{edited, placed_at, with_key, with_names, asked_by, called, called_by, AreLinked, AreMoved, AreRekeyed, AreSameLinks, IsInNone}
 use Rattle.mud_world.specs.Inside.{state_of, lies_in, leaves, arrives, asks_it, is_called, AreOf, AreNames, IsKept}

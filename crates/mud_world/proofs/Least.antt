@@ -1,6 +1,6 @@
 -- The refusal of a change is the least whose condition holds.
 use Rattle.std.proofs.Common.{◌≡◌, ℕ, ◌≤◌, Bool, true, false, cond, not, ◌&&◌, ◌||◌, List, [], ◌∷◌, Option, Some, None, refl, sym, ◌∙◌, ap, arith, ⊎_elim, lit≤}
-use Rattle.std.specs.Prelude.{nat_eq, find}
+use Rattle.std.specs.Prelude.{nat_eq, find, ◌↔◌}
 use Rattle.std.specs.List.{list_any}
 use Rattle.std.proofs.lemmas.Bool.{or_cases, eqb-true, true≢false}
 use Rattle.mud_world.specs.declared.change.Change.{Change}
@@ -11,7 +11,7 @@ use Rattle.mud_world.specs.declared.refusal.Refusal.TheVariants.{NotUnderstood, 
 use Rattle.mud_world.specs.State.{State}
 use Rattle.mud_world.specs.Refusals.{number}
 use Rattle.mud_world.specs.Legal.{is_arrival, deed_fails, fails, refusals, refusal}
-use Rattle.mud_world.specs.Laws.{IsLeastRefusal, AreRefusalsLeast}
+use Rattle.mud_world.specs.Laws.{IsLeastRefusal}
 use Rattle.mud_world.proofs.Records.{bool_cases}
 
 refusal_cases : {P : Type 0} (v : Option Refusal) → (v ≡ None → P) → ((f : Refusal) → v ≡ Some f → P) → P
@@ -162,5 +162,7 @@ least-back w e f is =
     let down = other.least f is.holds in
     found ∙ ap (λ v. Some v) (number-same g f (omega (arith, up, down))))
 
-pub refusals_law : AreRefusalsLeast
+pub refusals_law : (w : State) (e : Change)
+    → ((f : Refusal) → (refusal w e ≡ Some f) ↔ IsLeastRefusal w e f)
+    × ((refusal w e ≡ None) ↔ ((f : Refusal) → fails w e f ≡ false))
 refusals_law = λ w e. (λ f. (least w e f, least-back w e f), (none w e, none-back w e))

@@ -7,8 +7,9 @@ use Rattle.mud_world.specs.declared.record.Record.{Record}
 use Rattle.mud_world.specs.declared.record.Kind.{Kind}
 use Rattle.mud_world.specs.declared.record.Kind.TheVariants.{Room, Exit, Thing, Player}
 use Rattle.mud_world.specs.State.{State, record_at, place_of, kind_place, key_of, nests, all_nest, exists, has, follow, is_room, is_exit, is_room_kind, is_exit_kind, is_player_kind}
-use Rattle.mud_world.specs.Sound.{IsPlacedWell, IsKeyless, IsLockedWell, IsSound}
-use Rattle.mud_world.specs.Legal.{with_record, kind_at}
+use Rattle.mud_world.specs.Sound.{IsPlacedWell, IsSound}
+use Rattle.mud_world.specs.Inner.{IsKeyless, IsLockedWell, with_record}
+use Rattle.mud_world.specs.Legal.{kind_at}
 use Rattle.mud_world.proofs.Naming.{named-same}
 use Rattle.mud_world.proofs.Places.{follow_by, option_cases, no_circle-from_end, ends-off, ends-moved, ends_by-bound}
 use Rattle.mud_world.proofs.Records.{record_cases, lookup-set_value_same, lookup-set_value_other, in_bounds, IsRising-set_value, option_map_or-agree_keys, list_all-agree, list_all-set_value}

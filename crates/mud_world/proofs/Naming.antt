@@ -9,8 +9,8 @@ use Rattle.std.proofs.lemmas.Slice.Eq.{bytes_eq-Decides}
 use Rattle.mud_world.specs.declared.record.Record.{Record}
 use Rattle.mud_world.specs.Kinds.{is_player_kind}
 use Rattle.mud_world.specs.State.{State, record_at, shares, is_taken}
-use Rattle.mud_world.specs.Sound.{AreNamedApart}
-use Rattle.mud_world.specs.Legal.{with_new, with_record}
+use Rattle.mud_world.specs.Inner.{AreNamedApart, with_record}
+use Rattle.mud_world.specs.Legal.{with_new}
 use Rattle.mud_world.proofs.Records.{record_cases, bool_cases, lookup-append_left, lookup-append_right, lookup-set_value_same, lookup-set_value_other}
 
 -- ---- sharing goes both ways

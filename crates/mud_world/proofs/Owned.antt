@@ -6,14 +6,16 @@ use Rattle.std.specs.List.{list_any}
 use Rattle.std.specs.Str.{str_eq_ignore_ascii_case, str_to_ascii_lowercase}
 use Rattle.std.proofs.lemmas.Bool.{cases_eq, eqb-true, eq-eqb, ne_eqb, or_parts, true≢false}
 use Rattle.std.proofs.lemmas.Slice.Eq.{bytes_eq-Decides}
-use Rattle.mud_lists.specs.Owners.{owner_of, AreOwnersPassed, HaveSameOwners}
+use Rattle.mud_lists.specs.Owners.{owner_of, AreOwnersPassed}
+use Rattle.mud_lists.specs.Inner.{HaveSameOwners}
 use Rattle.mud_world.specs.declared.record.Record.{Record}
 use Rattle.mud_world.specs.declared.record.Kind.{Kind}
 use Rattle.mud_world.specs.declared.record.Kind.TheVariants.{Room, Exit, Thing, Player}
 use Rattle.mud_world.specs.Kinds.{is_player_kind, kind_at}
 use Rattle.mud_world.specs.State.{State, record_at, is_number, is_taken, shares}
 use Rattle.mud_world.specs.Sound.{IsRising, IsSound}
-use Rattle.mud_world.specs.Legal.{with_new, with_record, removed}
+use Rattle.mud_world.specs.Legal.{with_new}
+use Rattle.mud_world.specs.Inner.{with_record, removed}
 use Rattle.mud_world.specs.Going.{CanAdd}
 use Rattle.mud_world.specs.Edits.{called, called_by, with_names}
 use Rattle.mud_world.specs.Inside.{is_called, AreNames}

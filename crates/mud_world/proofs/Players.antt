@@ -16,7 +16,8 @@ use Rattle.mud_world.specs.declared.refusal.Refusal.TheVariants.{WrongKind}
 use Rattle.mud_world.specs.Kinds.{kind_at, kind_costing, is_player_kind}
 use Rattle.mud_world.specs.State.{State, record_at, is_player, destination_of, named_player}
 use Rattle.mud_world.specs.Sound.{IsRising, IsSound}
-use Rattle.mud_world.specs.Legal.{with_record, changed, removed, moved, dug, new_record, fails, refusal, after}
+use Rattle.mud_world.specs.Legal.{changed, dug, new_record, fails, refusal, after}
+use Rattle.mud_world.specs.Inner.{with_record, removed, moved}
 use Rattle.mud_world.specs.Laws.{PlayersStay, NewPlayersArePlayers}
 use Rattle.mud_world.proofs.Records.{record_cases, bool_cases, lookup-set_value_same, lookup-set_value_other, lookup-append_right, in_bounds}
 use Rattle.mud_world.proofs.Removing.{lookup-remove_other}

@@ -12,7 +12,8 @@ use Rattle.mud_world.specs.declared.change.Deed.TheVariants.{Cost, Recycle, Rena
 use Rattle.mud_world.specs.Kinds.{kind_needs, kind_costing, is_room_kind, is_exit_kind, is_player_kind}
 use Rattle.mud_world.specs.State.{State, exists, nests, is_taken}
 use Rattle.mud_world.specs.Sound.{IsSound, IsPlacedWell}
-use Rattle.mud_world.specs.Legal.{with_record, costing, renamed, new_record, refusal}
+use Rattle.mud_world.specs.Legal.{new_record, refusal}
+use Rattle.mud_world.specs.Inner.{with_record, costing, renamed}
 use Rattle.mud_world.specs.Going.{IsOff, CanRemove, CanName, CanAdd}
 use Rattle.mud_world.proofs.Records.{bool_cases, option_map_or-agree_keys, list_all-agree, list_all-set_value}
 use Rattle.mud_world.proofs.Going.{nothing_fails}

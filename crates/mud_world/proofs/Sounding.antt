@@ -14,7 +14,8 @@ use Rattle.mud_world.specs.declared.change.Target.TheVariants.{New, Old}
 use Rattle.mud_world.specs.Kinds.{kind_place, is_player_kind}
 use Rattle.mud_world.specs.State.{State, record_at, is_player, place_of, destination_of}
 use Rattle.mud_world.specs.Sound.{IsSound}
-use Rattle.mud_world.specs.Legal.{with_new, numbered_from, moved, new_record, new_exit, new_exits, refusal, deed_result}
+use Rattle.mud_world.specs.Legal.{with_new, numbered_from, new_record, new_exit, new_exits, refusal, deed_result}
+use Rattle.mud_world.specs.Inner.{moved}
 use Rattle.mud_world.specs.Going.{CanGo, CanAdd, CanJoin, IsNew}
 use Rattle.mud_world.specs.Laws.{StaysSound}
 use Rattle.mud_world.proofs.Records.{record_cases, bool_cases}

@@ -5,7 +5,8 @@ use Rattle.std.specs.List.{list_any}
 use Rattle.std.specs.Option.{option_map, option_map_or}
 use Rattle.std.specs.Map.{lookup, set_value}
 use Rattle.mud_key.specs.Tree.{Tree, asks_of}
-use Rattle.mud_lists.specs.Lists.{list_at, AreChanged, AreSame, AreEmpty}
+use Rattle.mud_lists.specs.Lists.{list_at, AreChanged, AreSame}
+use Rattle.mud_lists.specs.Inner.{AreEmpty}
 use Rattle.mud_lists.specs.Rising.{inserted, put, without}
 use Rattle.mud_world.specs.declared.record.Record.{Record}
 use Rattle.mud_world.specs.declared.record.Kind.{Kind}

@@ -5,14 +5,10 @@ use Rattle.mud_world.specs.Opening.{opening_state}
 use Rattle.mud_world.specs.Legal.{refusal, after}
 use Rattle.mud_world.specs.declared.change.Change.{Change}
 
--- the world after a change, which changes nothing where it is not legal
-abbrev pub stepped : State → Change → State
-stepped w e = if is_none (refusal w e) then after w e else w
-
--- a world with these changes one after the other
+-- a world with these changes one after the other, where one that is not legal changes nothing
 abbrev pub world_from : State → List Change → State
 world_from w [] = w
-world_from w (e ∷ changes) = world_from (stepped w e) changes
+world_from w (e ∷ changes) = world_from (if is_none (refusal w e) then after w e else w) changes
 
 -- the world of a history: the opening with the changes in order
 abbrev pub world_of : List Change → State

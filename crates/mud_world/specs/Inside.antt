@@ -48,8 +48,7 @@ abbrev pub AreNames : List (List ℕ × ℕ) → State → Type 0
 AreNames owners w =
     (name : List ℕ) (n : ℕ) → is_number n (owner_of owners (str_to_ascii_lowercase name)) ≡ is_called w n name
 
--- the world is sound, and the lists and the names are those of the world. A reader need not look into this: it says how
--- a world stands in memory, and whatever it says, contracts speak of a world by other definitions alone
+-- how a world stands in memory. A reader need not look into this: contracts speak of a world by other definitions alone
 pub record IsKept (a : Inside) : Type 0 where
   pub sound : IsSound (state_of a)
   pub contents : AreOf lies_in a.links.contents (state_of a)

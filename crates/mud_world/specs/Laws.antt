@@ -54,13 +54,6 @@ pub record IsLeastRefusal (w : State) (e : Change) (f : Refusal) : Type 0 where
   pub holds : IsTrue (fails w e f)
   pub least : (g : Refusal) → IsTrue (fails w e g) → number f ≤ number g
 
--- the refusal of a change is the one of least number whose condition holds, and there is none exactly where none holds
-abbrev pub AreRefusalsLeast : Type 0
-AreRefusalsLeast =
-    (w : State) (e : Change)
-    → ((f : Refusal) → (refusal w e ≡ Some f) ↔ IsLeastRefusal w e f)
-    × ((refusal w e ≡ None) ↔ ((f : Refusal) → fails w e f ≡ false))
-
 -- the world after a legal change of a sound world is sound
 abbrev pub StaysSound : Type 0
 StaysSound = (w : State) (e : Change) → IsSound w → refusal w e ≡ None → IsSound (after w e)

@@ -1,5 +1,5 @@
 -- The table of changes: what refuses each. What each leaves is the table of `Results`.
-use Rattle.std.specs.Prelude.{ℕ, Bool, true, false, not, ◌&&◌, ◌||◌, nat_eq, nat_lt, List, [], ◌∷◌, length, find}
+use Rattle.std.specs.Prelude.{ℕ, Bool, true, false, not, ◌&&◌, ◌||◌, nat_eq, nat_lt, List, [], ◌∷◌, length, find, ◌+◌}
 use Rattle.std.specs.Prelude.{Option, is_some}
 use Rattle.std.specs.Option.{option_map_or}
 use Rattle.mud_world.specs.declared.change.Change.{Change}
@@ -10,15 +10,18 @@ use Rattle.mud_world.specs.declared.refusal.Refusal.{Refusal}
 use Rattle.mud_world.specs.declared.refusal.Refusal.TheVariants.{NoSuch, WrongKind, NotHere, Denied, BadName, NameTaken}
 use Rattle.mud_world.specs.declared.refusal.Refusal.TheVariants.{BadKey, KeyNesting, BadCost, RecursiveMove, LockedExit}
 use Rattle.mud_world.specs.declared.refusal.Refusal.TheVariants.{LockedRoom, LockedThing, InUse, WorldFull}
-pub use Rattle.mud_world.specs.Speech.{is_printable, is_trimmed, is_speech}
+pub use Rattle.mud_world.specs.Speech.{is_trimmed, is_speech}
 pub use Rattle.mud_world.specs.Kinds.{kind_at, kind_costing, kind_needs}
 pub use Rattle.mud_world.specs.Reach.{InReach, arrives, in_reach}
-pub use Rattle.mud_world.specs.Conditions.{owns, shares_room, is_offered, leaves_from, in_use, is_full, is_bad_key}
+pub use Rattle.mud_world.specs.Conditions.{owns, shares_room, is_offered}
 pub use Rattle.mud_world.specs.Conditions.{of_old}
-pub use Rattle.mud_world.specs.Results.{with_record, changed, numbered_from, with_new, removed, moved, keyed, locked}
-pub use Rattle.mud_world.specs.Results.{costing, renamed, new_record, new_exit, new_exits, dug, deed_result, after}
+pub use Rattle.mud_world.specs.Results.{changed, numbered_from, with_new}
+pub use Rattle.mud_world.specs.Results.{new_record, new_exit, new_exits, dug, deed_result, after}
 use Rattle.mud_world.specs.State.{State, exists, is_room, is_exit, is_thing, is_player, place_of, is_number, within}
+use Rattle.mud_world.specs.State.{source_of}
 use Rattle.mud_world.specs.State.{destination_of, unlocked, all_nest, is_taken}
+use Rattle.std.specs.List.{list_any}
+use Rattle.mud_key.specs.Tree.{objects_of, nots_of, atoms_of}
 
 -- what refuses the actor of each kind of change but Player: he is no player of the world
 abbrev pub actor_fails : State → ℕ → Refusal → Bool
@@ -26,29 +29,24 @@ actor_fails w actor NoSuch = not (exists w actor)
 actor_fails w actor WrongKind = not (is_player w actor)
 actor_fails w actor f = false
 
--- what else refuses a deed, kind by kind; all is asked of the world before it
+-- what else refuses a deed, kind by kind; all but KeyNesting is asked of the world before it
 abbrev pub deed_fails : State → ℕ → Deed → Refusal → Bool
--- a room, or a way to an old one
 deed_fails w actor (Dig target doors) NoSuch = of_old target (λ room. not (exists w room))
 deed_fails w actor (Dig target doors) WrongKind = of_old target (λ room. not (is_room w room) || not (is_some doors))
-deed_fails w actor (Dig target doors) WorldFull = is_full w (length (dug w actor target doors))
--- a thing
-deed_fails w actor (Make names) WorldFull = is_full w 1
--- a player
+deed_fails w actor (Dig target doors) WorldFull = nat_lt 8192 (w.next + length (dug w actor target doors))
+deed_fails w actor (Make names) WorldFull = nat_lt 8192 (w.next + 1)
 deed_fails w actor (Player name) NoSuch = not (nat_eq actor w.next)
 deed_fails w actor (Player name) NameTaken = is_taken w actor (name ∷ [])
-deed_fails w actor (Player name) WorldFull = is_full w 1
--- a key
+deed_fails w actor (Player name) WorldFull = nat_lt 8192 (w.next + 1)
 deed_fails w actor (Lock object key) NoSuch = not (exists w object)
 deed_fails w actor (Lock object key) WrongKind = is_player w object
 deed_fails w actor (Lock object key) Denied = not (owns w actor object)
-deed_fails w actor (Lock object key) BadKey = is_bad_key w key
-deed_fails w actor (Lock object key) KeyNesting = not (all_nest (locked w object key))
--- no key
+deed_fails w actor (Lock object key) BadKey =
+    list_any (λ o. not (exists w o)) (atoms_of key) || (nat_lt 16 (objects_of key) || nat_lt 64 (nots_of key))
+deed_fails w actor (Lock object key) KeyNesting = not (all_nest (deed_result w actor (Lock object key)))
 deed_fails w actor (Unlock object) NoSuch = not (exists w object)
 deed_fails w actor (Unlock object) WrongKind = is_player w object
 deed_fails w actor (Unlock object) Denied = not (owns w actor object)
--- a thing goes to another place
 deed_fails w actor (Move thing to) NoSuch = not (exists w thing) || not (exists w to)
 deed_fails w actor (Move thing to) WrongKind = not (is_thing w thing) || is_exit w to
 deed_fails w actor (Move thing to) NotHere =
@@ -56,30 +54,25 @@ deed_fails w actor (Move thing to) NotHere =
 deed_fails w actor (Move thing to) RecursiveMove = within w to thing
 deed_fails w actor (Move thing to) LockedRoom = not (unlocked w thing to)
 deed_fails w actor (Move thing to) LockedThing = not (unlocked w to thing)
--- the actor goes through an exit
 deed_fails w actor (Walk exit) NoSuch = not (exists w exit)
 deed_fails w actor (Walk exit) WrongKind = not (is_exit w exit)
-deed_fails w actor (Walk exit) NotHere = not (leaves_from w actor exit)
+deed_fails w actor (Walk exit) NotHere =
+    not (option_map_or (λ room. is_number room (source_of w exit)) (place_of w actor) false)
 deed_fails w actor (Walk exit) LockedExit = not (unlocked w actor exit)
 deed_fails w actor (Walk exit) LockedRoom = not (option_map_or (unlocked w actor) (destination_of w exit) false)
--- the cost of an exit
 deed_fails w actor (Cost exit cost) NoSuch = not (exists w exit)
 deed_fails w actor (Cost exit cost) WrongKind = not (is_exit w exit)
 deed_fails w actor (Cost exit cost) Denied = not (owns w actor exit)
 deed_fails w actor (Cost exit cost) BadCost = nat_lt 10000 cost
--- other names
 deed_fails w actor (Rename object names) NoSuch = not (exists w object)
 deed_fails w actor (Rename object names) Denied = not (owns w actor object)
 deed_fails w actor (Rename object names) NameTaken = is_player w object && is_taken w object names
--- an object goes
 deed_fails w actor (Recycle object) NoSuch = not (exists w object)
 deed_fails w actor (Recycle object) WrongKind = is_player w object
 deed_fails w actor (Recycle object) Denied = not (owns w actor object)
-deed_fails w actor (Recycle object) InUse = in_use w object
--- talk
+deed_fails w actor (Recycle object) InUse = nat_eq object 0 || list_any (λ e. kind_needs object e.1.kind) w.objects
 deed_fails w actor (Say text) BadName = not (is_speech text)
 deed_fails w actor (Emote text) BadName = not (is_speech text)
--- nothing else
 deed_fails w actor deed f = false
 
 -- only of a new player is the actor no player yet
@@ -97,7 +90,6 @@ refusals =
     NoSuch ∷ WrongKind ∷ NotHere ∷ Denied ∷ BadName ∷ NameTaken ∷ BadKey ∷ KeyNesting ∷ BadCost ∷ RecursiveMove
     ∷ LockedExit ∷ LockedRoom ∷ LockedThing ∷ InUse ∷ WorldFull ∷ []
 
--- the least whose condition holds; none for a legal change. A reader need not look into this: `laws::refusals` says
--- that it is the one of least number
+-- the least whose condition holds, if one does. A reader need not look into this: `laws::refusals` says that it is
 unfoldable pub refusal : State → Change → Option Refusal
 refusal w e = find (fails w e) refusals

@@ -21,3 +21,4 @@ pub mod Inside
 pub mod Judging
 pub mod History
 pub mod Parts
+pub mod Inner

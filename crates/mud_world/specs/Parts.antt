@@ -1,25 +1,14 @@
 -- The parts of changes: names, keys and texts.
-use Rattle.std.specs.Prelude.{ℕ, List, Option, Some, None, IsTrue}
+use Rattle.std.specs.Prelude.{IsTrue, IfSome}
 use Rattle.mud_key.specs.Name.{IsName}
 use Rattle.mud_key.specs.Names.{AreNames}
 use Rattle.mud_key.specs.Tree.{IsKey}
 use Rattle.mud_world.specs.Speech.{is_speech}
-use Rattle.mud_world.specs.declared.change.Doors.{Doors}
 use Rattle.mud_world.specs.declared.change.Target.{Target}
 use Rattle.mud_world.specs.declared.change.Target.TheVariants.{New, Old}
 use Rattle.mud_world.specs.declared.change.Deed.{Deed}
 use Rattle.mud_world.specs.declared.change.Deed.TheVariants.{Dig, Make, Lock, Player, Rename}
 use Rattle.mud_world.specs.declared.change.Deed.TheVariants.{Say, Emote}
-
--- the names of an exit back, where there is one
-abbrev pub AreBackNames : Option (List (List ℕ)) → Type 0
-AreBackNames None = Unit {0}
-AreBackNames (Some names) = AreNames names
-
--- the names of the exits of a dig
-abbrev pub AreDoors : Option Doors → Type 0
-AreDoors None = Unit {0}
-AreDoors (Some doors) = AreNames doors.out × AreBackNames doors.back
 
 -- the names of a new room
 abbrev pub IsTarget : Target → Type 0
@@ -28,7 +17,7 @@ IsTarget (Old room) = Unit {0}
 
 -- names, keys and texts of a deed are such; their types keep it of every change that is built
 abbrev pub HasParts : Deed → Type 0
-HasParts (Dig target doors) = IsTarget target × AreDoors doors
+HasParts (Dig target doors) = IsTarget target × IfSome doors (λ d. AreNames d.out × IfSome d.back AreNames)
 HasParts (Make names) = AreNames names
 HasParts (Player name) = IsName name
 HasParts (Lock object key) = IsKey key

@@ -13,14 +13,13 @@ pub record InReach (w : State) (actor o : ℕ) : Type 0 where
   pub here : (last ≡ actor) ⊎ (place_of w actor ≡ Some last)
   pub things : (k p : ℕ) → k < passed → follow w (suc k) o ≡ Some p → IsTrue (is_thing w p)
 
--- the same as a test: one arrives after fewer than n things
+-- whether one arrives after fewer than n things; no chain of places is longer than there are numbers
 abbrev pub arrives : State → ℕ → ℕ → ℕ → Bool
 arrives w zero actor o = false
 arrives w (suc n) actor o =
     option_map_or (λ p. nat_eq p actor || is_number p (place_of w actor) || (is_thing w p && arrives w n actor p))
     (place_of w o) false
 
--- no chain of places is longer than there are numbers. A reader need not look into this: `World::in_reach` says that it
--- is `InReach`
+-- the same as a test. A reader need not look into this: `World::in_reach` says that it is `InReach`
 abbrev pub in_reach : State → ℕ → ℕ → Bool
 in_reach w actor o = arrives w w.next actor o

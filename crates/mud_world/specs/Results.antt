@@ -2,7 +2,6 @@
 use Rattle.std.specs.Prelude.{ℕ, ◌+◌, nat_eq, List, [], ◌∷◌, ◌++◌, length, Option, Some, None, unwrap_or}
 use Rattle.std.specs.Option.{option_map_or}
 use Rattle.std.specs.Map.{set_value, remove_entry}
-use Rattle.mud_key.specs.Tree.{Tree}
 use Rattle.mud_world.specs.declared.record.Kind.{Kind}
 use Rattle.mud_world.specs.declared.record.Kind.TheVariants.{Room, Exit, Thing, Player as PlayerIn}
 use Rattle.mud_world.specs.declared.record.Record.{Record}
@@ -18,13 +17,9 @@ use Rattle.mud_world.specs.State.{State, record_at, place_of, destination_of}
 
 -- ---- edits of a world
 
--- object n, where it exists, has record r
-abbrev pub with_record : State → ℕ → Record → State
-with_record w n r = record w { objects = set_value (nat_eq n) w.objects r }
-
 -- object n, where it exists, has its record changed by f
 abbrev pub changed : State → ℕ → (Record → Record) → State
-changed w n f = option_map_or (λ r. with_record w n (f r)) (record_at w n) w
+changed w n f = option_map_or (λ r. record w { objects = set_value (nat_eq n) w.objects (f r) }) (record_at w n) w
 
 -- the records with the numbers n, n + 1, n + 2 and so on
 abbrev pub numbered_from : ℕ → List Record → List (ℕ × Record)
@@ -34,30 +29,6 @@ numbered_from n (r ∷ rs) = (n, r) ∷ numbered_from (n + 1) rs
 -- new objects have come, with the next numbers
 abbrev pub with_new : State → List Record → State
 with_new w rs = record { objects = w.objects ++ numbered_from w.next rs; next = w.next + length rs }
-
--- object n is gone
-abbrev pub removed : State → ℕ → State
-removed w n = record w { objects = remove_entry (nat_eq n) w.objects }
-
--- object n has this place
-abbrev pub moved : State → ℕ → ℕ → State
-moved w n place = changed w n (λ r. record r { kind = kind_at place r.kind })
-
--- object n has this key, or none
-abbrev pub keyed : State → ℕ → Option (Tree ℕ) → State
-keyed w n key = changed w n (λ r. record r { key = key })
-
--- object n has this key
-abbrev pub locked : State → ℕ → Tree ℕ → State
-locked w n key = keyed w n (Some key)
-
--- object n, an exit, costs so much
-abbrev pub costing : State → ℕ → ℕ → State
-costing w n cost = changed w n (λ r. record r { kind = kind_costing cost r.kind })
-
--- object n has these names
-abbrev pub renamed : State → ℕ → List (List ℕ) → State
-renamed w n names = changed w n (λ r. record r { names = names })
 
 -- ---- new objects
 
@@ -89,13 +60,14 @@ abbrev pub deed_result : State → ℕ → Deed → State
 deed_result w actor (Dig target doors) = with_new w (dug w actor target doors)
 deed_result w actor (Make names) = with_new w (new_record actor names (Thing actor) ∷ [])
 deed_result w actor (Player name) = with_new w (new_record actor (name ∷ []) (PlayerIn 0) ∷ [])
-deed_result w actor (Lock object key) = locked w object key
-deed_result w actor (Unlock object) = keyed w object None
-deed_result w actor (Move thing to) = moved w thing to
-deed_result w actor (Walk exit) = option_map_or (moved w actor) (destination_of w exit) w
-deed_result w actor (Cost exit cost) = costing w exit cost
-deed_result w actor (Rename object names) = renamed w object names
-deed_result w actor (Recycle object) = removed w object
+deed_result w actor (Lock object key) = changed w object (λ r. record r { key = Some key })
+deed_result w actor (Unlock object) = changed w object (λ r. record r { key = None })
+deed_result w actor (Move thing to) = changed w thing (λ r. record r { kind = kind_at to r.kind })
+deed_result w actor (Walk exit) =
+    option_map_or (λ room. changed w actor (λ r. record r { kind = kind_at room r.kind })) (destination_of w exit) w
+deed_result w actor (Cost exit cost) = changed w exit (λ r. record r { kind = kind_costing cost r.kind })
+deed_result w actor (Rename object names) = changed w object (λ r. record r { names = names })
+deed_result w actor (Recycle object) = record w { objects = remove_entry (nat_eq object) w.objects }
 deed_result w actor (Say text) = w
 deed_result w actor (Emote text) = w
 

@@ -19,29 +19,16 @@ IsPlacedWell w (Exit p) = IsTrue (is_room w p.source) × IsTrue (is_room w p.des
 IsPlacedWell w (Thing place) = IsTrue (exists w place) × (is_exit w place ≡ false)
 IsPlacedWell w (Player place) = IsTrue (is_room w place)
 
--- a player has no key
-abbrev pub IsKeyless : Record → Type 0
-IsKeyless r = (place : ℕ) → r.kind ≡ Player place → r.key ≡ None
-
--- the key, where there is one, is within the limits of keys
-abbrev pub IsLockedWell : Record → Type 0
-IsLockedWell r = IfSome r.key IsKey
-
--- no two players share a name
-abbrev pub AreNamedApart : State → Type 0
-AreNamedApart w =
-    (a b : ℕ) (r s : Record) → record_at w a ≡ Some r → record_at w b ≡ Some s → a ≢ b
-    → IsTrue (is_player_kind r.kind) → IsTrue (is_player_kind s.kind) → shares r.names s.names ≡ false
-
 -- what is true of every world, and stays true in every legal change
 pub record IsSound (w : State) : Type 0 where
   pub rising : IsRising 0 w.objects w.next
   pub limit : w.next ≤ 8192
   pub placed : (n : ℕ) (r : Record) → record_at w n ≡ Some r → IsPlacedWell w r.kind
   pub no_circle : (n k : ℕ) → follow w (suc k) n ≢ Some n
-  pub keyless : (n : ℕ) (r : Record) → record_at w n ≡ Some r → IsKeyless r
-  pub locked : (n : ℕ) (r : Record) → record_at w n ≡ Some r → IsLockedWell r
+  pub keyless : (n : ℕ) (r : Record) → record_at w n ≡ Some r → (place : ℕ) → r.kind ≡ Player place → r.key ≡ None
+  pub locked : (n : ℕ) (r : Record) → record_at w n ≡ Some r → IfSome r.key IsKey
   pub nesting : IsTrue (all_nest w)
-  pub named : AreNamedApart w
+  pub named : (a b : ℕ) (r s : Record) → record_at w a ≡ Some r → record_at w b ≡ Some s → a ≢ b
+      → IsTrue (is_player_kind r.kind) → IsTrue (is_player_kind s.kind) → shares r.names s.names ≡ false
   -- where new players stand
   pub hall : IsTrue (is_room w 0)

@@ -3,10 +3,6 @@ use Rattle.std.specs.Prelude.{ℕ, ◌-◌, Bool, false, not, ◌&&◌, nat_eq, 
 use Rattle.std.specs.List.{list_all}
 use Rattle.std.specs.Option.{option_map_or}
 
--- each byte is one from 32 to 126
-abbrev pub is_printable : List ℕ → Bool
-is_printable text = list_all (λ b. not (nat_lt b 32) && not (nat_lt 126 b)) text
-
 -- there is no space at an end
 abbrev pub is_trimmed : List ℕ → Bool
 is_trimmed text =
@@ -15,4 +11,6 @@ is_trimmed text =
 
 -- 1 to 900 bytes from 32 to 126, without a space at an end
 abbrev pub is_speech : List ℕ → Bool
-is_speech text = not (nat_eq (length text) 0) && not (nat_lt 900 (length text)) && is_printable text && is_trimmed text
+is_speech text =
+    not (nat_eq (length text) 0) && not (nat_lt 900 (length text))
+    && list_all (λ b. not (nat_lt b 32) && not (nat_lt 126 b)) text && is_trimmed text

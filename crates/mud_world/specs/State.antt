@@ -62,7 +62,7 @@ is_number n o = option_map_or (nat_eq n) o false
 abbrev pub numbers_with : (Record → Bool) → State → List ℕ
 numbers_with test w = map (λ e. e.0) (filter (λ e. test e.1) w.objects)
 
--- the objects whose place is n
+-- the objects whose place is n. A reader need not look into this: `laws::contents` says what it is in sound worlds
 abbrev pub contents_of : State → ℕ → List ℕ
 contents_of w n = numbers_with (λ r. is_number n (kind_place r.kind)) w
 
@@ -80,8 +80,7 @@ abbrev pub comes_to : State → ℕ → ℕ → ℕ → Bool
 comes_to w zero o c = false
 comes_to w (suc n) o c = nat_eq o c || option_map_or (λ p. comes_to w n p c) (place_of w o) false
 
--- the same as a test: no chain of places is longer than there are numbers. A reader need not look into this:
--- `World::holds` says that it is `Within`
+-- the same as a test. A reader need not look into this: `World::holds` says that it is `Within`
 abbrev pub within : State → ℕ → ℕ → Bool
 within w o c = exists w o && comes_to w w.next o c
 
@@ -103,7 +102,7 @@ source_of w n = option_map (λ p. p.source) (passage_of w n)
 abbrev pub destination_of : State → ℕ → Option ℕ
 destination_of w n = option_map (λ p. p.destination) (passage_of w n)
 
--- the exits whose source is n
+-- the exits whose source is n. A reader need not look into this: `laws::leaving` says what it is in sound worlds
 abbrev pub leaving_of : State → ℕ → List ℕ
 leaving_of w n = numbers_with (λ r. is_number n (option_map (λ p. p.source) (kind_passage r.kind))) w
 
@@ -122,8 +121,7 @@ opens w (suc n) held o = has w o (λ r. option_map_or (key_true held (opens w n 
 abbrev pub holds_for : State → (ℕ → Bool) → Tree ℕ → ℕ → Bool
 holds_for w held k n = key_true held (opens w n held) k
 
--- o exists, and has no key or one that is true for c with 3 levels left; for c these are true: c, and all that it
--- contains. A reader need not look into this: `laws::levels` says what it is, without levels
+-- object o is unlocked for c. A reader need not look into this: `laws::levels` says what that is, without levels
 abbrev pub unlocked : State → ℕ → ℕ → Bool
 unlocked w c o = has w o (λ r. option_map_or (λ k. holds_for w (λ a. within w a c) k 3) r.key true)
 

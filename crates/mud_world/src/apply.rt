@@ -2,7 +2,8 @@
 
 ghost use Rattle.std.specs.Prelude.{◌≡◌, None, OnOk, OnErr};
 ghost use Rattle.mud_world.specs.Sound.{IsSound};
-ghost use Rattle.mud_world.specs.Legal.{refusal, moved, after, keyed, renamed};
+ghost use Rattle.mud_world.specs.Legal.{refusal, after};
+ghost use Rattle.mud_world.specs.Inner.{moved, keyed, renamed};
 ghost use Rattle.mud_world.specs.Going.{CanGo, CanKey, CanName};
 
 use crate::maps::{forget, rekey, relocate_in, rename_in, set_cost, unkey};

@@ -1,7 +1,13 @@
 //! What is known of the definitions alone: each contract is a law, and its function does nothing.
 
 ghost use Rattle.mud_world.specs.Laws.{AreContents, AreLeaving, AreLevelsEnough, IsNesting, CirclesNestOn};
-ghost use Rattle.mud_world.specs.Laws.{AreRefusalsLeast, StaysSound, WorldsAreSound, PlayersStay, NewPlayersArePlayers};
+ghost use Rattle.mud_world.specs.Laws.{IsLeastRefusal};
+ghost use Rattle.mud_world.specs.Laws.{StaysSound, WorldsAreSound, PlayersStay, NewPlayersArePlayers};
+ghost use Rattle.std.specs.Prelude.{false, Some, None, ◌≡◌, ◌↔◌};
+ghost use Rattle.mud_world.specs.Legal.{fails, refusal};
+ghost use Rattle.mud_world.specs.declared.change.Change.{Change};
+ghost use Rattle.mud_world.specs.declared.refusal.Refusal.{Refusal};
+ghost use Rattle.mud_world.specs.State.{State};
 
 /// In a sound world an object is in the contents of another exactly where that is its place.
 pub fn contents()
@@ -33,7 +39,9 @@ pub fn circles()
 /// The refusal of a change is the one of least number whose condition holds, and there is none
 /// exactly where none holds.
 pub fn refusals()
-    ensures { AreRefusalsLeast }
+    ensures { (w : State) (e : Change)
+        → ((f : Refusal) → (refusal w e ≡ Some f) ↔ IsLeastRefusal w e f)
+        × ((refusal w e ≡ None) ↔ ((f : Refusal) → fails w e f ≡ false)) }
 {}
 
 /// The world after a legal change of a sound world is sound.

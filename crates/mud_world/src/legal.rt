@@ -3,7 +3,8 @@
 ghost use Rattle.std.specs.Prelude.{MatchResult, not, ◌||◌, ◌≡◌, ℕ, ◌≤◌, [], ◌∷◌, Some, None, length};
 ghost use Rattle.mud_world.specs.State.{is_taken, State, exists};
 ghost use Rattle.mud_key.specs.Node.{key_of as tree_of};
-ghost use Rattle.mud_world.specs.Legal.{in_use, is_full, is_bad_key, dug, actor_fails, deed_fails, refusal, fails};
+ghost use Rattle.mud_world.specs.Legal.{dug, actor_fails, deed_fails, refusal, fails};
+ghost use Rattle.mud_world.specs.Inner.{in_use, is_full, is_bad_key};
 ghost use Rattle.mud_key.specs.Tree.{atoms_of};
 ghost use Rattle.std.specs.List.{list_any};
 ghost use Rattle.mud_world.specs.Kinds.{kind_needs};

@@ -3,7 +3,7 @@
 ghost use Rattle.std.specs.Prelude.{true, ◌≡◌};
 ghost use Rattle.mud_world.specs.State.{nests, all_nest, key_of};
 ghost use Rattle.mud_key.specs.Node.{key_of as tree_of};
-ghost use Rattle.mud_world.specs.Legal.{locked};
+ghost use Rattle.mud_world.specs.Inner.{locked};
 ghost use Rattle.mud_world.specs.Climbing.{askers_of, climbs};
 ghost use Rattle.std.specs.Option.{option_map_or};
 

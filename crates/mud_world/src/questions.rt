@@ -2,7 +2,8 @@
 
 ghost use Rattle.std.specs.Prelude.{◌≡◌};
 ghost use Rattle.mud_world.specs.State.{exists, is_player, is_room, is_exit, is_thing, passage_of, is_number, place_of};
-ghost use Rattle.mud_world.specs.Legal.{owns, leaves_from};
+ghost use Rattle.mud_world.specs.Legal.{owns};
+ghost use Rattle.mud_world.specs.Inner.{leaves_from};
 
 use crate::Passage;
 use crate::world::World;
@@ -83,8 +84,8 @@ impl World {
         self.get(number)?.kind.passage()
     }
 
-    /// Whether the exit leaves the room of the actor.
-    pub fn leaves_from(&self, actor: u32, exit: u32) -> bool
+    // Whether the exit leaves the room of the actor.
+    pub(crate) fn leaves_from(&self, actor: u32, exit: u32) -> bool
         ensures { result ≡ leaves_from self.now actor exit }
     {
         match (self.place(actor), self.passage(exit)) {

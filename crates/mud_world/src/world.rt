@@ -78,9 +78,9 @@ impl Model for World {
 
     ghost coded = { Prim.hlevel (codes, coded_number_tree) };
 
-    ghost use Rattle.mud_world.specs.Inside.{state_of, IsKept};
+    ghost use Rattle.mud_world.specs.Inside.{IsKept};
 
-    ghost view = { state_of };
+    ghost view = { λ a. record { objects = a.records.entries; next = a.next } };
 
     ghost invariant = { IsKept };
 }

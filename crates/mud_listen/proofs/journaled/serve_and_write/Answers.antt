@@ -4,7 +4,8 @@ use denote.Param.Send.{IsSend, Quiet-if}
 use mir.Syntax.{of_param}
 use Rattle.mud_hall.proofs.Crosses.{hall_sync}
 use Rattle.mud_listen.specs.contracts.connection.Shared as Shared
-use Rattle.mud_listen.proofs.Crosses.{shared_send, shared_sync, places_sync}
+use Rattle.mud_house.proofs.Crosses.{places_sync}
+use Rattle.mud_listen.proofs.Crosses.{shared_send, shared_sync}
 use Rattle.mud_listen.proofs.journaled.serve_and_write.Goals as goal
 
 pub begin_serving-requires-sync-H : goal.begin_serving-requires-sync-H

@@ -1,11 +1,11 @@
 use Rattle.std.proofs.Common.{rules}
-use Rattle.mud_listen.specs.Listening.{IsListenFault}
-use Rattle.mud_listen.proofs.Written.{any_err, end_of, none_written, front_written, line_written}
-use Rattle.mud_listen.proofs.Written.{part_written, all_written, whole_written}
+use Rattle.mud_house.specs.Listening.{IsListenFault}
+use Rattle.mud_house.proofs.Written.{opened, any_err, end_of, none_written, front_written, line_written}
+use Rattle.mud_house.proofs.Written.{part_written, all_written, whole_written}
 use Rattle.mud_listen.proofs.listen.listen_on.Goals as goal
 
 pub returns-in_err-hall-clause-front : goal.returns-in_err-hall-clause-front
-returns-in_err-hall-clause-front g c = any_err c.from_residual.result (none_written _ _ _)
+returns-in_err-hall-clause-front g c = any_err c.from_residual.result (none_written _ _ _ _)
 
 pub returns-in_err-hall-clause-fault : goal.returns-in_err-hall-clause-fault
 returns-in_err-hall-clause-fault g c =
@@ -17,40 +17,45 @@ returns-in_err-hall-clause-fault g c =
 pub returns-in_err-history-clause-fault : goal.returns-in_err-history-clause-fault
 returns-in_err-history-clause-fault g c =
     let fault
-    : IsListenFault c.args.limits.capacity c.args.loaded.items c.args.out.now c.write_port.new.out
+    : IsListenFault c.args.limits.capacity c.args.loaded.items c.args.out.now c.write_ports.new.out
     c.in_err-history.field-0.0 =
-    c.in_err-history.ensures.fault c.args.limits.capacity c.args.loaded.items c.args.out.now c.write_port.new.out in
+    c.in_err-history.ensures.fault c.args.limits.capacity c.args.loaded.items c.args.out.now c.write_ports.new.out in
     search rules
 
-pub returns-in_err-port-clause-front : goal.returns-in_err-port-clause-front
-returns-in_err-port-clause-front g c = any_err c.from_residual-in_err-port.result (none_written _ _ _)
+pub returns-in_err-ports-clause-front : goal.returns-in_err-ports-clause-front
+returns-in_err-ports-clause-front g c = any_err c.from_residual-in_err-ports.result (none_written _ _ _ _)
 
-pub returns-in_err-write_port-clause-front : goal.returns-in_err-write_port-clause-front
-returns-in_err-write_port-clause-front g c =
-    let front = c.in_err-write_port.ensures.front in
-    any_err c.from_residual-in_err-write_port.result (front_written _ c.in_ok-port.port front.0 _ _ _ front.1)
+pub returns-in_err-write_ports-clause-front : goal.returns-in_err-write_ports-clause-front
+returns-in_err-write_ports-clause-front g c =
+    let front = c.in_err-write_ports.ensures.front in
+    let lines = opened _ c.in_ok-ports.ports.telnet c.in_ok-ports.ports.web c.in_ok-ports.ensures.named in
+    any_err c.from_residual-in_err-write_ports.result (front_written _ _ lines front.0 _ _ _ front.1)
 
 pub returns-in_err-history-clause-front : goal.returns-in_err-history-clause-front
 returns-in_err-history-clause-front g c =
+    let lines = opened _ c.in_ok-ports.ports.telnet c.in_ok-ports.ports.web c.in_ok-ports.ensures.named in
     any_err c.from_residual-in_err-history.result
-    (line_written _ c.in_ok-port.port _ _ _ c.in_ok-write_port.ensures.ok)
+    (line_written _ _ lines _ _ _ c.in_ok-write_ports.ensures.ok)
 
 pub returns-in_err-write_entries-clause-front : goal.returns-in_err-write_entries-clause-front
 returns-in_err-write_entries-clause-front g c =
     let ends =
     end_of _ _ _ _ _ c.in_ok-hall.ensures.loaded c.as_slice.ensures.value c.in_ok-history.ensures.ends in
     let front = c.in_err-write_entries.ensures.front in
+    let lines = opened _ c.in_ok-ports.ports.telnet c.in_ok-ports.ports.web c.in_ok-ports.ensures.named in
     any_err c.from_residual-in_err-write_entries.result
-    (part_written _ c.in_ok-port.port front.0 _ _ _ _ _ ends c.in_ok-write_port.ensures.ok front.1)
+    (part_written _ _ lines front.0 _ _ _ _ _ ends c.in_ok-write_ports.ensures.ok front.1)
 
 pub returns-then-is_served-clause-ok : goal.returns-then-is_served-clause-ok
 returns-then-is_served-clause-ok g c =
     let ends =
     end_of _ _ _ _ _ c.in_ok-hall.ensures.loaded c.as_slice.ensures.value c.in_ok-history.ensures.ends in
-    all_written _ c.in_ok-port.port _ _ _ _ _ ends c.in_ok-write_port.ensures.ok c.in_ok-write_entries.ensures.ok
+    let lines = opened _ c.in_ok-ports.ports.telnet c.in_ok-ports.ports.web c.in_ok-ports.ensures.named in
+    all_written _ _ lines _ _ _ _ _ ends c.in_ok-write_ports.ensures.ok c.in_ok-write_entries.ensures.ok
 
 pub returns-clause-front : goal.returns-clause-front
 returns-clause-front g c =
     let ends =
     end_of _ _ _ _ _ c.in_ok-hall.ensures.loaded c.as_slice.ensures.value c.in_ok-history.ensures.ends in
-    whole_written _ c.in_ok-port.port _ _ _ _ _ ends c.in_ok-write_port.ensures.ok c.in_ok-write_entries.ensures.ok
+    let lines = opened _ c.in_ok-ports.ports.telnet c.in_ok-ports.ports.web c.in_ok-ports.ensures.named in
+    whole_written _ _ lines _ _ _ _ _ ends c.in_ok-write_ports.ensures.ok c.in_ok-write_entries.ensures.ok

@@ -4,7 +4,8 @@ use denote.Param.Send.{IsSend, Quiet-if}
 use mir.Syntax.{of_param}
 use Rattle.mud_hall.proofs.Crosses.{hall_sync}
 use Rattle.mud_listen.specs.contracts.connection.Shared as Shared
-use Rattle.mud_listen.proofs.Crosses.{shared_send, shared_sync, places_sync}
+use Rattle.mud_house.proofs.Crosses.{places_sync}
+use Rattle.mud_listen.proofs.Crosses.{shared_send, shared_sync}
 use Rattle.mud_listen.proofs.listen.serve_all.Goals as goal
 
 pub serve_house-is_served-requires-sync-H : goal.serve_house-is_served-requires-sync-H

@@ -2,7 +2,8 @@ use Rattle.std.proofs.Common.{◌≡◌, ◌∙◌, ◌≤◌, ◌+◌, ◌∷�
 use Rattle.std.specs.Prelude.{bytes_eq}
 use Rattle.std.specs.Map.{lookup, KeepsOthers}
 use Rattle.indexmap.specs.IndexMap.{spare}
-use Rattle.mud_lists.specs.OwnersView.{items_of, seen_of}
+use Rattle.mud_lists.specs.OwnersView.{items_of}
+use Rattle.mud_lists.specs.Inner.{seen_of}
 use Rattle.mud_lists.proofs.Texts.{Text, same, AreLeft, left-step, changed_owner}
 use Rattle.mud_lists.proofs.owners.drop_each.Goals as goal
 

@@ -1,6 +1,7 @@
 use Rattle.std.proofs.Common.{◌≤◌, None, drop}
 use Rattle.indexmap.specs.IndexMap.{spare}
-use Rattle.mud_lists.specs.OwnersView.{items_of, seen_of}
+use Rattle.mud_lists.specs.OwnersView.{items_of}
+use Rattle.mud_lists.specs.Inner.{seen_of}
 use Rattle.mud_lists.proofs.Texts.{AreLeft}
 use Rattle.mud_lists.proofs.owners.drop_each.Given as goal
 

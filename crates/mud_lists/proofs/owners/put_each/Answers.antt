@@ -1,7 +1,8 @@
 use Rattle.std.proofs.Common.{◌≡◌, ◌≤◌, ◌+◌, ◌∷◌, List, Some, subst, length, arith}
 use Rattle.indexmap.specs.IndexMap.{spare}
 use Rattle.std.specs.Vec.Iter.{into_iter_items}
-use Rattle.mud_lists.specs.OwnersView.{items_of, seen_of}
+use Rattle.mud_lists.specs.OwnersView.{items_of}
+use Rattle.mud_lists.specs.Inner.{seen_of}
 use Rattle.mud_lists.proofs.Texts.{Text, AreLeft, left-step, changed_owner}
 use Rattle.mud_lists.proofs.owners.put_each.Goals as goal
 

@@ -1,6 +1,6 @@
 use Rattle.std.proofs.Common.{◌∙◌, sym, ap, ◌+◌, drop}
 use Rattle.mud_world.specs.Refusals.{lesser}
-use Rattle.mud_rules.specs.Steps.{least_refusal}
+use Rattle.mud_rules.specs.Journeys.{least_refusal}
 use Rattle.mud_rules.proofs.Parts.{least-err, least-ok}
 use Rattle.mud_rules.proofs.journeys.least_refusal.Goals as goal
 use Rattle.mud_rules.proofs.journeys.least_refusal.Goals.{in-Ok, in-Err}

@@ -1,6 +1,6 @@
 use Rattle.std.proofs.Common.{◌≡◌, drop}
 use Rattle.mud_world.specs.Refusals.{lesser}
-use Rattle.mud_rules.specs.Steps.{least_refusal}
+use Rattle.mud_rules.specs.Journeys.{least_refusal}
 use Rattle.mud_rules.proofs.journeys.least_refusal.Given as goal
 
 -- the lesser of what was found and what is left is the least of all

@@ -1,8 +1,9 @@
 use Rattle.std.proofs.Common.{◌∙◌, sym, ap, Ok, add-one}
 use Rattle.std.specs.Prelude.{filter}
 use Rattle.std.specs.List.{range_with_len}
-use Rattle.mud_rules.specs.Matching.{sole, is_named, is_like}
-use Rattle.mud_rules.specs.Steps.{together, is_sort}
+use Rattle.mud_rules.specs.Matching.{sole}
+use Rattle.mud_rules.specs.Inner.{is_named}
+use Rattle.mud_rules.specs.Steps.{fits, together, is_sort}
 use Rattle.mud_rules.proofs.Ranging.{range_more}
 use Rattle.mud_rules.proofs.Joining.{both_hit, both_miss}
 use Rattle.mud_rules.proofs.matching.sole_of_sort.Goals as goal
@@ -11,7 +12,7 @@ use Rattle.mud_rules.proofs.matching.sole_of_sort.Goals.{then-is_candidate, else
 pub loop-number-preserved : goal.loop-number-preserved
 loop-number-preserved c =
     let p = is_sort c.args.sort c.args.world.now in
-    let q = is_named (is_like c.args.likeness c.args.text.now) c.args.world.now in
+    let q = is_named (fits c.args.likeness c.args.text.now) c.args.world.now in
     let n = c.loop-number.number in
     let on = ap (λ ns. sole (filter q (filter p ns))) (sym (range_more n) ∙ ap (range_with_len 0) (sym (add-one n))) in
     elim c.if-is_candidate.branch [

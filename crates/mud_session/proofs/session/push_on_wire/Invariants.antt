@@ -1,6 +1,6 @@
 use Rattle.std.proofs.Common.{◌≡◌, ◌++◌, take}
 use Rattle.std.specs.List.{flat_map}
-use Rattle.mud_session.specs.Session.{on_wire}
+use Rattle.mud_session.specs.Inner.{on_wire}
 use Rattle.mud_session.proofs.session.push_on_wire.Given as goal
 
 -- the bytes gone over are sent

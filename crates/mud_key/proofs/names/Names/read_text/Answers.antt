@@ -1,25 +1,20 @@
 use Rattle.std.proofs.Common.{ap, sym, ◌∙◌, subst, map}
 use Rattle.std.specs.Prelude.{string_bytes}
-use Rattle.mud_key.specs.Names.{IsNamesText, IsNoNamesText}
+use Rattle.mud_key.specs.InnerNames.{IsNamesText, IsNoNamesText}
 use Rattle.mud_key.specs.NameReader.{next_of, names_of, stand_of}
 use Rattle.mud_key.proofs.NamesSound.{names_sound}
 use Rattle.mud_key.proofs.NamesTaken.{refused_names, unsettled_names, name_run_more, name_run_end, are_names}
-use Rattle.mud_key.proofs.NamesAreParts.{names_are_parts, no_names_in_parts}
 use Rattle.mud_key.proofs.names.Names.read_text.Goals as goal
 
 -- ---- a byte is refused
 
-refused : (c : goal.In-None) → IsNoNamesText c.args.text.now
-refused c = subst (λ t. IsNoNamesText t) c.as_bytes-byte-items.ensures.value
-    (refused_names c.as_bytes-byte-items.result.now c.loop-byte.byte-index 0
-    (stand_of c.loop-byte.reader) c.loop-byte-test.true c.loop-byte.invariant
-    (sym c.in_ok-next.ensures ∙ ap next_of c.in-None.is))
-
-pub returns-in-None-clause-reads : goal.returns-in-None-clause-reads
-returns-in-None-clause-reads c = refused c
-
-pub returns-in-None-clause-bad : goal.returns-in-None-clause-bad
-returns-in-None-clause-bad c is = no_names_in_parts c.args.text.now (refused c)
+pub returns-in-None : goal.returns-in-None
+returns-in-None c = record {
+  reads = subst (λ t. IsNoNamesText t) c.as_bytes-byte-items.ensures.value
+      (refused_names c.as_bytes-byte-items.result.now c.loop-byte.byte-index 0
+      (stand_of c.loop-byte.reader) c.loop-byte-test.true c.loop-byte.invariant
+      (sym c.in_ok-next.ensures ∙ ap next_of c.in-None.is));
+}
 
 pub loop-byte-preserved : goal.loop-byte-preserved
 loop-byte-preserved c =
@@ -39,25 +34,19 @@ taken c =
 pub invariant_of-result : goal.invariant_of-result
 invariant_of-result c = are_names c.as_bytes-byte-items.result.now _ (taken c)
 
-pub returns-in-Some-2-clause-reads : goal.returns-in-Some-2-clause-reads
-returns-in-Some-2-clause-reads c =
-    subst (λ t. IsNamesText t (map string_bytes c.in-Some-2.list.items)) c.as_bytes-byte-items.ensures.value (taken c)
-
-pub returns-in-Some-2-clause-parts : goal.returns-in-Some-2-clause-parts
-returns-in-Some-2-clause-parts c = names_are_parts c.args.text.now (map string_bytes c.in-Some-2.list.items)
-    (subst (λ t. IsNamesText t (map string_bytes c.in-Some-2.list.items)) c.as_bytes-byte-items.ensures.value (taken c))
+pub returns-in-Some-2 : goal.returns-in-Some-2
+returns-in-Some-2 c = record {
+  reads = subst (λ t. IsNamesText t (map string_bytes c.in-Some-2.list.items)) c.as_bytes-byte-items.ensures.value
+      (taken c);
+}
 
 -- ---- no name stands at the end
 
-unsettled : (c : goal.In-None-2) → IsNoNamesText c.args.text.now
-unsettled c = subst (λ t. IsNoNamesText t) c.as_bytes-byte-items.ensures.value
-    (unsettled_names c.as_bytes-byte-items.result.now (stand_of c.loop-byte.reader)
-    (name_run_end c.as_bytes-byte-items.result.now c.loop-byte.byte-index _ c.loop-byte-test.false
-    c.loop-byte.invariant)
-    (sym c.in_ok-list.ensures ∙ ap names_of c.in-None-2.is))
-
-pub returns-in-None-2-clause-reads : goal.returns-in-None-2-clause-reads
-returns-in-None-2-clause-reads c = unsettled c
-
-pub returns-in-None-2-clause-bad : goal.returns-in-None-2-clause-bad
-returns-in-None-2-clause-bad c is = no_names_in_parts c.args.text.now (unsettled c)
+pub returns-in-None-2 : goal.returns-in-None-2
+returns-in-None-2 c = record {
+  reads = subst (λ t. IsNoNamesText t) c.as_bytes-byte-items.ensures.value
+      (unsettled_names c.as_bytes-byte-items.result.now (stand_of c.loop-byte.reader)
+      (name_run_end c.as_bytes-byte-items.result.now c.loop-byte.byte-index _ c.loop-byte-test.false
+      c.loop-byte.invariant)
+      (sym c.in_ok-list.ensures ∙ ap names_of c.in-None-2.is));
+}

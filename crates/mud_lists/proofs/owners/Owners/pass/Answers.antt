@@ -3,7 +3,8 @@ use Rattle.std.specs.Prelude.{bytes_eq, string_bytes}
 use Rattle.std.specs.List.{list_any}
 use Rattle.std.specs.Str.{str_to_ascii_lowercase}
 use Rattle.mud_lists.specs.Owners.{owner_of, is_lower_of}
-use Rattle.mud_lists.specs.OwnersView.{items_of, seen_of}
+use Rattle.mud_lists.specs.OwnersView.{items_of}
+use Rattle.mud_lists.specs.Inner.{seen_of}
 use Rattle.mud_lists.proofs.Texts.{any-map}
 use Rattle.mud_lists.proofs.owners.Owners.pass.Goals as goal
 

@@ -25,10 +25,10 @@ returns-clause-feeds g c = λ earlier stands.
     let grows = took.grows earlier begun in
     Feeds-from g.D.Door.takes_in earlier c.args.bytes.now c.args.self.now
     (record { terminal = c.feed.new.self; has_ended = c.self.inside.has_ended; out = c.self.inside.out.items })
-    c.loop-unit.self _ _ _ grows.fresh
-    (took.stands earlier begun) grows.there
+    c.loop-unit.self _ _ _ grows.0
+    (took.stands earlier begun) grows.2
     (ap all_shown (take_all c.loop-unit.unit-index c.deref-unit-items.result.now (omega arith)
-    ∙ c.deref-unit-items.ensures.value) ∙ grows.here
-    ∙ ap (λ l. all_shown l ++ grows.fresh) c.new-units.ensures.items)
+    ∙ c.deref-unit-items.ensures.value) ∙ grows.1
+    ∙ ap (λ l. all_shown l ++ grows.0) c.new-units.ensures.items)
     (ap (λ (s : State). s.has_ended) c.self.view_is)
     (ap (λ (s : State). s.out) c.self.view_is) c.loop-unit.invariant.so_far

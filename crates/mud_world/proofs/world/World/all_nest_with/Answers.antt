@@ -1,6 +1,6 @@
 use Rattle.std.proofs.Common.{◌∙◌, arith, ap, sym, refl, is_some, not}
 use Rattle.mud_world.specs.State.{nests}
-use Rattle.mud_world.specs.Legal.{locked}
+use Rattle.mud_world.specs.Inner.{locked}
 use Rattle.mud_world.proofs.Records.{record_cases}
 use Rattle.std.proofs.lemmas.Bool.{true≢false}
 use Rattle.mud_world.specs.State.{record_at}

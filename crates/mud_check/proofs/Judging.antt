@@ -1,0 +1,15 @@
+-- What is judged where the source's bytes are known.
+use Rattle.std.proofs.Common.{◌≡◌, ℕ, List, Option, Some, None, IfSome, subst}
+use Rattle.mud_verdict.specs.declared.outcome.Outcome.{Outcome}
+use Rattle.mud_verdict.specs.Verdict.{IsVerdict}
+use Rattle.mud_check.specs.Inner.{IsSplit}
+use Rattle.mud_check.specs.Said.{IsJudged}
+
+-- the verdict on the two texts of what was read is that on the bytes of the source
+pub judged : (left : Option (List ℕ)) (input history proof : List ℕ) (outcome : Outcome)
+    → IfSome left (λ bytes. input ≡ bytes) → IsSplit input history proof → IsVerdict history proof outcome
+    → IfSome left (λ bytes. IsJudged bytes outcome)
+judged None input history proof outcome is split verdict = tt
+judged (Some bytes) input history proof outcome is split verdict =
+    subst (λ (b : List ℕ). IsJudged b outcome) is
+    (record { history = history; proof = proof; split = split; verdict = verdict })

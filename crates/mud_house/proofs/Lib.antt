@@ -1,0 +1,3 @@
+pub mod Crosses
+pub mod Keeping
+pub mod Written

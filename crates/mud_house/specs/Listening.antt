@@ -1,0 +1,67 @@
+-- What a server writes, and why it ends.
+use Rattle.std.specs.Prelude.{◌≡◌, ◌≤◌, ◌⊎◌, ℕ, Bool, true, List, ◌++◌, length, take, All, Contains, codes}
+use Rattle.std.specs.Prelude.{Option, None, Some, is_some}
+use Rattle.std.specs.Fmt.{decimal}
+use Rattle.std.specs.Io.KnownBytes.{Appends}
+use mathlib.Core.List.{IsPrefix}
+use Rattle.mud_ends.specs.Ends.{Writer}
+use Rattle.mud_chron.specs.Entry.{Accepted}
+use Rattle.mud_chron.specs.Text.{line_feed, history_text}
+use Rattle.mud_chron.specs.declared.format.Format.TheVariants.{Two}
+use Rattle.mud_hall.specs.Opening.{IsLoadFault}
+use Rattle.mud_hall.specs.Settling.{made}
+use Rattle.mud_hall.specs.Steps.{AreLoadable}
+use Rattle.mud_house.specs.declared.limits.Limits.{Limits}
+use Rattle.mud_house.specs.declared.fault.ListenFault.{ListenFault}
+use Rattle.mud_house.specs.declared.fault.ListenFault.TheVariants.{Write, Load}
+
+-- the line that names the port
+abbrev pub listening_line : ℕ → List ℕ
+listening_line port = codes "listening on " ++ decimal port ++ line_feed
+
+-- the line that names the port of the door on the web
+abbrev pub web_line : ℕ → List ℕ
+web_line port = codes "web on " ++ decimal port ++ line_feed
+
+-- the lines that name the ports: first that of Telnet, and then that of the door on the web, if there is one
+abbrev pub opening_lines : ℕ → (web : Option ℕ) → List ℕ
+opening_lines port None = listening_line port
+opening_lines port (Some web) = listening_line port ++ web_line web
+
+-- a history to end with: a hall can begin with it, and after what was loaded come no more desks than sessions at once
+pub record MayEnd (limits : Limits) (loaded history : List Accepted) : Type 0 where
+  pub loadable : AreLoadable limits.capacity history
+  pub begun : IsPrefix loaded history
+  pub desks : List ℕ
+  pub few : length desks ≤ limits.sessions
+  pub of_desks : All (λ e. Contains desks e.desk) (made loaded history)
+
+-- the lines of some ports: one is of the web exactly where there is a door on the web
+pub record Opening (has_web : Bool) : Type 0 where
+  pub port : ℕ
+  pub web : Option ℕ
+  pub named : is_some web ≡ has_web
+
+abbrev pub lines_of : (has_web : Bool) → Opening has_web → List ℕ
+lines_of has_web opening = opening_lines opening.port opening.web
+
+-- the lines of some ports were written, and after them the whole text of a history that a server may end with
+pub record Settles (limits : Limits) (has_web : Bool) (loaded : List Accepted)
+    (held now_held : Option (List ℕ)) : Type 0 where
+  pub opening : Opening has_web
+  pub history : List Accepted
+  pub ends : MayEnd limits loaded history
+  pub written : Appends held now_held (lines_of has_web opening ++ history_text Two history)
+
+-- a beginning of the lines was written, or the lines and after them a beginning of the text of such a history
+abbrev pub SettlesInPart : Limits → (has_web : Bool) → List Accepted → Option (List ℕ) → Option (List ℕ) → Type 0
+SettlesInPart limits has_web loaded held now_held =
+    ((opening : Opening has_web) × (n : ℕ) × Appends held now_held (take n (lines_of has_web opening)))
+    ⊎ ((opening : Opening has_web) × (n : ℕ) × (history : List Accepted) × MayEnd limits loaded history
+    × Appends held now_held (lines_of has_web opening ++ take n (history_text Two history)))
+
+-- when each fault comes, and what it leaves of the writer
+abbrev pub IsListenFault : ℕ → List Accepted → Writer → Writer → ListenFault → Type 0
+IsListenFault capacity loaded old new Write = new.has_failed ≡ true
+IsListenFault capacity loaded old new (Load fault) = IsLoadFault capacity loaded fault × (new ≡ old)
+IsListenFault capacity loaded old new other = Unit {0}

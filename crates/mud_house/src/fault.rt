@@ -1,0 +1,51 @@
+//! Why a server ended.
+
+use mud_hall::{CloseFault, LoadFault};
+use mud_journal::JournalFault;
+use std::alloc::AllocError;
+use thiserror::Error;
+
+/// Why a server ended.
+#[derive(PartialEq, Eq, Debug, Drop, Error)]
+pub enum ListenFault {
+    /// Memory ran out for what the server itself keeps or writes.
+    #[error("out of memory")]
+    OutOfMemory,
+    /// What it had to write was not taken.
+    #[error("write fault")]
+    Write,
+    /// No connection can be taken.
+    #[error("cannot listen")]
+    Accept,
+    /// The desks made no history, or none that can be loaded again.
+    #[error("cannot settle")]
+    Settle(CloseFault),
+    /// The hall does not go on from what was loaded.
+    #[error("cannot load: {0}")]
+    Load(LoadFault),
+    /// The journal takes no more, or is not what the desks made.
+    #[error("journal fault: {0}")]
+    Journal(JournalFault),
+}
+
+impl From<JournalFault> for ListenFault {
+    ghost use Rattle.std.specs.Prelude.{◌≡◌};
+    ghost use Rattle.mud_house.specs.declared.fault.ListenFault.TheVariants.{Journal};
+
+    ghost from_gives = { λ f e. e ≡ Journal f };
+
+    fn from(f: JournalFault) -> ListenFault {
+        ListenFault::Journal(f)
+    }
+}
+
+impl From<AllocError> for ListenFault {
+    ghost use Rattle.std.specs.Prelude.{◌≡◌};
+    ghost use Rattle.mud_house.specs.declared.fault.ListenFault.TheVariants.{OutOfMemory};
+
+    ghost from_gives = { λ _ e. e ≡ OutOfMemory };
+
+    fn from(_e: AllocError) -> ListenFault {
+        ListenFault::OutOfMemory
+    }
+}

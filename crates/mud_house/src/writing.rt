@@ -1,0 +1,82 @@
+//! What a server writes.
+
+ghost use Rattle.std.specs.Prelude.{◌≡◌, ◌≤◌, ◌⊎◌, ℕ, length, take, true, IfOk, IfErr, OnOk, OnErr};
+ghost use Rattle.std.specs.Prelude.{string_bytes};
+ghost use Rattle.std.specs.Io.KnownBytes.{Appends};
+ghost use Rattle.mud_chron.specs.Text.{history_text};
+ghost use Rattle.mud_chron.specs.declared.format.Format.TheVariants.{Two};
+ghost use Rattle.mud_house.specs.Listening.{opening_lines};
+
+use crate::doors::Ports;
+use crate::fault::ListenFault;
+use mud_chron::{Entry, write_history};
+use mud_ends::Sink;
+use std::alloc::{AllocError, Global};
+use std::io::Write;
+
+/// Writes the lines that name the ports; where it fails, a beginning of them.
+pub fn write_ports<W: Write>(
+    alloc: Global,
+    out: &mut Sink<W>,
+    ports: Ports,
+) -> Result<(), ListenFault>
+    ensures ok { OnOk result (Appends out.old.holds out.new.holds (opening_lines ports.telnet ports.web)) }
+    ensures front { OnErr result ((n : ℕ) × Appends out.old.holds out.new.holds
+        (take n (opening_lines ports.telnet ports.web))) }
+    ensures fault { IfErr result (λ f. (f ≡ ListenFault.OutOfMemory)
+        ⊎ ((f ≡ ListenFault.Write) × (out.new.has_failed ≡ true))) }
+{
+    let lines = ports_lines(alloc, ports)?;
+    write(out, lines.as_bytes())
+}
+
+/// Writes the text of a history; where it fails, a beginning of it.
+pub fn write_entries<W: Write>(
+    alloc: Global,
+    out: &mut Sink<W>,
+    history: &[Entry],
+) -> Result<(), ListenFault>
+    requires { length history.now ≤ 65536 }
+    ensures ok { OnOk result (Appends out.old.holds out.new.holds (history_text Two history.now)) }
+    ensures front { OnErr result ((n : ℕ) × Appends out.old.holds out.new.holds
+        (take n (history_text Two history.now))) }
+    ensures fault { IfErr result (λ f. (f ≡ ListenFault.OutOfMemory)
+        ⊎ ((f ≡ ListenFault.Write) × (out.new.has_failed ≡ true))) }
+{
+    let text = text_of(alloc, history)?;
+    write(out, text.as_bytes())
+}
+
+// The lines that name the ports.
+fn ports_lines(alloc: Global, ports: Ports) -> Result<String, AllocError>
+    ensures { IfOk result (λ lines. string_bytes lines ≡ opening_lines ports.telnet ports.web) }
+{
+    let Ports { telnet, web } = ports;
+    match web {
+        None => format!(in alloc; "listening on {telnet}\n"),
+        Some(web) => format!(in alloc; "listening on {telnet}\nweb on {web}\n"),
+    }
+}
+
+// The text of a history.
+fn text_of(alloc: Global, history: &[Entry]) -> Result<String, AllocError>
+    requires { length history.now ≤ 65536 }
+    ensures { IfOk result (λ text. string_bytes text ≡ history_text Two history.now) }
+{
+    let mut text = String::new(alloc);
+    write_history(alloc, history, &mut text)?;
+    Ok(text)
+}
+
+// Writes all of a text; where it fails, a beginning of it.
+fn write<W: Write>(out: &mut Sink<W>, text: &[u8]) -> Result<(), ListenFault>
+    ensures ok { OnOk result (Appends out.old.holds out.new.holds text.now) }
+    ensures front { OnErr result ((n : ℕ) × Appends out.old.holds out.new.holds (take n text.now)) }
+    ensures fault { IfErr result (λ f. (f ≡ ListenFault.Write) × (out.new.has_failed ≡ true)) }
+{
+    if out.write_all(text) {
+        Ok(())
+    } else {
+        Err(ListenFault::Write)
+    }
+}

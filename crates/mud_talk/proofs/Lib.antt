@@ -1,0 +1,3 @@
+pub mod Crosses
+mod Leaving
+mod Naming

@@ -1,0 +1,28 @@
+-- What leaves a session, and the versions that it names.
+use Rattle.std.specs.Prelude.{◌≡◌, ◌⊎◌, ℕ, List, ◌++◌, Option}
+use Rattle.websocket.specs.Connection.{Effect}
+use Rattle.mud_hall.specs.Desk.{DeskState}
+use Rattle.mud_web.specs.declared.closing.Ending.{Ending}
+use Rattle.mud_web.specs.Channel.{StandsAfter, replies, framed}
+use Rattle.mud_web.specs.Closing.{closes}
+use Rattle.mud_session.specs.Naming.{NamesUpTo}
+use Rattle.mud_session.specs.Laws.{NamesSeen}
+use Rattle.mud_web_session.specs.Web.{WebState}
+
+-- what leaves over a web socket: replies to frames, a message that names no version above `most`, and a close
+pub record LeavesUpTo (most : ℕ) (bytes : List ℕ) : Type 0 where
+  pub answered : List Effect
+  pub said : List ℕ
+  pub ending : Option Ending
+  pub names : NamesUpTo most said
+  pub is : bytes ≡ replies answered ++ framed said ++ closes ending
+
+-- what leaves by Telnet is the text itself
+abbrev pub SaysUpTo : ℕ → List ℕ → Type 0
+SaysUpTo most bytes = NamesUpTo most bytes ⊎ LeavesUpTo most bytes
+
+-- a session over a web socket names no version beyond what its desk has seen, and some bytes came to its channel
+pub record SitsOnWeb (web : WebState) (desk : DeskState) : Type 0 where
+  pub names : NamesSeen web.session desk
+  pub earlier : List ℕ
+  pub stands : StandsAfter web.channel earlier

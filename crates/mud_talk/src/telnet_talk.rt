@@ -1,0 +1,129 @@
+//! A session by Telnet, and its desk.
+
+ghost use Rattle.std.specs.Prelude.{◌≡◌, ◌≤◌, [], codes, true, false};
+ghost use Rattle.mud_nvt.specs.History.{StandsAfter};
+ghost use Rattle.mud_session.specs.Laws.{NamesSeen};
+ghost use Rattle.mud_session.specs.Session.{sent};
+
+use crate::parting::Parting;
+use crate::step::{Sayings, Step};
+use mud_hall::{Desk, Hall, HallName};
+use mud_journal::Held;
+use mud_session::laws::nothing_beyond;
+use mud_session::{Seat, Session, SessionFault};
+use std::sync::Wait;
+use std::thread::Threads;
+
+/// A session by Telnet, and its desk. Unless it has ended, it names no version beyond what the desk has seen.
+#[derive(Drop)]
+pub struct TelnetTalk<J: HallName> {
+    session: Session,
+    desk: Desk<J>,
+    ghost names: { ∥ (session.has_ended ≡ false → NamesSeen session desk.state) ∥₁ },
+}
+
+impl<J: HallName> TelnetTalk<J> {
+    /// A session to which nothing came, and which is to greet, at the desk, which is a guest's again.
+    pub fn new(session: Session, desk: Desk<J>) -> TelnetTalk<J>
+        requires stands { StandsAfter session.terminal [] }
+        requires out { session.out ≡ sent (codes "Welcome. Type: connect NAME") }
+    {
+        let mut desk = desk;
+        desk.guest();
+        TelnetTalk { session, desk }
+    }
+
+    // The session at its seat again, after a step, with what the step gives to be sent.
+    fn after(
+        session: Session,
+        seat: Seat<'_, J>,
+        text: Held<Sayings>,
+        before: usize,
+        parting: Option<Parting>,
+    ) -> Step<TelnetTalk<J>>
+        requires { ∥ (session.has_ended ≡ false → NamesSeen session seat.desk) ∥₁ }
+    {
+        let has_changed = seat.accepted() > before;
+        let desk = seat.into_desk();
+        Step {
+            talk: TelnetTalk { session, desk },
+            text,
+            parting,
+            has_changed,
+        }
+    }
+
+    // After a step that was done: what it says is to be sent.
+    fn told(session: Session, seat: Seat<'_, J>, before: usize) -> Step<TelnetTalk<J>>
+        requires { ∥ NamesSeen session seat.desk ∥₁ }
+    {
+        let mut session = session;
+        let text = Held::new(session.take_out(), seat.seen() as usize);
+        let parting = match session.ended() {
+            true => Some(Parting::Left),
+            false => None,
+        };
+        TelnetTalk::after(session, seat, text, before, parting)
+    }
+
+    // After a step that was not done: nothing is sent, since nobody promises what it names.
+    fn silenced(
+        session: Session,
+        seat: Seat<'_, J>,
+        before: usize,
+        fault: &SessionFault,
+    ) -> Step<TelnetTalk<J>>
+        requires { session.has_ended ≡ true }
+    {
+        let mut session = session;
+        let mut text = session.take_out();
+        text.clear();
+        let text = Held::new(text, seat.seen() as usize);
+        let parting = match fault {
+            SessionFault::OutOfMemory => Parting::OutOfMemory,
+            SessionFault::Ended => Parting::Left,
+        };
+        TelnetTalk::after(session, seat, text, before, Some(parting))
+    }
+
+    /// Gives bytes to the session.
+    pub fn feed<R: Threads + Wait + Sync>(
+        self,
+        rt: &R,
+        hall: &Hall<J>,
+        workers: u32,
+        bytes: &[u8],
+    ) -> Step<TelnetTalk<J>>
+        requires { workers ≤ 8 }
+    {
+        let TelnetTalk { mut session, desk } = self;
+        let mut seat = Seat::new(hall, desk, workers);
+        let before = seat.accepted();
+        nothing_beyond();
+        match session.feed(rt, &mut seat, bytes) {
+            Ok(()) => TelnetTalk::told(session, seat, before),
+            Err(fault) => TelnetTalk::silenced(session, seat, before, &fault),
+        }
+    }
+
+    /// Has the session look for what others did, at none of the entries after the `most`-th.
+    pub fn nudge(self, hall: &Hall<J>, workers: u32, most: u32) -> Step<TelnetTalk<J>>
+        requires { workers ≤ 8 }
+    {
+        let TelnetTalk { mut session, desk } = self;
+        let mut seat = Seat::up_to(hall, desk, workers, most);
+        let before = seat.accepted();
+        nothing_beyond();
+        match session.nudge(&mut seat) {
+            Ok(()) => TelnetTalk::told(session, seat, before),
+            Err(fault) => TelnetTalk::silenced(session, seat, before, &fault),
+        }
+    }
+
+    /// The desk, a guest's again.
+    pub fn into_desk(self) -> Desk<J> {
+        let mut desk = self.desk;
+        desk.guest();
+        desk
+    }
+}

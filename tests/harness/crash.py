@@ -1,6 +1,6 @@
-"""A server with a journal is killed while many play, again and again. In every second round the file is then cut at any
-byte behind what was synced, as a crash of the system may cut it. Whatever anybody was told stands in the journal then:
-each version that was named, with its text. The next server goes on from it.
+"""A server with a journal is killed while many play, by Telnet and on the web, again and again. In every second round
+the file is then cut at any byte behind what was synced, as a crash of the system may cut it. Whatever anybody was told
+stands in the journal then: each version that was named, with its text. The next server goes on from it.
 """
 import os
 import random
@@ -12,6 +12,7 @@ from harness.journal import Place, ended
 from harness.parts import part
 from harness.preload import library
 from harness.server import Client
+from harness.web import WebServer
 
 REPLY = re.compile(rb"\[(\d+)\] said")
 HEARD = re.compile(rb'\((\d+)\) \w+ says, "(.*)"')
@@ -46,9 +47,9 @@ def stands(entries, version, text):
 class Player(threading.Thread):
     """A client that says things, some at once, and notes what it is told, until its connection ends."""
 
-    def __init__(self, port, name, told):
+    def __init__(self, client, name, told):
         super().__init__(daemon=True)
-        self.client, self.name_said, self.told = Client(port), name, told
+        self.client, self.name_said, self.told = client, name, told
         self.unanswered, self.count = [], 0
 
     def say(self):
@@ -56,7 +57,7 @@ class Player(threading.Thread):
         texts = [b"%s %d" % (self.name_said, self.count + at) for at in range(random.choice(BURSTS))]
         self.count += len(texts)
         self.unanswered += texts
-        self.client.give(b"".join(b"say %s\r\n" % text for text in texts))
+        self.client.send_all([b"say %s" % text for text in texts])
 
     def note(self, line):
         """Notes what a line tells."""
@@ -85,11 +86,14 @@ def entries_of(text):
 
 
 def play_and_kill(place, clients, told, environment):
-    """A round: a server goes on, the clients play, and it is killed. Answers why it did not start, or nothing."""
-    with place.server(environment=environment) as server:
+    """A round: a server goes on, the clients play, every second one on the web, and it is killed. Answers why it did
+    not start, or nothing.
+    """
+    with WebServer("--journal", place.path, environment=environment) as server:
         if server.port is None:
             return f"it does not start: {server.said()}"
-        players = [Player(server.port, b"P%d" % number, told) for number in range(clients)]
+        dial = [Client, server.come]
+        players = [Player(dial[number % 2](server.port), b"P%d" % number, told) for number in range(clients)]
         for player in players:
             player.start()
         time.sleep(random.uniform(*ROUND_SECONDS))

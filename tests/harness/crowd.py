@@ -15,6 +15,7 @@ from harness.programs import program
 from harness.proofs import refused
 from harness.server import Client, Server
 from harness.visit import SERVER_FULL, Visit
+from harness.web import WebServer
 
 NAMES = [f"{first}{last}" for first in ("An", "Bo", "Ce", "Da", "El", "Fy", "Ga", "Hu") for last in "nbcdefgh"]
 THINGS = ["lamp", "brass key", "red ball", "red box", "chest", "bag"]
@@ -71,16 +72,16 @@ class Talker:
 
 
 class Crowd:
-    """Clients of one server, and the sessions that they had."""
+    """Clients of one server, and the sessions that they had. They come in the ways that `dials` has, by turns."""
 
-    def __init__(self, server, seconds, pace):
-        self.server, self.pace = server, pace
+    def __init__(self, server, seconds, pace, dials=(Client,)):
+        self.server, self.pace, self.dials = server, pace, dials
         self.until = time.monotonic() + seconds
         self.sessions = []
 
-    def visit(self, talker):
+    def visit(self, talker, dial):
         """One visit: a player comes, sends lines, and leaves by chance or where the time is over."""
-        visit = Visit(self.server.port)
+        visit = Visit(self.server.port, dial)
         self.sessions.append(visit.session)
         visit.ask(f"connect {talker.name}")
         is_leaving = False
@@ -95,7 +96,7 @@ class Crowd:
         talker = Talker(seed)
         try:
             while time.monotonic() < self.until:
-                self.visit(talker)
+                self.visit(talker, self.dials[seed % len(self.dials)])
         except (OSError, ValueError) as error:
             return [f"client {seed}: {error!r}"]
         return []
@@ -132,11 +133,14 @@ def judge_crowd(count, sessions, history):
     count("crowd: the proofs that they read", not wrong, wrong[:SHOWN_FAULTS])
 
 
-def count_crowd(count, clients, seconds, pace, words=()):
-    """Has a crowd play, and counts how it went; answers the history that was printed."""
+def count_crowd(count, clients, seconds, pace, words=(), is_on_web=False):
+    """Has a crowd play, every second of them on the web if it is so, and counts how it went; answers the history that
+    was printed.
+    """
     total = clients * LONGEST
-    with Server(program("mud_serve"), ["--total", str(total), *words]) as server:
-        crowd = Crowd(server, seconds, pace)
+    words = ["--total", str(total), *words]
+    with WebServer(*words) if is_on_web else Server(program("mud_serve"), words) as server:
+        crowd = Crowd(server, seconds, pace, [Client, server.come] if is_on_web else [Client])
         faults, is_full = crowd.play_all(clients)
         status, printed = crowd.finish(total)
     count("crowd: all clients are served", not faults, "; ".join(faults[:SHOWN_FAULTS]))
@@ -149,6 +153,11 @@ def count_crowd(count, clients, seconds, pace, words=()):
 @part("crowd", "clients play at once, and what each reads is judged", words="[CLIENTS [SECONDS [PACE]]]")
 def small_crowd(count, clients="16", seconds="5", pace="20"):
     count_crowd(count, int(clients), float(seconds), float(pace))
+
+
+@part("web-crowd", "the crowd by Telnet and on the web", words="[CLIENTS [SECONDS [PACE]]]")
+def web_crowd(count, clients="16", seconds="5", pace="20"):
+    count_crowd(count, int(clients), float(seconds), float(pace), is_on_web=True)
 
 
 @part("big-crowd", "the crowd of as many clients as a server takes, for a minute", on_demand=True)

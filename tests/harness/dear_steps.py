@@ -112,7 +112,7 @@ ROWS = [
     Row("a recycling", in_one_another, f"@recycle #{THINGS + 1}", "That is in use."),
     Row("a name of many things", many_things, "drop t", "Which one do you mean?"),
     Row("a name of many exits", many_exits, "go e", "Which one do you mean?"),
-    # Each name is compared with all others, byte by byte and twice.
+    # Each name is compared with all others, byte by byte, and with none of them twice.
     Row("sixteen long names", long_names, f"@lock #2 with {NAMED}", f"locked #2 with {MEANT}", most=1.0, steps=4),
 ]
 

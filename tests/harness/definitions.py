@@ -7,6 +7,9 @@ of a law is no definition but a promise, as a contract's clause is: it is counte
 
 A definition whose comment says that a reader need not look into it counts, and what it cites does not: contracts hand
 it on from call to call, and whatever it says, what they claim of texts and worlds names other definitions only.
+
+A file whose name begins with `Inner` is private: what it has is cited by private clauses, by proofs, and by definitions
+that are closed in that way. No public clause may reach it otherwise.
 """
 import pathlib
 import re
@@ -28,6 +31,7 @@ COMMENT_OR_TEXT = re.compile(r'(?:--|//).*|"(?:\\.|[^"\\])*"')
 # A name, or the names of a dotted path. What follows a dot alone is a field.
 CITED = re.compile(rf"(?<![.\w'-]){NAME}(?:\.{NAME})*")
 CLOSED = "A reader need not look into this"
+PRIVATE = "Inner"
 
 
 def imports(lines):
@@ -165,9 +169,18 @@ def statements_of(crate, definitions):
         yield from (at for at in cited if at[0].endswith("Laws"))
 
 
-def counted():
+def is_private(module):
+    """Whether the module is a file that only private clauses and proofs may cite."""
+    return module.rpartition(".")[2].startswith(PRIVATE)
+
+
+def strays(definitions, found):
+    """What stands in a public file though no public clause reaches it: module and name."""
+    return [at for at in sorted(definitions.lines) if at not in found and not is_private(at[0])]
+
+
+def counted(definitions):
     """Each definition that a reader has to believe: crate, module and name to its lines, and whether it is a law's."""
-    definitions = Definitions()
     crates = [path for path in sorted((TOP / "crates").iterdir()) if (path / "specs").is_dir()]
     laws = {at for crate in crates for at in statements_of(crate, definitions)}
     reached = definitions.reached({at for crate in crates for at in roots_of(crate, definitions)})
@@ -186,12 +199,18 @@ def table(found):
     return "\n".join(["| crate | definitions | laws |", "|---|---|---|", *lines])
 
 
-@part("definitions", "the table of docs/DEFINITIONS.md counts what the specs have", words="[--write | --list]")
+@part("definitions", "docs/DEFINITIONS.md counts what the specs have", words="[--write | --list | --strays]")
 def definitions(count, word=""):
-    """Compares the table of the page. `--write` writes it, `--list` prints each definition that is counted."""
-    found = counted()
+    """Compares the table of the page, and keeps private files from public clauses. `--write` writes the table, `--list`
+    prints each definition that is counted, `--strays` each one that stands in a public file and that none reaches."""
+    known = Definitions()
+    found = counted(known)
     if word == "--list":
         print("\n".join(f"{module} {name} {lines}{' (law)' * law}" for (module, name), (lines, law) in found.items()))
+    if word == "--strays":
+        print("\n".join(f"{module} {name}" for module, name in strays(known, found)))
+    reached = ", ".join(f"{module} {name}" for module, name in found if is_private(module))
+    count("private files", not reached, f"public clauses reach what private files have: {reached}")
     page = PAGE.read_text()
     before, begin, rest = page.partition(BEGIN)
     old, end, after = rest.partition(END)

@@ -26,6 +26,8 @@ from harness.proofs import refused
 from harness.server import Client, Server
 
 PROOF = re.compile(rb"\[[0-9]+\] proof")
+# Dialogues at a server that goes on from a history, with its name.
+GOING_ON = [("format-one-goes-on", "format-one"), ("as-long-as-there-is-room", "ten")]
 
 
 class Differs(Exception):
@@ -140,9 +142,11 @@ def count_dialogue(count, path, *more):
     return history
 
 
-@part("dialogues", "two people play at one server, and another server goes on from the history that it printed")
+@part("dialogues", "two people play at one server, and other servers go on from histories")
 def dialogues(count):
     count_dialogue(count, f"{TOP}/examples/two-players.talk")
+    for name, history in GOING_ON:
+        count_dialogue(count, tests_file(f"dialogues/{name}.talk"), "--load", tests_file(f"halls/{history}.history"))
     history = count_dialogue(count, tests_file("dialogues/two-players.talk"))
     with tempfile.TemporaryDirectory() as folder:
         path = os.path.join(folder, "history")

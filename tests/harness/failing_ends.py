@@ -2,6 +2,7 @@
 Each must end with its words and its status.
 """
 import os
+import signal
 import socket
 import subprocess
 import tempfile
@@ -10,14 +11,24 @@ from harness.inputs import read, tests_file
 from harness.parts import part
 from harness.programs import program
 from harness.runs import LIBRARY, history_and_proof
+from harness.server import Client, Server
 
 ANY = object()
 FULL_DISK = "/dev/full"
 # No command here takes this many seconds.
 LONGEST = 60
+# What no browser says of a page: it writes small letters and no path, and leaves out the scheme's own port.
+NO_ORIGINS = [
+    "localhost", "null", "ftp://localhost", "http://", "http://localhost/", "http://localhost/play", "http://me@here",
+    "http://Localhost", "HTTP://localhost", "http://:8000", "http://localhost:", "http://localhost:0",
+    "http://localhost:80", "https://localhost:443", "http://localhost:08000", "http://localhost:65536",
+]
 BAD_WORDS = {
     "mud_serve": [
         "", "wait", "script --capacity 0", "script --capacity 65537", "script --workers 9", "script more", "--help",
+        "listen --port 0 --web-port 0", "listen --port 0 --web-origin http://localhost",
+        "listen --port 0 --web-address 127.0.0.1", "listen --port 0 --web-port 65536 --web-origin http://localhost",
+        *(f"listen --port 0 --web-port 0 --web-origin {url}" for url in NO_ORIGINS),
     ],
     "mud_explain": [
         "", "word", "key more", "hall more", "hall --capacity 0", "hall --capacity 65537", "hall --load", "--help",
@@ -127,10 +138,25 @@ def try_files_to_load(ends):
 
 
 def try_taken_port(ends):
-    """A port at which another program listens."""
+    """A port at which another program listens; and one of the door on the web."""
     with socket.create_server(("127.0.0.1", 0)) as other:
         port = str(other.getsockname()[1])
-        ends.wants(3, "", "mud_serve: cannot listen\n", "mud_serve", ["listen", "--port", port, "--total", "1"])
+        web = ["--port", "0", "--web-port", port, "--web-origin", "http://localhost"]
+        for words in (["--port", port], web):
+            ends.wants(3, "", "mud_serve: cannot listen\n", "mud_serve", ["listen", *words, "--total", "1"])
+
+
+def try_lost_output(ends):
+    """A server's port is read, and nothing behind it: who plays is served, and then its history can't be written."""
+    deaf = lambda: signal.signal(signal.SIGPIPE, signal.SIG_IGN)
+    with Server(program("mud_serve"), ["--total", "1"], preexec_fn=deaf) as server:
+        server.process.stdout.close()
+        client = Client(server.port)
+        client.send(b"quit")
+        lines = [client.line() for _ in range(3)]
+        given = lines, server.process.wait(timeout=LONGEST), server.said().splitlines()[-1:]
+    wanted = [b"Welcome. Type: connect NAME", b"[0] bye", None], 3, [b"mud_serve: write fault"]
+    ends.count("failing ends: mud_serve listen, of which only the port is read", given == wanted, given)
 
 
 @part("failing-ends", "unreadable input, a full disk, bad words and bad files end programs with their words")
@@ -143,3 +169,4 @@ def failing_ends(count):
         try_files_to_check(ends)
         try_files_to_load(ends)
         try_taken_port(ends)
+        try_lost_output(ends)

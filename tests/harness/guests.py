@@ -1,6 +1,6 @@
 """Guests who would hold up a server, and what each gets: who leaves it no descriptor, takes all places, never says who
-he is, sends no line, comes and leaves, reads nothing while much is done, or leaves the log no room. Each row plays one
-of them against the built server.
+he is, sends no line, comes and leaves, reads nothing while much is done, leaves the log no room, or fills the history.
+Each row plays one of them against the built server.
 """
 import errno
 import re
@@ -10,21 +10,24 @@ import subprocess
 import time
 from concurrent.futures import ThreadPoolExecutor
 
-from harness.journal import FIRST, ended
+from harness.journal import FIRST, Place, ended, said
 from harness.parts import part
 from harness.preload import library
 from harness.programs import program
 from harness.server import HOST, Client, Server
 
 GREETING = b"Welcome. Type: connect NAME"
-TOO_MANY = b"(too many sessions)"
+SERVER_FULL, HISTORY_FULL, TOO_MANY = b"(server full)", b"(history full)", b"(too many sessions)"
 OTHER_HOST = "127.0.0.2"
 NOP = b"\xff\xf1"
 LISTENING_FAULT = b"mud_serve: cannot listen\n"
 NONE_FOR_NOW = b"no connection can be taken for now"
+NEARLY_FULL = rb"the history has (\d+) of (\d+) changes: stop the server, shorten the history, and go on\n"
 
 OF_SOME_DESK = rb"mud history 2\n1 (\d+) player #2 \"Ann\"\n2 \1 say #2 hi\nend 2\n"
 
+# How many sessions there are at once.
+PLACES = 64
 # How soon what is promised at once has come, and after how many seconds a limit of one second has been noticed.
 SOON, NOTICED = 2, (0.8, 2.5)
 # The descriptors that a server has, and how many who come it can't serve then.
@@ -49,6 +52,14 @@ def greeted(port, seconds=10):
     line = client.line()
     if line != GREETING:
         raise ConnectionError(f"it is greeted by {line}")
+    return client
+
+
+def greeted_late(port):
+    """The same, which comes again while the server is full."""
+    while (client := Client(port)).line() == SERVER_FULL:
+        client.close()
+        time.sleep(0.02)
     return client
 
 
@@ -165,6 +176,27 @@ def why_per_address():
         return "" if given == ((TOO_MANY, None), GREETING, True, 0) else f"{given}"
 
 
+def why_full():
+    """All places are taken: one more is told so. Who leaves without a word and has not read all that he was sent makes
+    room: the next is served at his desk, as a guest."""
+    with listening() as server:
+        first, *_ = players = [named(server.port, b"P%d" % number) for number in range(PLACES)]
+        beyond = Client(server.port)
+        refused = beyond.line(), beyond.line()
+        first.reset()
+        late = greeted_late(server.port)
+        late.send(b"look")
+        late.send(b"connect Late")
+        told = late.line(), late.line()
+        status, printed = stop(server)
+        given = refused, told, status, printed.splitlines()[1], printed.splitlines()[-2]
+        del players
+    return "" if given == (
+        (SERVER_FULL, None), (b"[64] I couldn't understand that.", b"[65] welcome #66"),
+        0, b'1 1 player #2 "P0"', b'65 1 player #66 "Late"',
+    ) else f"{given}"
+
+
 def why_unnamed():
     """Who does not say who he is leaves his place; who has said it keeps his."""
     with listening("--unnamed", "1") as server:
@@ -257,9 +289,9 @@ def say_much(client):
     """Says so much, and reads each answer."""
     for _ in range(SAID // PIECE):
         client.give(b"say hello\r\n" * PIECE)
-        said = 0
-        while said < PIECE:
-            said += b"said" in client.line()
+        answered = 0
+        while answered < PIECE:
+            answered += b"said" in client.line()
 
 
 def why_behind():
@@ -312,6 +344,26 @@ def why_partings():
         return "" if given == (["left", "left", "server stops"], 3, 0) else f"{given}"
 
 
+def warned(server):
+    """The numbers in the lines by which its log has warned of a history that is nearly full."""
+    return [tuple(map(int, numbers)) for numbers in re.findall(NEARLY_FULL, server.said())]
+
+
+def why_nearly_full():
+    """One fills the history: the log warns at the ninth change of ten, once, and again where a server goes on."""
+    with Place(said(7)) as place:
+        with place.server("--capacity", "10", console=True) as server:
+            client, answers = named(server.port), []
+            for _ in range(3):
+                client.send(b"say on")
+                answers.append(client.line())
+            first = answers, stop(server)[0], warned(server)
+        with place.server("--capacity", "10", console=True) as server:
+            second = stop(server)[0], warned(server)
+    wanted = ([b"[9] said", b"[10] said", HISTORY_FULL], 0, [(9, 10)]), (0, [(10, 10)])
+    return "" if (first, second) == wanted else f"{first}, {second}"
+
+
 @part("guests", "guests who would hold up a server hold nobody, and the log names what ended each")
 def guests(count):
     def show(what, why):
@@ -322,6 +374,7 @@ def guests(count):
         show(f"calls for a connection fail by {errno.errorcode[number]}", why_accept(number, 5))
     for number in LASTING:
         show(f"no call gives a connection any more, by {errno.errorcode[number]}", why_no_more(number))
+    show("all places are taken", why_full())
     show("one address has as many sessions as it may", why_per_address())
     show("one does not say who he is", why_unnamed())
     rows = [("nothing", b""), ("requests", NOP), ("a line without an end", b"x"), ("parts of requests", b"\xff\xfaxx")]
@@ -333,3 +386,4 @@ def guests(count):
     show("one reads nothing while much is said", why_behind())
     show("nobody reads the log", why_log())
     show("the log names what ended a session", why_partings())
+    show("one fills the history", why_nearly_full())

@@ -14,6 +14,7 @@ from harness.journal import Place
 from harness.parts import part
 from harness.preload import library
 from harness.server import Client
+from harness.web import WebServer
 
 SAID, MOST_RUNS, FULL_BYTES = 6, 100, 400
 FAULT = b"(journal fault)"
@@ -131,11 +132,31 @@ def why_stuck():
         return "" if (status, line) == (3, FAULT) else f"status {status}, {line}, {took} s"
 
 
+def why_untold_on_the_web():
+    """What went otherwise where the disk is full while one plays on the web; nothing where that is the last he reads,
+    and the server closes his web socket since it ends.
+    """
+    how = {"preexec_fn": limit, "restore_signals": False}
+    with Place() as place, WebServer("--journal", place.path, "--total", "1", **how) as server:
+        ann, line = server.player(b"Ann"), b""
+        while line is not None and line != FAULT:
+            ann.send(b"say " + b"x" * 100)
+            line = ann.line()
+        rest = ann.rest()
+        status, _ = server.end()
+        given = line, rest, ann.closed, status
+        return "" if given == (FAULT, [], 1001, 3) else f"{given}"
+
+
 @part("journal-faults", "the disk of a journal fails, and all that was told before is kept")
 def journal_faults(count):
     calls, felt, wrong = fail_in_turn()
     print(f"journal faults: {calls} runs, {felt} ended with a fault, {len(wrong)} wrongly", flush=True)
     count("journal faults: each call in turn", felt > SAID and not wrong, wrong or "no failed call is felt")
-    for what, why_bad in (("the disk is full", why_unfilled), ("a client reads nothing", why_stuck)):
+    for what, why_bad in [
+        ("the disk is full", why_unfilled),
+        ("a client reads nothing", why_stuck),
+        ("a client is on the web", why_untold_on_the_web),
+    ]:
         why = why_bad()
         count(f"journal faults: {what}", not why, why)

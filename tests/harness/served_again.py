@@ -19,9 +19,10 @@ from harness.judge import judge
 from harness.parts import part
 from harness.preload import LIBRARIES, library
 from harness.programs import program
-from harness.server import Server
+from harness.server import Client, Server
 from harness.session import LACKING
 from harness.visit import QUICK, Visit
+from harness.web import WebServer
 
 TOTAL, TRIES, LONGEST, WRONG = 8, 50, 2000, 5
 LINES = [
@@ -39,13 +40,20 @@ class Play:
     """One run: the server, both clients, and all sessions that there were."""
 
     def __init__(self, environment, words=()):
-        self.server = Server(program("mud_serve"), ["--total", str(TOTAL), *words], environment)
+        self.server = self.served(["--total", str(TOTAL), *words], environment)
         self.visits, self.sessions, self.lacked = {}, [], 0
 
-    def visit(self):
+    def served(self, words, environment):
+        return Server(program("mud_serve"), words, environment)
+
+    def dial(self, _name):
+        """How a player comes."""
+        return Client
+
+    def visit(self, name=None):
         """Another session. Who comes just as the program ends may never hear so: here a system keeps that to itself."""
         try:
-            return Visit(self.server.port)
+            return Visit(self.server.port, self.dial(name))
         except TimeoutError:
             if self.server.process.poll() is None:
                 raise
@@ -53,7 +61,7 @@ class Play:
 
     def arrive(self, name):
         """Another session: as a guest, and then as a player. A guest's `look` is refused."""
-        visit = self.visits[name] = self.visit()
+        visit = self.visits[name] = self.visit(name)
         self.sessions.append(visit.session)
         self.ask(visit, "look")
         self.ask(visit, f"connect {name}")
@@ -142,10 +150,20 @@ class Play:
         return self.lacked > 0 or self.server.process.returncode != 0
 
 
-def play(environment, call, words=()):
+class WebPlay(Play):
+    """One run where Bob plays on the web."""
+
+    def served(self, words, environment):
+        return WebServer(*words, environment=environment)
+
+    def dial(self, name):
+        return self.server.come if name == "Bob" else Client
+
+
+def play(environment, call, words=(), kind=Play):
     """A run in which this call fails. Answers whether that was felt, and what is wrong, as texts."""
     chosen = {"FAILED_CALL": str(call), "MOVED_BYTES": str(int(call == 0))}
-    one = Play({**environment, **chosen}, words)
+    one = kind({**environment, **chosen}, words)
     with one.server:
         faults = one.judged()
     if call == 0 and one.is_felt():
@@ -157,6 +175,11 @@ def play_kept(environment, call):
     """The same over a new journal."""
     with Place() as place:
         return play(environment, call, ["--journal", place.path])
+
+
+def play_on_web(environment, call):
+    """The same where one of them plays on the web."""
+    return play(environment, call, kind=WebPlay)
 
 
 def play_in_turn(name, played=play):
@@ -185,6 +208,11 @@ def count_all(count, played):
 @part("served-again", "two people are served while each call of their server fails in turn")
 def served_again(count):
     count_all(count, play)
+
+
+@part("served-again-web", "the same where one of them plays on the web", on_demand=True)
+def served_again_web(count):
+    count_all(count, play_on_web)
 
 
 @part("served-again-journal", "the same where the server has a journal", on_demand=True)

@@ -70,6 +70,10 @@ class Client:
     def send(self, line):
         self.give(line + b"\r\n")
 
+    def send_all(self, lines):
+        """Sends lines in one piece."""
+        self.give(b"".join(line + b"\r\n" for line in lines))
+
     def give(self, some):
         """Sends these bytes as they are."""
         self.socket.sendall(some)

@@ -1,15 +1,15 @@
 """How a server ends sessions that take too little of what is answered, and no other. One that takes nothing is ended
-once nothing could be written for a minute, and so is one that takes a byte a second, while another reads a little now
-and then, and two talk. What lies between server and client may take a little more on the way, so that lasts up to three
-and a half minutes.
+once nothing could be written for a minute, by Telnet and on the web, and so is one that takes a byte a second, while
+another reads a little now and then, and two talk. What lies between server and client may take a little more on the
+way, so that lasts up to three and a half minutes.
 """
 import time
 from concurrent.futures import ThreadPoolExecutor
 
 from harness.parts import part
-from harness.programs import program
-from harness.server import Client, Server
+from harness.server import Client
 from harness.visit import Visit
+from harness.web import WebServer
 
 MINUTE, LATEST = 60, 200
 
@@ -17,8 +17,8 @@ MINUTE, LATEST = 60, 200
 class Watched:
     """A client by whose address the server's log says when its session ends."""
 
-    def __init__(self, server):
-        self.server, self.client = server, Client(server.port)
+    def __init__(self, server, client):
+        self.server, self.client = server, client
         host, port = self.client.socket.getsockname()
         self.end = f"the session of {host}:{port} ends: ".encode()
         self.began = time.monotonic()
@@ -51,16 +51,18 @@ class Watched:
         self.client.socket.settimeout(1)
         try:
             while True:
-                self.client.give(b"look\r\n" * 10_000)
+                self.client.send_all([b"look"] * 10_000)
         except TimeoutError:
             self.began = time.monotonic()
 
 
 class Stuck:
-    """A server with one who takes nothing, one who takes a byte now and then, one who reads, and two who talk."""
+    """A server with two who take nothing, one of them on the web, one who takes a byte now and then, one who reads, and
+    two who talk."""
 
     def __init__(self, server):
-        self.deaf, self.miser, self.slow = Watched(server), Watched(server), Watched(server)
+        self.deaf, self.miser, self.slow = (Watched(server, Client(server.port)) for _ in range(3))
+        self.browser = Watched(server, server.dial())
         self.one, self.other = Visit(server.port), Visit(server.port)
         self.one.ask("connect Ann")
         self.other.ask("connect Bob")
@@ -69,7 +71,7 @@ class Stuck:
     def fill(self):
         """Has them send lines up to when no more are taken."""
         with ThreadPoolExecutor() as threads:
-            list(threads.map(Watched.fill, (self.deaf, self.miser, self.slow)))
+            list(threads.map(Watched.fill, (self.deaf, self.browser, self.miser, self.slow)))
 
     def talk(self):
         """Two talk and have their answers; the slow one reads a little, and the miser a byte."""
@@ -83,17 +85,18 @@ class Stuck:
 
 def count_stuck(count):
     """Counts what happens to those who take nothing or next to nothing, and to one who reads now and then."""
-    with Server(program("mud_serve")) as server:
+    with WebServer() as server:
         stuck = Stuck(server)
         stuck.fill()
-        took = stuck.deaf.after(LATEST, stuck.talk)
+        took, took_on_web = (one.after(LATEST, stuck.talk) for one in (stuck.deaf, stuck.browser))
         later = stuck.miser.after(LATEST, stuck.talk)
-        words = [one.word() for one in (stuck.deaf, stuck.miser)]
+        words = [one.word() for one in (stuck.deaf, stuck.browser, stuck.miser)]
         goes_on = not stuck.slow.has_ended()
     print(f"timeouts: the longest wait of others was {max(stuck.waits)} s", flush=True)
     count("timeouts: the session that takes nothing ends", took is not None and MINUTE - 5 < took, f"after {took} s")
+    count("timeouts: so does the one on the web", took_on_web is not None, f"after {took_on_web} s")
     count("timeouts: the session that takes a byte a second ends", later is not None, f"after {later} s")
-    count("timeouts: the log says why", words == [b"write time-out"] * 2, words)
+    count("timeouts: the log says why", words == [b"write time-out"] * 3, words)
     count("timeouts: the one that reads now and then goes on", goes_on)
 
 

@@ -9,16 +9,16 @@ QUICK = 0.01
 
 
 class Visit:
-    """A session that was greeted. It comes again while the server is full."""
+    """A session that was greeted. It comes again while the server is full. `dial` makes its client."""
 
-    def __init__(self, port):
+    def __init__(self, port, dial=Client):
         self.session = Session()
-        self.client = Client(port)
+        self.client = dial(port)
         while self.read_line() == SERVER_FULL:
             self.session.read.clear()
             self.client.close()
             time.sleep(QUICK)
-            self.client = Client(port)
+            self.client = dial(port)
 
     def read_line(self):
         """The next line, which must come."""

@@ -11,10 +11,12 @@ import time
 from harness.parts import part
 from harness.programs import program
 from harness.server import HOST, Client, Server
-from harness.web_client import BINARY, CLOSE, CONTINUATION, PING, PONG, TEXT, WebClient
+from harness.visit import QUICK
+from harness.web_client import BINARY, CLOSE, CONTINUATION, PING, PONG, TEXT, NotLetIn, WebClient
 from harness.web_client import answered, closing, frame, rest_of, status, upgrade
 
 HEAD_SECONDS, MOST_HEADS, PLACES = 10, 32, 64
+OTHER_HOST, PROXY = "127.0.0.2", "https://mud.example.org"
 GREETING = b"Welcome. Type: connect NAME"
 NAMED = re.compile(rb"^[\[(]\d+[\])] ")
 # What would load something from elsewhere, or make markup of a text. The name of SVG is one, and loads nothing.
@@ -32,14 +34,27 @@ def free_port():
 class WebServer(Server):
     """A server with a door on the web, at its `web_port`; the page's origin is its `origin`."""
 
-    def __init__(self, *words, **how):
-        self.web_port = free_port()
+    def __init__(self, *words, port=None, **how):
+        self.web_port = port or free_port()
         self.origin = f"http://{HOST}:{self.web_port}"
         door = ["--web-port", str(self.web_port), "--web-origin", self.origin]
         super().__init__(program("mud_serve"), [*door, *words], **how)
+        second = self.process.stdout.readline()
+        if self.port is not None and second != b"web on %d\n" % self.web_port:
+            self.port = None
 
     def dial(self, **how):
         return WebClient(self.web_port, self.origin, **how)
+
+    def come(self, _port=None):
+        """A client on the web, which comes again while the server is full. It stands for `Client` where that dials."""
+        while True:
+            try:
+                return self.dial()
+            except NotLetIn as refused:
+                if refused.status != 503:
+                    raise
+                time.sleep(QUICK)
 
     def player(self, name, **how):
         """A client on the web that has come in by this name."""
@@ -144,7 +159,7 @@ def why_not_ended(server, pieces, code):
     return "" if given == ([SAID], code, [b'Ann says, "one"']) else f"{given}"
 
 
-@part("web-frames", "what the frames of a web socket do, whole, cut or wrong", on_demand=True)
+@part("web-frames", "what the frames of a web socket do, whole, cut or wrong")
 def web_frames(count):
     with WebServer() as server:
         for name, pieces, lines, others in GOES_ON:
@@ -162,6 +177,11 @@ def web_frames(count):
 
 def head(*lines):
     return "\r\n".join(lines).encode() + b"\r\n\r\n"
+
+
+def long_head(length):
+    """The head of a request for the page, of so many bytes."""
+    return b"GET / HTTP/1.1\r\nA: " + b"x" * (length - 23) + b"\r\n\r\n"
 
 
 def refusals(origin):
@@ -186,7 +206,9 @@ def refusals(origin):
         ("POST", head("POST / HTTP/1.1"), 405),
         ("HEAD", head("HEAD / HTTP/1.1"), 405),
         ("no request", b"\x16\x03\x01\x02\x00\x01\x00\x01\xfc\r\n\r\n", 400),
-        ("a head of 9 KB", b"GET / HTTP/1.1\r\nA: " + b"x" * 9000, 431),
+        ("a head of 8,192 bytes", long_head(8192), 200),
+        ("a head of 8,193 bytes", long_head(8193), 431),
+        ("9 KB, and no end", long_head(9000)[:-4], 431),
         ("65 fields", head("GET / HTTP/1.1", *["A: b"] * 65), 431),
         ("64 fields", head("GET / HTTP/1.1", *["A: b"] * 64), 200),
         ("LF alone", b"GET / HTTP/1.1\n\n", 200),
@@ -233,7 +255,7 @@ def in_pieces(server, request):
         return rest_of(dialled)
 
 
-@part("web-heads", "what a browser is answered: the page, the web socket, and each refusal", on_demand=True)
+@part("web-heads", "what a browser is answered: the page, the web socket, and each refusal")
 def web_heads(count):
     with WebServer() as server:
         for name, request, wanted in refusals(server.origin):
@@ -323,12 +345,29 @@ def why_not_one_message_each():
     return "" if given == (1, b"history", b"end 201") else f"{given}"
 
 
-@part("web-sessions", "players on the web and by Telnet in one hall, quit, a stop, a full server", on_demand=True)
+def why_not_behind_a_proxy():
+    """What went otherwise where the door has an address and a free port of its own, and its page the origin of a proxy;
+    nothing where who says that origin is let in there, and nobody else, and not at another address.
+    """
+    words = ["--web-port", "0", "--web-address", OTHER_HOST, "--web-origin", PROXY]
+    with Server(program("mud_serve"), words) as server:
+        port = int(server.process.stdout.readline().removeprefix(b"web on "))
+        requests = [upgrade(PROXY) + closing(1000), upgrade(f"http://{OTHER_HOST}:{port}")]
+        given = [status(answered(port, one, host=OTHER_HOST)) for one in requests]
+        try:
+            answered(port, requests[0])
+        except ConnectionRefusedError:
+            given.append(None)
+    return "" if given == [101, 403, None] else f"{given}"
+
+
+@part("web-sessions", "players on the web and by Telnet in one hall, quit, a stop, a full server")
 def web_sessions(count):
     for name, why in [
         ("together", why_not_together()),
         ("the server stops", why_not_stopped()),
         ("the server is full", why_not_full()),
         ("one message for each answer", why_not_one_message_each()),
+        ("behind a proxy", why_not_behind_a_proxy()),
     ]:
         count(name, not why, why)

@@ -14,8 +14,16 @@ CONTINUATION, TEXT, BINARY, CLOSE, PING, PONG = 0, 1, 2, 8, 9, 10
 SHORT, LONG = 126, 65_536  # From so many bytes on a length takes two bytes more, or eight.
 
 
-class Broken(Exception):
+class Broken(ValueError):
     """The server sent what no server may."""
+
+
+class NotLetIn(ConnectionError):
+    """The server refused to let a client play, by this status; None where it said nothing."""
+
+    def __init__(self, status):
+        super().__init__(f"not let in: {status}")
+        self.status = status
 
 
 def frame(opcode, payload=b"", final=True, masked=True, reserved=0, claimed=None, longest=False):
@@ -49,9 +57,9 @@ def upgrade(origin, path="/play", key=None, extra=b""):
     return "\r\n".join(fields).encode() + b"\r\nSec-WebSocket-Key: " + key + b"\r\n" + extra + b"\r\n"
 
 
-def answered(port, request, seconds=SECONDS):
+def answered(port, request, seconds=SECONDS, host=HOST):
     """All that is answered to these bytes, up to the end."""
-    with socket.create_connection((HOST, port), timeout=seconds) as dialled:
+    with socket.create_connection((host, port), timeout=seconds) as dialled:
         dialled.sendall(request)
         return rest_of(dialled)
 
@@ -86,12 +94,14 @@ class WebClient:
         self.give(upgrade(origin, key=key) + first)
         while b"\r\n\r\n" not in self.frames:
             if not self.receive():
-                raise Broken(f"no head: {self.frames}")
+                raise NotLetIn(None)
         head, _, self.frames = self.frames.partition(b"\r\n\r\n")
+        if status(head) != 101:
+            raise NotLetIn(status(head))
         accept = base64.b64encode(hashlib.sha1(key + GUID).digest())
         lines = [line.lower() for line in head.split(b"\r\n")]
-        if status(head) != 101 or b"sec-websocket-accept: " + accept.lower() not in lines or accept not in head:
-            raise Broken(f"not let in: {head}")
+        if b"sec-websocket-accept: " + accept.lower() not in lines or accept not in head:
+            raise Broken(f"not let in rightly: {head}")
         self.read_frames()
 
     def give(self, some):
@@ -101,6 +111,10 @@ class WebClient:
     def send(self, line):
         """Types a line."""
         self.give(frame(TEXT, line))
+
+    def send_all(self, lines):
+        """Types lines, each in a message of its own, in one piece."""
+        self.give(b"".join(frame(TEXT, line) for line in lines))
 
     def receive(self):
         """Whether more bytes came."""
@@ -171,3 +185,7 @@ class WebClient:
 
     def close(self):
         self.socket.close()
+
+    def close_half(self):
+        """Sends no more."""
+        self.socket.shutdown(socket.SHUT_WR)

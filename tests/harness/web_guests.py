@@ -9,7 +9,7 @@ from harness.guests import NOTICED, SOON, is_refused, is_soon, parting
 from harness.parts import part
 from harness.server import HOST, Client
 from harness.visit import QUICK
-from harness.web import WebServer
+from harness.web import PAGE, WebServer
 from harness.web_client import BINARY, PING, TEXT, NotLetIn, closing, frame, upgrade
 
 # How long a server may take to end that is stopped while requests are begun.
@@ -144,7 +144,7 @@ def why_slow_at_stop():
         begun = [socket.create_connection((HOST, server.web_port), timeout=10) for _ in range(8)]
         for one in begun:
             one.sendall(b"GET / HT")
-        time.sleep(0.2)
+        server.ask(PAGE)  # Connections are taken in the order in which they come, so the others are heard by now.
         began = time.monotonic()
         server.type(b"stop\n")
         status, _ = server.end(SOON + STOPPED)

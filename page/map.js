@@ -7,6 +7,7 @@ const MOST_LETTERS = 18; // Letters of a label.
 const CELL = { wide: 220, tall: 110 }, BOX = { wide: 150, tall: 34 };
 const STUB = 62; // How far a way is drawn whose end is not known.
 const APART = 5; // How far a way is drawn beside the middle, so that the way back has a line of its own.
+const NEAR = 7, MOST_TRIED = 40; // How many cells away a room is put at most, and how many cells are tried.
 
 // Where the names of ways lead, on the grid.
 const STEPS = {
@@ -27,34 +28,96 @@ function roomLabel(world, number) {
   return `${short(world.rooms.get(number) ?? "?")} #${number}`;
 }
 
-// The cells of the rooms that are drawn, each its own: from the room where the player is, way by way, and then from
-// each other room.
+// Whether a straight way of so many steps passes the box of the cell that is so many steps from its beginning.
+function passes(dx, dy, x, y) {
+  const half = { wide: BOX.wide / 2 + APART, tall: BOX.tall / 2 + APART };
+  const across = Math.abs(dx) * CELL.wide * half.tall + Math.abs(dy) * CELL.tall * half.wide;
+  return Math.abs(dx * y - dy * x) * CELL.wide * CELL.tall < across;
+}
+
+// The cells that are passed by a way of so many steps, but for its ends, as steps from its beginning.
+const passedBySteps = new Map();
+
+function passedBy(dx, dy) {
+  const key = `${dx} ${dy}`;
+  if (passedBySteps.has(key)) return passedBySteps.get(key);
+  const found = [], [left, right, top, low] = [Math.min(0, dx), Math.max(0, dx), Math.min(0, dy), Math.max(0, dy)];
+  for (let x = left; x <= right; x += 1)
+    for (let y = top; y <= low; y += 1)
+      if ((x || y) && (x !== dx || y !== dy) && passes(dx, dy, x, y)) found.push([x, y]);
+  passedBySteps.set(key, found);
+  return found;
+}
+
+// The steps to the cells round a cell, the nearest first: more than there are rooms on the picture.
+const NEARBY = [];
+for (let x = -NEAR; x <= NEAR; x += 1) for (let y = -NEAR; y <= NEAR; y += 1) NEARBY.push([x, y]);
+NEARBY.sort((a, b) => Math.hypot(...a) - Math.hypot(...b));
+
+// The rooms on a grid, each in a cell of its own. Ways are straight: where a room is put decides what they pass.
+class Grid {
+  constructor(world) {
+    this.at = new Map(); // The cell of each room that was put.
+    this.taken = new Set(); // The cells of those rooms, and the cells that ways pass between those.
+    this.passed = new Set();
+    this.linked = new Map([...world.rooms.keys()].map((room) => [room, new Set()]));
+    for (const { from, to } of world.exits.values()) {
+      this.linked.get(from)?.add(to);
+      this.linked.get(to)?.add(from);
+    }
+  }
+
+  // The cells that the ways between this room, were it there, and those that were put pass.
+  passedFrom(room, [x, y]) {
+    const others = [...this.linked.get(room)].filter((other) => this.at.has(other)).map((other) => this.at.get(other));
+    return others.flatMap(([x2, y2]) => passedBy(x2 - x, y2 - y).map(([dx, dy]) => `${x + dx} ${y + dy}`));
+  }
+
+  // In how many places a way would pass behind a box, were this room there.
+  hidden(room, cell) {
+    const passed = this.passedFrom(room, cell).filter((one) => this.taken.has(one));
+    return passed.length + (this.passed.has(cell.join(" ")) ? 1 : 0);
+  }
+
+  // Puts a room into this cell, or into a free one near it where fewer ways are hidden.
+  put(room, x, y) {
+    let best, fewest = Infinity, tried = 0;
+    for (const [dx, dy] of NEARBY) {
+      const cell = [x + dx, y + dy];
+      if (this.taken.has(cell.join(" "))) continue;
+      const count = this.hidden(room, cell);
+      if (count < fewest) [best, fewest] = [cell, count];
+      tried += 1;
+      if (fewest === 0 || tried === MOST_TRIED) break;
+    }
+    this.at.set(room, best);
+    this.taken.add(best.join(" "));
+    for (const one of this.passedFrom(room, best)) this.passed.add(one);
+  }
+}
+
+// The cells of the rooms that are drawn: from the room where the player is, way by way, and then from each other room.
 function cells(world) {
-  const at = new Map(), taken = new Set();
-  const put = (room, x, y, dx, dy) => {
-    while (taken.has(`${x} ${y}`)) [x, y] = [x + dx, y + dy];
-    at.set(room, [x, y]);
-    taken.add(`${x} ${y}`);
-  };
+  const grid = new Grid(world), { at } = grid;
   const starts = [...world.rooms.keys()].sort((a, b) => (b === world.here) - (a === world.here) || a - b);
   for (const start of starts) {
     if (at.has(start) || at.size >= MOST_DRAWN) continue;
-    put(start, 0, at.size ? Math.max(...[...at.values()].map(([, y]) => y)) + 1 : 0, 1, 0);
-    spread(world, at, start, put);
+    grid.put(start, 0, at.size ? Math.max(...[...at.values()].map(([, y]) => y)) + 1 : 0);
+    spread(world, grid, start);
   }
   return at;
 }
 
 // Puts the rooms that can be reached from one that was put.
-function spread(world, at, start, put) {
+function spread(world, grid, start) {
   const queue = [start];
   while (queue.length) {
-    const room = queue.shift(), [x, y] = at.get(room);
+    const room = queue.shift(), [x, y] = grid.at.get(room);
     for (const number of world.exitsOf(room)) {
       const exit = world.exits.get(number);
-      if (exit.to === undefined || at.has(exit.to) || at.size >= MOST_DRAWN) continue;
+      if (exit.to === undefined || grid.at.has(exit.to) || grid.at.size >= MOST_DRAWN) continue;
       const [dx, dy] = stepOf(exit);
-      put(exit.to, x + dx, y + dy, dx, dy);
+      grid.put(exit.to, x + dx, y + dy);
       queue.push(exit.to);
     }
   }

@@ -35,6 +35,53 @@ test("nothing overlaps, whatever the world", () => {
   }
 });
 
+// A world of rooms that were dug one from another, each with a way there and one back.
+function dug(seed, roomCount) {
+  const ways = ["north", "south", "east", "west", "up", "down", "nw", "gap"];
+  const made = new logic.World();
+  let state = seed;
+  const below = (most) => {
+    state = (Math.imul(state, 1103515245) + 12345) & 0x7fffffff;
+    return (state >> 8) % most;
+  };
+  made.room(0, "The Hall");
+  for (let room = 1; room < roomCount; room += 1) {
+    const from = below(room), at = below(ways.length);
+    made.exit(1000 + 2 * room, { name: ways[at], from, to: room });
+    made.exit(1001 + 2 * room, { name: ways[at ^ 1], from: room, to: from });
+  }
+  made.here = below(roomCount);
+  return made;
+}
+
+// The ways that pass behind the box of a room where they neither begin nor end.
+function hidden({ boxes, ways }, world) {
+  const steps = Array.from({ length: 201 }, (_, step) => step / 200);
+  const isIn = (x, y, box) => box.x < x && x < box.x + box.wide && box.y < y && y < box.y + box.tall;
+  return ways.filter(({ exit, x1, y1, x2, y2 }) => {
+    const { from, to } = world.exits.get(exit);
+    return boxes.some((box) => box.room !== from && box.room !== to &&
+      steps.some((part) => isIn(x1 + (x2 - x1) * part, y1 + (y2 - y1) * part, box)));
+  });
+}
+
+test("no way passes behind a room where rooms were dug one from another", () => {
+  for (let seed = 1; seed <= 60; seed += 1) {
+    const made = dug(seed, 2 + seed % 30);
+    assert.deepEqual(hidden(logic.picture(made), made), [], `world ${seed}`);
+  }
+});
+
+test("a way that leads where a room is already leads past it", () => {
+  const made = new logic.World();
+  const told = [[4, "north", 0, 3], [5, "south", 3, 0], [8, "up", 0, 7], [9, "down", 7, 0], [11, "east", 3, 10]];
+  for (const [exit, name, from, to] of told) made.exit(exit, { name, from, to });
+  made.here = 0;
+  const drawn = logic.picture(made);
+  assert.deepEqual(hidden(drawn, made), []);
+  assert.deepEqual(overlaps(drawn), []);
+});
+
 test("each room of a small world is drawn, and each of its exits has a label", () => {
   const small = new logic.World();
   for (const [room, name] of [[0, "The Hall"], [2, "Yard"], [5, "Library"], [8, "Cellar"]]) small.room(room, name);

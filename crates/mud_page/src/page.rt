@@ -2,9 +2,9 @@
 
 /// The whole answer to a browser that asks for the page: its head, and the page behind it.
 pub const PAGE: &[u8] = b"\
-HTTP/1.1 200 OK\r\nConnection: close\r\nContent-Type: text/html; charset=utf-8\r\nContent-Length: 23868\r\nCon\
+HTTP/1.1 200 OK\r\nConnection: close\r\nContent-Type: text/html; charset=utf-8\r\nContent-Length: 26039\r\nCon\
 tent-Security-Policy: default-src 'none'; connect-src 'self'; style-src 'sha256-hgtxpVvdHLnGF86mULH4ChLjFAbDs1\
-olc52l3VgshFM='; script-src 'sha256-ymdTzz9r2ryeJi9u4a0HUr1lGATv++c840dEcFfn4oY='; base-uri 'none'; form-actio\
+olc52l3VgshFM='; script-src 'sha256-GJyUavDG0iK6UnOPjP8jcE7hNjHBuI+9yqsF/eEbg9E='; base-uri 'none'; form-actio\
 n 'none'; frame-ancestors 'none'\r\nCross-Origin-Opener-Policy: same-origin\r\nCross-Origin-Resource-Policy: s\
 ame-origin\r\nReferrer-Policy: no-referrer\r\nX-Content-Type-Options: nosniff\r\nX-Frame-Options: DENY\r\nCach\
 e-Control: no-cache\r\n\r\n<!doctype html>\n<html lang=\"en\">\n<head>\n<meta charset=\"utf-8\">\n<meta name=\
@@ -136,101 +136,121 @@ n}-${this.proofCount}.txt`, text });\nif (this.proofs.length > MOST_PROOFS) this
 N = 150; // Rooms on the picture; the list has all.\nconst LETTER = 6.8, TALL = 14; // A letter's width, and a\
 \x20line's height.\nconst MOST_LETTERS = 18; // Letters of a label.\nconst CELL = { wide: 220, tall: 110 }, BO\
 X = { wide: 150, tall: 34 };\nconst STUB = 62; // How far a way is drawn whose end is not known.\nconst APART \
-= 5; // How far a way is drawn beside the middle, so that the way back has a line of its own.\nconst STEPS = {\
-\nnorth: [0, -1], south: [0, 1], east: [1, 0], west: [-1, 0], northeast: [1, -1], northwest: [-1, -1],\nsouthe\
-ast: [1, 1], southwest: [-1, 1], up: [1, -1], down: [-1, 1], n: [0, -1], s: [0, 1], e: [1, 0], w: [-1, 0],\nne\
-: [1, -1], nw: [-1, -1], se: [1, 1], sw: [-1, 1], u: [1, -1], d: [-1, 1],\n};\nfunction stepOf(exit) {\nreturn\
-\x20STEPS[(exit.name ?? \"\").toLowerCase()] ?? [1, 0];\n}\nfunction short(text) {\nreturn text.length > MOST_\
-LETTERS ? text.slice(0, MOST_LETTERS - 2) + \"..\" : text;\n}\nfunction roomLabel(world, number) {\nreturn `${\
-short(world.rooms.get(number) ?? \"?\")} #${number}`;\n}\nfunction cells(world) {\nconst at = new Map(), taken\
-\x20= new Set();\nconst put = (room, x, y, dx, dy) => {\nwhile (taken.has(`${x} ${y}`)) [x, y] = [x + dx, y + \
-dy];\nat.set(room, [x, y]);\ntaken.add(`${x} ${y}`);\n};\nconst starts = [...world.rooms.keys()].sort((a, b) =\
-> (b === world.here) - (a === world.here) || a - b);\nfor (const start of starts) {\nif (at.has(start) || at.s\
-ize >= MOST_DRAWN) continue;\nput(start, 0, at.size ? Math.max(...[...at.values()].map(([, y]) => y)) + 1 : 0,\
-\x201, 0);\nspread(world, at, start, put);\n}\nreturn at;\n}\nfunction spread(world, at, start, put) {\nconst \
-queue = [start];\nwhile (queue.length) {\nconst room = queue.shift(), [x, y] = at.get(room);\nfor (const numbe\
-r of world.exitsOf(room)) {\nconst exit = world.exits.get(number);\nif (exit.to === undefined || at.has(exit.t\
-o) || at.size >= MOST_DRAWN) continue;\nconst [dx, dy] = stepOf(exit);\nput(exit.to, x + dx, y + dy, dx, dy);\
-\nqueue.push(exit.to);\n}\n}\n}\nfunction around(x, y, wide, tall) {\nreturn { x: x - wide / 2, y: y - tall / \
-2, wide, tall };\n}\nfunction overlap(a, b) {\nreturn a.x < b.x + b.wide && b.x < a.x + a.wide && a.y < b.y + \
-b.tall && b.y < a.y + a.tall;\n}\nfunction* spots(x1, y1, x2, y2) {\nfor (const part of [0.34, 0.42, 0.5, 0.27\
-, 0.58, 0.66, 0.2])\nfor (const [dx, dy] of [[0, 0], [0, -TALL], [0, TALL], [-46, 0], [46, 0], [0, -2 * TALL],\
-\x20[0, 2 * TALL]])\nyield [x1 + (x2 - x1) * part + dx, y1 + (y2 - y1) * part + dy];\n}\nfunction beside(x1, y\
-1, x2, y2) {\nconst part = APART / Math.hypot(x2 - x1, y2 - y1), dx = (y1 - y2) * part, dy = (x2 - x1) * part;\
-\nreturn [x1 + dx, y1 + dy, x2 + dx, y2 + dy];\n}\nfunction endsOf(exit, middle) {\nconst [x1, y1] = middle(ex\
-it.from);\nif (exit.to !== undefined && exit.to !== exit.from && middle(exit.to)) return beside(x1, y1, ...mid\
-dle(exit.to));\nconst [dx, dy] = exit.to === exit.from ? [0, 1] : stepOf(exit);\nreturn [x1, y1, x1 + dx * (BO\
-X.wide / 2 + STUB / 2), y1 + dy * STUB];\n}\nfunction exitLabel(exit) {\nreturn short(exit.name ?? \"?\") + (e\
-xit.locked ? \" (locked)\" : \"\") + (exit.to === exit.from ? \" (back here)\" : \"\");\n}\nfunction picture(w\
-orld) {\nconst at = cells(world), xs = [...at.values()].map(([x]) => x), ys = [...at.values()].map(([, y]) => \
-y);\nconst left = Math.min(0, ...xs), top = Math.min(0, ...ys);\nconst middle = (room) => {\nconst cell = at.g\
-et(room);\nreturn cell && [(cell[0] - left + 0.5) * CELL.wide, (cell[1] - top + 0.5) * CELL.tall];\n};\nconst \
-boxes = [...at.keys()].map((room) => ({\nroom, label: roomLabel(world, room), isHere: room === world.here, ...\
-around(...middle(room), BOX.wide, BOX.tall),\n}));\nconst drawn = [...world.exits].filter(([, exit]) => at.has\
-(exit.from)).sort(([a], [b]) => a - b);\nconst ways = [], labels = [];\nfor (const [number, exit] of drawn) {\
-\nconst [x1, y1, x2, y2] = endsOf(exit, middle);\nconst isRoute = world.route.includes(number);\nways.push({ e\
-xit: number, x1, y1, x2, y2, isLocked: exit.locked === true, isRoute });\nconst text = exitLabel(exit);\nfor (\
-const [x, y] of spots(x1, y1, x2, y2)) {\nconst label = { exit: number, text, isRoute, ...around(x, y, text.le\
-ngth * LETTER, TALL) };\nif ([...boxes, ...labels].some((other) => overlap(label, other))) continue;\nlabels.p\
-ush(label);\nbreak;\n}\n}\nconst wide = (Math.max(0, ...xs) - left + 1) * CELL.wide, tall = (Math.max(0, ...ys\
-) - top + 1) * CELL.tall;\nreturn { wide, tall, boxes, ways, labels };\n}\nfunction listOf(world) {\nreturn [.\
-..world.rooms.keys()].sort((a, b) => a - b).map((room) => {\nconst ways = world.exitsOf(room).map((number) => \
-wayText(world, number));\nconst here = room === world.here ? \", you are here\" : \"\";\nconst name = `${world\
-.rooms.get(room) ?? \"a room\"} #${room}`;\nreturn { room, text: name + here + (ways.length ? \": \" + ways.jo\
-in(\", \") : \"\") };\n});\n}\nfunction wayText(world, number) {\nconst exit = world.exits.get(number);\nconst\
-\x20to = exit.to === undefined ? \"\" : ` to #${exit.to}`;\nconst notes = (exit.locked ? \" (locked)\" : \"\")\
-\x20+ (world.route.includes(number) ? \" (on the route)\" : \"\");\nreturn (exit.name ?? \"an exit\") + to + n\
-otes;\n}\nconst MOST_LINES = 5000; // Lines that the log keeps.\nconst MOST_HISTORY = 200; // Lines that the a\
-rrow keys go through.\nconst FIRST_WAIT = 1000, MOST_WAIT = 30000; // Milliseconds before the next try to conn\
-ect.\nconst MOST_LISTED = 500; // Rooms in the list.\nconst SMALLEST = 0.8; // How small the map is drawn at m\
-ost, so that it can be read.\nconst HAS_LEFT = 1000; // The close code after `quit` (RFC 6455, section 7.4.1).\
-\nconst part = (id) => document.getElementById(id);\nconst log = part(\"log\"), input = part(\"line\"), state \
-= part(\"state\");\nconst conversation = new Conversation();\nlet isAtEnd = true;\nlog.addEventListener(\"scro\
-ll\", () => {\nisAtEnd = log.scrollTop + log.clientHeight >= log.scrollHeight - 4;\n});\nnew ResizeObserver(to\
-End).observe(log);\nfunction toEnd() {\nif (isAtEnd) log.scrollTop = log.scrollHeight;\n}\nfunction show(text,\
-\x20kind) {\nconst line = document.createElement(\"span\");\nline.className = kind;\nline.textContent = text +\
-\x20\"\\n\";\nlog.append(line);\nwhile (log.childNodes.length > MOST_LINES) log.firstChild.remove();\ntoEnd();\
-\n}\nlet socket, timer, wait = FIRST_WAIT;\nfunction connect() {\nclearTimeout(timer);\nif (socket) {\nsocket.\
-onclose = socket.onmessage = null;\nsocket.close();\n}\nconversation.begin();\nstate.textContent = \"connectin\
-g ..\";\nsocket = new WebSocket(location.origin.replace(/^http/, \"ws\") + \"/play\");\nsocket.onopen = () => \
-{\nstate.textContent = \"connected\";\nwait = FIRST_WAIT;\n};\nsocket.onmessage = (event) => {\nfor (const { t\
-ext, kind } of conversation.take(event.data)) show(text, kind);\ndraw();\n};\nsocket.onclose = closed;\n}\nfun\
-ction closed(event) {\nconversation.end();\nconst isLeft = conversation.hasLeft || event.code === HAS_LEFT;\nc\
-onst seconds = Math.round(wait / 1000);\nshow(`-- disconnected (${event.code}) --`, \"off\");\nstate.textConte\
-nt = isLeft ? \"disconnected\" : `disconnected: next try in ${seconds} s`;\nif (isLeft) return;\ntimer = setTi\
-meout(connect, wait);\nwait = Math.min(MOST_WAIT, wait * 2);\n}\nfunction say(line) {\nif (!socket || socket.r\
-eadyState !== WebSocket.OPEN) return show(\"-- not connected --\", \"off\");\nshow(\"> \" + line, \"mine\");\n\
-socket.send(line);\nconversation.say(line);\n}\nfunction shape(name, attributes, text) {\nconst node = documen\
-t.createElementNS(\"http://www.w3.org/2000/svg\", name);\nfor (const key in attributes) node.setAttribute(key,\
-\x20attributes[key]);\nif (text !== undefined) node.textContent = text;\nreturn node;\n}\nfunction label({ x, \
-y, wide, tall }, text, kind) {\nconst size = { textLength: Math.min(wide, text.length * LETTER), lengthAdjust:\
-\x20\"spacingAndGlyphs\" };\nreturn shape(\"text\", { class: kind, x: x + wide / 2, y: y + tall / 2, ...size }\
-, text);\n}\nfunction roomShape(box) {\nconst group = shape(\"g\", { class: box.isHere ? \"here\" : \"room\" }\
-);\ngroup.append(shape(\"rect\", { x: box.x, y: box.y, width: box.wide, height: box.tall, rx: 5 }));\ngroup.ap\
-pend(label(box, box.label, \"name\"));\ngroup.addEventListener(\"click\", () => typeRoute(box.room));\nreturn \
-group;\n}\nfunction draw() {\nconst { wide, tall, boxes, ways, labels } = picture(conversation.world);\nconst \
-scale = Math.max(SMALLEST, Math.min(1, part(\"picture\").clientWidth / wide));\nconst svg = shape(\"svg\", { w\
-idth: wide * scale, height: tall * scale, viewBox: `0 0 ${wide} ${tall}` });\nfor (const { x1, y1, x2, y2, isL\
-ocked, isRoute } of ways) {\nconst kinds = [isLocked && \"locked\", isRoute && \"route\"].filter(Boolean).join\
-(\" \");\nsvg.append(shape(\"line\", { x1, y1, x2, y2, class: kinds }));\n}\nfor (const box of boxes) svg.appe\
-nd(roomShape(box));\nfor (const one of labels) svg.append(label(one, one.text, \"way\"));\npart(\"picture\").r\
-eplaceChildren(...(boxes.length ? [svg] : []));\nconst here = boxes.find((box) => box.isHere);\nif (here) part\
-(\"picture\").scrollLeft = (here.x + here.wide / 2) * scale - part(\"picture\").clientWidth / 2;\npart(\"rooms\
-\").replaceChildren(...listOf(conversation.world).slice(0, MOST_LISTED).map(roomItem));\n}\nfunction roomItem(\
-{ room, text }) {\nconst item = document.createElement(\"li\"), button = document.createElement(\"button\");\n\
-button.type = \"button\";\nbutton.textContent = text;\nbutton.addEventListener(\"click\", () => typeRoute(room\
-));\nitem.append(button);\nreturn item;\n}\nfunction typeRoute(room) {\ninput.value = `route to #${room}`;\nin\
-put.focus();\n}\nfunction save() {\nconst files = conversation.files();\nif (!files.length) return show(\"-- n\
-othing to save: type @history, or proof route to a room --\", \"off\");\nfor (const { name, text } of files) {\
-\nconst link = document.createElement(\"a\");\nlink.href = URL.createObjectURL(new Blob([text], { type: \"text\
-/plain\" }));\nlink.download = name;\nlink.click();\nsetTimeout(() => URL.revokeObjectURL(link.href), MOST_WAI\
-T);\n}\n}\nconst earlier = [];\nlet place = 0, draft = \"\";\npart(\"form\").addEventListener(\"submit\", (eve\
-nt) => {\nevent.preventDefault();\nconst line = typed(input.value);\nif (line === \"\") return;\nsay(line);\ni\
-f (earlier[earlier.length - 1] !== line) earlier.push(line);\nif (earlier.length > MOST_HISTORY) earlier.shift\
-();\nplace = earlier.length;\ndraft = input.value = \"\";\n});\ninput.addEventListener(\"keydown\", (event) =>\
-\x20{\nif (event.key !== \"ArrowUp\" && event.key !== \"ArrowDown\") return;\nevent.preventDefault();\nif (pla\
-ce === earlier.length) draft = input.value;\nplace = Math.max(0, Math.min(earlier.length, place + (event.key =\
-== \"ArrowUp\" ? -1 : 1)));\ninput.value = place === earlier.length ? draft : earlier[place];\n});\npart(\"con\
-nect\").addEventListener(\"click\", () => {\nwait = FIRST_WAIT;\nconnect();\n});\npart(\"save\").addEventListe\
-ner(\"click\", save);\npart(\"map\").open = window.matchMedia(\"(min-width: 52.01rem)\").matches;\ndraw();\nco\
-nnect();\n</script>\n</body>\n</html>\n";
+= 5; // How far a way is drawn beside the middle, so that the way back has a line of its own.\nconst NEAR = 7,\
+\x20MOST_TRIED = 40; // How many cells away a room is put at most, and how many cells are tried.\nconst STEPS \
+= {\nnorth: [0, -1], south: [0, 1], east: [1, 0], west: [-1, 0], northeast: [1, -1], northwest: [-1, -1],\nsou\
+theast: [1, 1], southwest: [-1, 1], up: [1, -1], down: [-1, 1], n: [0, -1], s: [0, 1], e: [1, 0], w: [-1, 0],\
+\nne: [1, -1], nw: [-1, -1], se: [1, 1], sw: [-1, 1], u: [1, -1], d: [-1, 1],\n};\nfunction stepOf(exit) {\nre\
+turn STEPS[(exit.name ?? \"\").toLowerCase()] ?? [1, 0];\n}\nfunction short(text) {\nreturn text.length > MOST\
+_LETTERS ? text.slice(0, MOST_LETTERS - 2) + \"..\" : text;\n}\nfunction roomLabel(world, number) {\nreturn `$\
+{short(world.rooms.get(number) ?? \"?\")} #${number}`;\n}\nfunction passes(dx, dy, x, y) {\nconst half = { wid\
+e: BOX.wide / 2 + APART, tall: BOX.tall / 2 + APART };\nconst across = Math.abs(dx) * CELL.wide * half.tall + \
+Math.abs(dy) * CELL.tall * half.wide;\nreturn Math.abs(dx * y - dy * x) * CELL.wide * CELL.tall < across;\n}\n\
+const passedBySteps = new Map();\nfunction passedBy(dx, dy) {\nconst key = `${dx} ${dy}`;\nif (passedBySteps.h\
+as(key)) return passedBySteps.get(key);\nconst found = [], [left, right, top, low] = [Math.min(0, dx), Math.ma\
+x(0, dx), Math.min(0, dy), Math.max(0, dy)];\nfor (let x = left; x <= right; x += 1)\nfor (let y = top; y <= l\
+ow; y += 1)\nif ((x || y) && (x !== dx || y !== dy) && passes(dx, dy, x, y)) found.push([x, y]);\npassedByStep\
+s.set(key, found);\nreturn found;\n}\nconst NEARBY = [];\nfor (let x = -NEAR; x <= NEAR; x += 1) for (let y = \
+-NEAR; y <= NEAR; y += 1) NEARBY.push([x, y]);\nNEARBY.sort((a, b) => Math.hypot(...a) - Math.hypot(...b));\nc\
+lass Grid {\nconstructor(world) {\nthis.at = new Map(); // The cell of each room that was put.\nthis.taken = n\
+ew Set(); // The cells of those rooms, and the cells that ways pass between those.\nthis.passed = new Set();\n\
+this.linked = new Map([...world.rooms.keys()].map((room) => [room, new Set()]));\nfor (const { from, to } of w\
+orld.exits.values()) {\nthis.linked.get(from)?.add(to);\nthis.linked.get(to)?.add(from);\n}\n}\npassedFrom(roo\
+m, [x, y]) {\nconst others = [...this.linked.get(room)].filter((other) => this.at.has(other)).map((other) => t\
+his.at.get(other));\nreturn others.flatMap(([x2, y2]) => passedBy(x2 - x, y2 - y).map(([dx, dy]) => `${x + dx}\
+\x20${y + dy}`));\n}\nhidden(room, cell) {\nconst passed = this.passedFrom(room, cell).filter((one) => this.ta\
+ken.has(one));\nreturn passed.length + (this.passed.has(cell.join(\" \")) ? 1 : 0);\n}\nput(room, x, y) {\nlet\
+\x20best, fewest = Infinity, tried = 0;\nfor (const [dx, dy] of NEARBY) {\nconst cell = [x + dx, y + dy];\nif \
+(this.taken.has(cell.join(\" \"))) continue;\nconst count = this.hidden(room, cell);\nif (count < fewest) [bes\
+t, fewest] = [cell, count];\ntried += 1;\nif (fewest === 0 || tried === MOST_TRIED) break;\n}\nthis.at.set(roo\
+m, best);\nthis.taken.add(best.join(\" \"));\nfor (const one of this.passedFrom(room, best)) this.passed.add(o\
+ne);\n}\n}\nfunction cells(world) {\nconst grid = new Grid(world), { at } = grid;\nconst starts = [...world.ro\
+oms.keys()].sort((a, b) => (b === world.here) - (a === world.here) || a - b);\nfor (const start of starts) {\n\
+if (at.has(start) || at.size >= MOST_DRAWN) continue;\ngrid.put(start, 0, at.size ? Math.max(...[...at.values(\
+)].map(([, y]) => y)) + 1 : 0);\nspread(world, grid, start);\n}\nreturn at;\n}\nfunction spread(world, grid, s\
+tart) {\nconst queue = [start];\nwhile (queue.length) {\nconst room = queue.shift(), [x, y] = grid.at.get(room\
+);\nfor (const number of world.exitsOf(room)) {\nconst exit = world.exits.get(number);\nif (exit.to === undefi\
+ned || grid.at.has(exit.to) || grid.at.size >= MOST_DRAWN) continue;\nconst [dx, dy] = stepOf(exit);\ngrid.put\
+(exit.to, x + dx, y + dy);\nqueue.push(exit.to);\n}\n}\n}\nfunction around(x, y, wide, tall) {\nreturn { x: x \
+- wide / 2, y: y - tall / 2, wide, tall };\n}\nfunction overlap(a, b) {\nreturn a.x < b.x + b.wide && b.x < a.\
+x + a.wide && a.y < b.y + b.tall && b.y < a.y + a.tall;\n}\nfunction* spots(x1, y1, x2, y2) {\nfor (const part\
+\x20of [0.34, 0.42, 0.5, 0.27, 0.58, 0.66, 0.2])\nfor (const [dx, dy] of [[0, 0], [0, -TALL], [0, TALL], [-46,\
+\x200], [46, 0], [0, -2 * TALL], [0, 2 * TALL]])\nyield [x1 + (x2 - x1) * part + dx, y1 + (y2 - y1) * part + d\
+y];\n}\nfunction beside(x1, y1, x2, y2) {\nconst part = APART / Math.hypot(x2 - x1, y2 - y1), dx = (y1 - y2) *\
+\x20part, dy = (x2 - x1) * part;\nreturn [x1 + dx, y1 + dy, x2 + dx, y2 + dy];\n}\nfunction endsOf(exit, middl\
+e) {\nconst [x1, y1] = middle(exit.from);\nif (exit.to !== undefined && exit.to !== exit.from && middle(exit.t\
+o)) return beside(x1, y1, ...middle(exit.to));\nconst [dx, dy] = exit.to === exit.from ? [0, 1] : stepOf(exit)\
+;\nreturn [x1, y1, x1 + dx * (BOX.wide / 2 + STUB / 2), y1 + dy * STUB];\n}\nfunction exitLabel(exit) {\nretur\
+n short(exit.name ?? \"?\") + (exit.locked ? \" (locked)\" : \"\") + (exit.to === exit.from ? \" (back here)\"\
+\x20: \"\");\n}\nfunction picture(world) {\nconst at = cells(world), xs = [...at.values()].map(([x]) => x), ys\
+\x20= [...at.values()].map(([, y]) => y);\nconst left = Math.min(0, ...xs), top = Math.min(0, ...ys);\nconst m\
+iddle = (room) => {\nconst cell = at.get(room);\nreturn cell && [(cell[0] - left + 0.5) * CELL.wide, (cell[1] \
+- top + 0.5) * CELL.tall];\n};\nconst boxes = [...at.keys()].map((room) => ({\nroom, label: roomLabel(world, r\
+oom), isHere: room === world.here, ...around(...middle(room), BOX.wide, BOX.tall),\n}));\nconst drawn = [...wo\
+rld.exits].filter(([, exit]) => at.has(exit.from)).sort(([a], [b]) => a - b);\nconst ways = [], labels = [];\n\
+for (const [number, exit] of drawn) {\nconst [x1, y1, x2, y2] = endsOf(exit, middle);\nconst isRoute = world.r\
+oute.includes(number);\nways.push({ exit: number, x1, y1, x2, y2, isLocked: exit.locked === true, isRoute });\
+\nconst text = exitLabel(exit);\nfor (const [x, y] of spots(x1, y1, x2, y2)) {\nconst label = { exit: number, \
+text, isRoute, ...around(x, y, text.length * LETTER, TALL) };\nif ([...boxes, ...labels].some((other) => overl\
+ap(label, other))) continue;\nlabels.push(label);\nbreak;\n}\n}\nconst wide = (Math.max(0, ...xs) - left + 1) \
+* CELL.wide, tall = (Math.max(0, ...ys) - top + 1) * CELL.tall;\nreturn { wide, tall, boxes, ways, labels };\n\
+}\nfunction listOf(world) {\nreturn [...world.rooms.keys()].sort((a, b) => a - b).map((room) => {\nconst ways \
+= world.exitsOf(room).map((number) => wayText(world, number));\nconst here = room === world.here ? \", you are\
+\x20here\" : \"\";\nconst name = `${world.rooms.get(room) ?? \"a room\"} #${room}`;\nreturn { room, text: name\
+\x20+ here + (ways.length ? \": \" + ways.join(\", \") : \"\") };\n});\n}\nfunction wayText(world, number) {\n\
+const exit = world.exits.get(number);\nconst to = exit.to === undefined ? \"\" : ` to #${exit.to}`;\nconst not\
+es = (exit.locked ? \" (locked)\" : \"\") + (world.route.includes(number) ? \" (on the route)\" : \"\");\nretu\
+rn (exit.name ?? \"an exit\") + to + notes;\n}\nconst MOST_LINES = 5000; // Lines that the log keeps.\nconst M\
+OST_HISTORY = 200; // Lines that the arrow keys go through.\nconst FIRST_WAIT = 1000, MOST_WAIT = 30000; // Mi\
+lliseconds before the next try to connect.\nconst MOST_LISTED = 500; // Rooms in the list.\nconst SMALLEST = 0\
+.8; // How small the map is drawn at most, so that it can be read.\nconst HAS_LEFT = 1000; // The close code a\
+fter `quit` (RFC 6455, section 7.4.1).\nconst part = (id) => document.getElementById(id);\nconst log = part(\"\
+log\"), input = part(\"line\"), state = part(\"state\");\nconst conversation = new Conversation();\nlet isAtEn\
+d = true;\nlog.addEventListener(\"scroll\", () => {\nisAtEnd = log.scrollTop + log.clientHeight >= log.scrollH\
+eight - 4;\n});\nnew ResizeObserver(toEnd).observe(log);\nfunction toEnd() {\nif (isAtEnd) log.scrollTop = log\
+.scrollHeight;\n}\nfunction show(text, kind) {\nconst line = document.createElement(\"span\");\nline.className\
+\x20= kind;\nline.textContent = text + \"\\n\";\nlog.append(line);\nwhile (log.childNodes.length > MOST_LINES)\
+\x20log.firstChild.remove();\ntoEnd();\n}\nlet socket, timer, wait = FIRST_WAIT;\nfunction connect() {\nclearT\
+imeout(timer);\nif (socket) {\nsocket.onclose = socket.onmessage = null;\nsocket.close();\n}\nconversation.beg\
+in();\nstate.textContent = \"connecting ..\";\nsocket = new WebSocket(location.origin.replace(/^http/, \"ws\")\
+\x20+ \"/play\");\nsocket.onopen = () => {\nstate.textContent = \"connected\";\nwait = FIRST_WAIT;\n};\nsocket\
+.onmessage = (event) => {\nfor (const { text, kind } of conversation.take(event.data)) show(text, kind);\ndraw\
+();\n};\nsocket.onclose = closed;\n}\nfunction closed(event) {\nconversation.end();\nconst isLeft = conversati\
+on.hasLeft || event.code === HAS_LEFT;\nconst seconds = Math.round(wait / 1000);\nshow(`-- disconnected (${eve\
+nt.code}) --`, \"off\");\nstate.textContent = isLeft ? \"disconnected\" : `disconnected: next try in ${seconds\
+} s`;\nif (isLeft) return;\ntimer = setTimeout(connect, wait);\nwait = Math.min(MOST_WAIT, wait * 2);\n}\nfunc\
+tion say(line) {\nif (!socket || socket.readyState !== WebSocket.OPEN) return show(\"-- not connected --\", \"\
+off\");\nshow(\"> \" + line, \"mine\");\nsocket.send(line);\nconversation.say(line);\n}\nfunction shape(name, \
+attributes, text) {\nconst node = document.createElementNS(\"http://www.w3.org/2000/svg\", name);\nfor (const \
+key in attributes) node.setAttribute(key, attributes[key]);\nif (text !== undefined) node.textContent = text;\
+\nreturn node;\n}\nfunction label({ x, y, wide, tall }, text, kind) {\nconst size = { textLength: Math.min(wid\
+e, text.length * LETTER), lengthAdjust: \"spacingAndGlyphs\" };\nreturn shape(\"text\", { class: kind, x: x + \
+wide / 2, y: y + tall / 2, ...size }, text);\n}\nfunction roomShape(box) {\nconst group = shape(\"g\", { class\
+: box.isHere ? \"here\" : \"room\" });\ngroup.append(shape(\"rect\", { x: box.x, y: box.y, width: box.wide, he\
+ight: box.tall, rx: 5 }));\ngroup.append(label(box, box.label, \"name\"));\ngroup.addEventListener(\"click\", \
+() => typeRoute(box.room));\nreturn group;\n}\nfunction draw() {\nconst { wide, tall, boxes, ways, labels } = \
+picture(conversation.world);\nconst scale = Math.max(SMALLEST, Math.min(1, part(\"picture\").clientWidth / wid\
+e));\nconst svg = shape(\"svg\", { width: wide * scale, height: tall * scale, viewBox: `0 0 ${wide} ${tall}` }\
+);\nfor (const { x1, y1, x2, y2, isLocked, isRoute } of ways) {\nconst kinds = [isLocked && \"locked\", isRout\
+e && \"route\"].filter(Boolean).join(\" \");\nsvg.append(shape(\"line\", { x1, y1, x2, y2, class: kinds }));\n\
+}\nfor (const box of boxes) svg.append(roomShape(box));\nfor (const one of labels) svg.append(label(one, one.t\
+ext, \"way\"));\npart(\"picture\").replaceChildren(...(boxes.length ? [svg] : []));\nconst here = boxes.find((\
+box) => box.isHere);\nif (here) part(\"picture\").scrollLeft = (here.x + here.wide / 2) * scale - part(\"pictu\
+re\").clientWidth / 2;\npart(\"rooms\").replaceChildren(...listOf(conversation.world).slice(0, MOST_LISTED).ma\
+p(roomItem));\n}\nfunction roomItem({ room, text }) {\nconst item = document.createElement(\"li\"), button = d\
+ocument.createElement(\"button\");\nbutton.type = \"button\";\nbutton.textContent = text;\nbutton.addEventList\
+ener(\"click\", () => typeRoute(room));\nitem.append(button);\nreturn item;\n}\nfunction typeRoute(room) {\nin\
+put.value = `route to #${room}`;\ninput.focus();\n}\nfunction save() {\nconst files = conversation.files();\ni\
+f (!files.length) return show(\"-- nothing to save: type @history, or proof route to a room --\", \"off\");\nf\
+or (const { name, text } of files) {\nconst link = document.createElement(\"a\");\nlink.href = URL.createObjec\
+tURL(new Blob([text], { type: \"text/plain\" }));\nlink.download = name;\nlink.click();\nsetTimeout(() => URL.\
+revokeObjectURL(link.href), MOST_WAIT);\n}\n}\nconst earlier = [];\nlet place = 0, draft = \"\";\npart(\"form\
+\").addEventListener(\"submit\", (event) => {\nevent.preventDefault();\nconst line = typed(input.value);\nif (\
+line === \"\") return;\nsay(line);\nif (earlier[earlier.length - 1] !== line) earlier.push(line);\nif (earlier\
+.length > MOST_HISTORY) earlier.shift();\nplace = earlier.length;\ndraft = input.value = \"\";\n});\ninput.add\
+EventListener(\"keydown\", (event) => {\nif (event.key !== \"ArrowUp\" && event.key !== \"ArrowDown\") return;\
+\nevent.preventDefault();\nif (place === earlier.length) draft = input.value;\nplace = Math.max(0, Math.min(ea\
+rlier.length, place + (event.key === \"ArrowUp\" ? -1 : 1)));\ninput.value = place === earlier.length ? draft \
+: earlier[place];\n});\npart(\"connect\").addEventListener(\"click\", () => {\nwait = FIRST_WAIT;\nconnect();\
+\n});\npart(\"save\").addEventListener(\"click\", save);\npart(\"map\").open = window.matchMedia(\"(min-width:\
+\x2052.01rem)\").matches;\ndraw();\nconnect();\n</script>\n</body>\n</html>\n";

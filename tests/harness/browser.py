@@ -3,7 +3,8 @@
     apt-get install --no-install-recommends chromium fonts-dejavu-core
 
 `tests/run browser FOLDER` leaves pictures of the page in a folder, at the widths of a desk and of a phone, for whoever
-looks whether a page is one that a player wants to see.
+looks whether a page is one that a player wants to see. The one that README shows is among them: `page.png`, there with
+fewer colours (`pngquant --nofs 64`).
 """
 import glob
 import os
@@ -14,6 +15,7 @@ from harness.inputs import read
 from harness.journal import Place
 from harness.parts import part
 from harness.proofs import refused
+from harness.visit import Visit
 from harness.web import WebServer
 
 # What is typed, and what the log then shows at its end.
@@ -25,7 +27,9 @@ LINES = [
     ("say <b>hello</b>", "said"), ("route to The Library", "route #0 to #3 cost 1 by #4"),
     ("proof route to #3", "end"), ("route to The Vault", "no way"), ("@history", "end "),
 ]
-DESK, PHONE = (1200, 800, False), (390, 844, True)
+# What is typed while another is there who came by Telnet, and what he says.
+ASKED, TOLD = "Which way is the library?", ["look", "route to The Library", "say North.", "proof route to The Library"]
+DESK, SMALL, PHONE = (1200, 800, False), (960, 600, False), (390, 844, True)
 LOG = "document.getElementById('log').textContent"
 STATE = "document.getElementById('state').textContent"
 ROOMS = "[...document.querySelectorAll('#rooms li')].map((item) => item.textContent).join(' | ')"
@@ -97,10 +101,26 @@ def count_foreign(count, browser, server):
     count("browser: a page of another origin may not play", given == "closed", given)
 
 
+def count_both(count, browser, server):
+    """Counts whether one who comes by Telnet is heard in the page, and hears who types there."""
+    bob = Visit(server.port)
+    bob.ask("connect Bob")
+    bob.ask(f"say {ASKED}")
+    count("browser: who came by Telnet is heard", browser.waits_for(f"{LOG}.includes({ASKED!r})", 10))
+    for line in TOLD:
+        browser.type(line)
+        browser.waits_for("false", 0.3)
+    bob.end()
+    count("browser: and hears", any('Ann says, "North."' in line for line in bob.session.read), bob.session.read)
+
+
 def count_pictures(count, browser, server, folder):
     """Takes pictures, and counts whether the page is as wide as the window. On a phone it is opened anew."""
     browser.shoot(f"{folder}/desk.png")
     count("browser: the page fits a desk", browser.value(FITS))
+    browser.resize(*SMALL)
+    browser.waits_for("false", 0.3)
+    browser.shoot(f"{folder}/page.png")
     browser.resize(*PHONE)
     browser.open(server.origin)
     browser.waits_for(f"{STATE} === 'connected'")
@@ -126,6 +146,7 @@ def browser(count, pictures=None):
             type_all(count, one)
             count_page(count, one)
             count_saved(count, one, folder)
+            count_both(count, one, server)
             count_pictures(count, one, server, pictures)
             count_again(count, one, server, place)
             count("browser: nothing is said of a fault", not faults(one), faults(one))

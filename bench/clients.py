@@ -10,6 +10,7 @@ from typing import NamedTuple
 HERE = os.path.dirname(os.path.realpath(__file__))
 sys.path.insert(0, f"{HERE}/../tests")
 from harness.server import Client, Server
+from harness.web import WebServer
 
 SERVE = os.environ.get("MUD_SERVE", f"{HERE}/../crates/mud_serve/out/mud_serve")
 GAME, BINARIES = "/usr/share/tinymux/game", "/usr/lib/tinymux/game/bin"
@@ -76,18 +77,27 @@ def played(name, load, pid, port, clients, lines):
     return Played(answers, seconds, took, read, notices, tuple(replies), tuple(told))
 
 
+def build_rooms(server):
+    """Has a server's world have the two rooms in which clients play."""
+    builder = Client(server.port)
+    for line in DIGS:
+        builder.send(line)
+    while builder.more():
+        pass
+
+
 def played_here(load, clients, lines, words, program=SERVE, environment=None):
     """The same with this server, started with the words, in a world of two rooms."""
-    server = Server(program, words, environment)
-    try:
-        builder = Client(server.port)
-        for line in DIGS:
-            builder.send(line)
-        while builder.more():
-            pass
+    with Server(program, words, environment) as server:
+        build_rooms(server)
         return played("seamountcup", load, server.process.pid, server.port, clients, lines)
-    finally:
-        server.kill()
+
+
+def played_on_web(load, clients, lines):
+    """The same by the door on the web."""
+    with WebServer() as server:
+        build_rooms(server)
+        return played("web", load, server.process.pid, server.web_port, clients, lines)
 
 
 def has_mux():

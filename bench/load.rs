@@ -1,8 +1,9 @@
-//! load PORT CLIENTS LINES seamountcup|mux: as many clients in a closed loop, each of which sends its next line when
-//! the last one was answered, LINES in all. One thread works them all by `poll`, so that it takes little of the machine
-//! that it measures. It prints three lines: how many lines were answered, in how many seconds, how many lines were read
-//! and how many of them told what another said; then the milliseconds that half of the replies and 99 of 100 stay
-//! below; and the same of the notices, from when the line was sent.
+//! load PORT CLIENTS LINES seamountcup|web|mux: as many clients in a closed loop, each of which sends its next line
+//! when the last one was answered, LINES in all. `web` is seamountcup by its door on the web. One thread works them all
+//! by `poll`, so that it takes little of the machine that it measures. It prints three lines: how many lines were
+//! answered, in how many seconds, how many lines were read and how many of them told what another said; then the
+//! milliseconds that half of the replies and 99 of 100 stay below; and the same of the notices, from when the line was
+//! sent.
 
 use std::collections::HashMap;
 use std::io::{self, Read, Write};
@@ -30,11 +31,15 @@ const PATIENCE: i32 = 20_000;
 /// What a client sends over and over; `say` gets a text of its own each time.
 const ROUND: [&str; 8] = ["look", "say", "north", "inventory", "@version", "say", "south", "look"];
 const SAID: &str = "number ";
+/// A key of a web socket, and one with which frames are masked.
+const KEY: &str = "dGhlIHNhbXBsZSBub25jZQ==";
+const MASK: [u8; 4] = [0x37, 0xfa, 0x21, 0x3d];
 
-/// Which server is spoken to.
+/// Which server is spoken to, and how.
 #[derive(Clone, Copy, PartialEq)]
 enum Dialect {
     Seamountcup,
+    Web,
     Mux,
 }
 
@@ -42,15 +47,15 @@ impl Dialect {
     /// What brings a client into the world.
     fn arrival(self, at: usize) -> String {
         match self {
-            Dialect::Seamountcup => format!("connect Load{at}\r\n"),
-            Dialect::Mux => format!("OUTPUTSUFFIX [end]\r\ncreate Load{at} secret{at}\r\n"),
+            Dialect::Seamountcup | Dialect::Web => format!("connect Load{at}"),
+            Dialect::Mux => format!("OUTPUTSUFFIX [end]\r\ncreate Load{at} secret{at}"),
         }
     }
 
     /// Whether a line is the end of what is answered to a line that was sent.
     fn is_answer(self, line: &str) -> bool {
         match self {
-            Dialect::Seamountcup => line.starts_with('[') || line == "(history full)",
+            Dialect::Seamountcup | Dialect::Web => line.starts_with('[') || line == "(history full)",
             Dialect::Mux => line == "[end]",
         }
     }
@@ -63,6 +68,33 @@ impl Dialect {
             _ => line.to_string(),
         }
     }
+
+    /// The bytes by which a line is typed.
+    fn typed(self, line: &str) -> Vec<u8> {
+        match self {
+            Dialect::Web => framed(line.as_bytes()),
+            _ => format!("{line}\r\n").into_bytes(),
+        }
+    }
+}
+
+/// A text as one frame of a web socket, with a mask (RFC 6455, section 5.2). It has fewer than 126 bytes.
+fn framed(text: &[u8]) -> Vec<u8> {
+    let mut frame = vec![0x81, 0x80 | text.len() as u8];
+    frame.extend(MASK);
+    frame.extend(text.iter().enumerate().map(|(at, byte)| byte ^ MASK[at % 4]));
+    frame
+}
+
+/// Where the payload of the first frame of a server begins and ends, if it is whole.
+fn payload(frames: &[u8]) -> Option<(usize, usize)> {
+    let number = |bytes: &[u8]| bytes.iter().fold(0, |number, byte| number << 8 | *byte as usize);
+    let (from, length) = match *frames.get(1)? {
+        126 => (4, number(frames.get(2..4)?)),
+        127 => (10, number(frames.get(2..10)?)),
+        length => (2, length as usize),
+    };
+    (from + length <= frames.len()).then_some((from, from + length))
 }
 
 /// What was measured.
@@ -76,6 +108,8 @@ struct Times {
 
 struct Client {
     stream: TcpStream,
+    dialect: Dialect,
+    frames: Vec<u8>,
     kept: Vec<u8>,
     sent_at: Instant,
     is_waiting: bool,
@@ -84,18 +118,37 @@ struct Client {
 }
 
 impl Client {
-    fn connect(port: u16, lines: usize, at: usize) -> io::Result<Client> {
+    fn connect(port: u16, lines: usize, at: usize, dialect: Dialect) -> io::Result<Client> {
         let stream = TcpStream::connect(("127.0.0.1", port))?;
         stream.set_nodelay(true)?;
         stream.set_read_timeout(Some(Duration::from_secs(20)))?;
-        let (kept, sent_at) = (Vec::new(), Instant::now());
-        Ok(Client { stream, kept, sent_at, is_waiting: false, left: lines, at })
+        let (frames, kept, sent_at) = (Vec::new(), Vec::new(), Instant::now());
+        let mut client = Client { stream, dialect, frames, kept, sent_at, is_waiting: false, left: lines, at };
+        if dialect == Dialect::Web {
+            client.upgrade(port)?;
+        }
+        Ok(client)
+    }
+
+    /// Asks to play on the web, and reads the answer's head.
+    fn upgrade(&mut self, port: u16) -> io::Result<()> {
+        let origin = format!("http://127.0.0.1:{port}");
+        let upgrade = "Upgrade: websocket\r\nConnection: Upgrade\r\nSec-WebSocket-Version: 13";
+        let own = format!("Origin: {origin}\r\nSec-WebSocket-Key: {KEY}");
+        let head = format!("GET /play HTTP/1.1\r\n{upgrade}\r\n{own}\r\n\r\n");
+        self.stream.write_all(head.as_bytes())?;
+        let (mut answer, mut byte) = (Vec::new(), [0]);
+        while !answer.ends_with(b"\r\n\r\n") {
+            self.stream.read_exact(&mut byte)?;
+            answer.extend(byte);
+        }
+        if answer.starts_with(b"HTTP/1.1 101 ") { Ok(()) } else { Err(io::ErrorKind::ConnectionRefused.into()) }
     }
 
     fn send(&mut self, line: &str) -> io::Result<()> {
         self.sent_at = Instant::now();
         self.is_waiting = true;
-        self.stream.write_all(format!("{line}\r\n").as_bytes())
+        self.stream.write_all(&self.dialect.typed(line))
     }
 
     /// Has what comes acknowledged at once: a server may wait for that before it sends more.
@@ -112,13 +165,25 @@ impl Client {
         if count == 0 {
             return Err(io::ErrorKind::UnexpectedEof.into());
         }
-        self.kept.extend_from_slice(&buffer[..count]);
+        self.keep(&buffer[..count]);
         let Some(end) = self.kept.iter().rposition(|byte| *byte == b'\n') else {
             return Ok(Vec::new());
         };
         let whole: Vec<u8> = self.kept.drain(..=end).collect();
         let text = String::from_utf8_lossy(&whole).into_owned();
         Ok(text.lines().map(str::to_string).collect())
+    }
+
+    /// Keeps the text that has come.
+    fn keep(&mut self, some: &[u8]) {
+        if self.dialect != Dialect::Web {
+            return self.kept.extend_from_slice(some);
+        }
+        self.frames.extend_from_slice(some);
+        while let Some((from, to)) = payload(&self.frames) {
+            self.kept.extend_from_slice(&self.frames[from..to]);
+            self.frames.drain(..to);
+        }
     }
 
     /// Takes what has come unasked.
@@ -129,21 +194,21 @@ impl Client {
     }
 
     /// Sends a line and waits until it is answered, before anything is measured.
-    fn ask(&mut self, dialect: Dialect, line: &str) -> io::Result<()> {
+    fn ask(&mut self, line: &str) -> io::Result<()> {
         self.send(line)?;
-        while !self.lines()?.iter().any(|line| dialect.is_answer(line)) {}
+        while !self.lines()?.iter().any(|line| self.dialect.is_answer(line)) {}
         self.is_waiting = false;
         Ok(())
     }
 
     /// Sends the next line of the round, if one is left.
-    fn go_on(&mut self, dialect: Dialect, times: &mut Times) -> io::Result<()> {
+    fn go_on(&mut self, times: &mut Times) -> io::Result<()> {
         if self.left == 0 {
             return Ok(());
         }
         self.left -= 1;
         let number = times.said.len();
-        let line = dialect.spelled(ROUND[self.at % ROUND.len()], number);
+        let line = self.dialect.spelled(ROUND[self.at % ROUND.len()], number);
         self.at += 1;
         self.send(&line)?;
         if line.contains(SAID) {
@@ -153,7 +218,7 @@ impl Client {
     }
 
     /// Takes what has come.
-    fn take(&mut self, dialect: Dialect, times: &mut Times) -> io::Result<()> {
+    fn take(&mut self, times: &mut Times) -> io::Result<()> {
         let lines = self.lines()?;
         let now = Instant::now();
         times.lines_read += lines.len();
@@ -162,10 +227,10 @@ impl Client {
                 times.notices.push(now - *sent_at);
             }
         }
-        if self.is_waiting && lines.iter().any(|line| dialect.is_answer(line)) {
+        if self.is_waiting && lines.iter().any(|line| self.dialect.is_answer(line)) {
             times.replies.push(now - self.sent_at);
             self.is_waiting = false;
-            self.go_on(dialect, times)?;
+            self.go_on(times)?;
         }
         Ok(())
     }
@@ -186,9 +251,9 @@ fn within(times: &mut [Duration], thousandths: usize) -> f64 {
     times.get(times.len() * thousandths / 1000).map_or(0.0, |it| it.as_secs_f64() * 1e3)
 }
 
-fn work(clients: &mut [Client], dialect: Dialect, times: &mut Times) -> io::Result<()> {
+fn work(clients: &mut [Client], times: &mut Times) -> io::Result<()> {
     for client in clients.iter_mut() {
-        client.go_on(dialect, times)?;
+        client.go_on(times)?;
     }
     let mut files: Vec<PollFd> = clients
         .iter()
@@ -201,7 +266,7 @@ fn work(clients: &mut [Client], dialect: Dialect, times: &mut Times) -> io::Resu
         }
         for (file, client) in files.iter().zip(clients.iter_mut()) {
             if file.found != 0 {
-                client.take(dialect, times)?;
+                client.take(times)?;
             }
         }
     }
@@ -211,10 +276,10 @@ fn work(clients: &mut [Client], dialect: Dialect, times: &mut Times) -> io::Resu
 fn run(port: u16, count: usize, lines: usize, dialect: Dialect) -> io::Result<()> {
     let mut clients = Vec::new();
     for at in 0..count {
-        let mut client = Client::connect(port, lines, at)?;
+        let mut client = Client::connect(port, lines, at, dialect)?;
         while client.lines()?.is_empty() {}
-        client.stream.write_all(dialect.arrival(at).as_bytes())?;
-        client.ask(dialect, "look")?;
+        client.send(&dialect.arrival(at))?;
+        client.ask("look")?;
         clients.push(client);
     }
     std::thread::sleep(Duration::from_millis(200));
@@ -223,7 +288,7 @@ fn run(port: u16, count: usize, lines: usize, dialect: Dialect) -> io::Result<()
     }
     let mut times = Times::default();
     let start = Instant::now();
-    work(&mut clients, dialect, &mut times)?;
+    work(&mut clients, &mut times)?;
     let took = start.elapsed().as_secs_f64();
     let answered = times.replies.len();
     println!("{answered} {took:.3} {} {}", times.lines_read, times.notices.len());
@@ -238,11 +303,12 @@ fn main() {
     let number = |at: usize| words.get(at).and_then(|it| it.parse().ok());
     let dialect = match words.get(4).map(String::as_str) {
         Some("seamountcup") => Some(Dialect::Seamountcup),
+        Some("web") => Some(Dialect::Web),
         Some("mux") => Some(Dialect::Mux),
         _ => None,
     };
     let (Some(port), Some(count), Some(lines), Some(dialect)) = (number(1), number(2), number(3), dialect) else {
-        eprintln!("load PORT CLIENTS LINES seamountcup|mux");
+        eprintln!("load PORT CLIENTS LINES seamountcup|web|mux");
         std::process::exit(2);
     };
     if let Err(error) = run(port as u16, count, lines, dialect) {

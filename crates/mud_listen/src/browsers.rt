@@ -43,7 +43,7 @@ fn play_at<
         parker,
         number,
     } = begun;
-    let has_begun = reads.let_in(answer)
+    let has_begun = reads.let_in(rt, rt, answer)
         && scope
             .spawn(move || K::tell_all(rt, house, &tells, &parker))
             .is_ok();

@@ -43,8 +43,8 @@ impl<S> Connection<S> {
     }
 
     /// Lets a browser in by this answer to its head; whether it was taken.
-    pub(crate) fn let_in(&self, answer: &[u8]) -> bool {
-        self.wire.wait_for_ever() && self.wire.let_in(answer)
+    pub(crate) fn let_in<R: Wait, C: Clock>(&self, rt: &R, clock: &C, answer: &[u8]) -> bool {
+        self.wire.wait_for_ever() && self.wire.let_in(rt, clock, answer)
     }
 }
 

@@ -155,9 +155,9 @@ impl Wire {
         Ok(())
     }
 
-    /// Lets a browser in by this answer to its head; whether it was taken at once.
-    pub fn let_in(&self, answer: &[u8]) -> bool {
-        self.write_some(answer) == Ok(answer.len())
+    /// Lets a browser in by this answer to its head; whether it was taken.
+    pub fn let_in<R: Wait, C: Clock>(&self, rt: &R, clock: &C, answer: &[u8]) -> bool {
+        self.write(rt, clock, answer).is_ok()
     }
 
     /// Answers a request, and ends the connection.

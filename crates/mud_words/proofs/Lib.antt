@@ -1,4 +1,5 @@
 pub mod PieceLemmas
+pub mod ReadingLemmas
 pub mod CuttingLemmas
 pub mod SpaceLemmas
 pub mod PrepositionLemmas

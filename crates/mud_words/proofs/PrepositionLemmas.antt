@@ -1,10 +1,17 @@
 -- Prepositions, as the code meets them word by word.
-use Rattle.std.proofs.Common.{◌≡◌, ℕ, ◌+◌, ◌-◌, ◌<◌, ◌≤◌, false, List, [], ◌∷◌, length, map, take, drop, get_or, Option}
-use Rattle.std.proofs.Common.{Some, None, option_map, refl, sym, ap, ◌∙◌, arith, add-zero, zero-add}
+use Rattle.std.proofs.Common.{◌≡◌, ℕ, ◌+◌, ◌-◌, ◌<◌, ◌≤◌, false, eqb, List, [], ◌∷◌, ◌++◌, length, map, take, drop}
+use Rattle.std.proofs.Common.{get_or, filter, Option, Some, None, option_map, refl, sym, ap, subst, ◌∙◌, inl, inr, arith}
+use Rattle.std.proofs.Common.{add-zero, zero-add}
+use Rattle.std.specs.Char.{to_ascii_lowercase}
+use Rattle.std.specs.List.{find, starts_with}
+use Rattle.std.specs.Str.{bytes_eq}
+use Rattle.std.proofs.lemmas.Bool.{cases_eq}
+use Rattle.std.proofs.lemmas.Bool.Decides.{nat_tests}
 use Rattle.std.proofs.lemmas.List.{take_rest, drop-map, drop-drop, drop_all, length-map, length-drop}
+use Rattle.std.proofs.lemmas.List.{nil_from_length}
 use Rattle.std.proofs.lemmas.Slice.Eq.{bytes_eq-Decides}
 use Rattle.mud_words.specs.declared.Prep.{Prep}
-use Rattle.mud_words.specs.Prepositions.{Phrase, Found, lower, begins, phrase_at, or_later, counted}
+use Rattle.mud_words.specs.Prepositions.{Phrase, Found, lower, begins, of_length, phrase_at, or_later, counted}
 use Rattle.mud_words.specs.Searching.{spot_of, phrase_len}
 
 -- the same phrase, so many words further on
@@ -83,3 +90,79 @@ pub counted_end : {X : Type 0} (f : X → List ℕ) (xs : List X) (i : ℕ) → 
     → None ≡ option_map (moved i) (counted (map f (drop i xs)))
 unfolding counted
 counted_end f xs i end = rw (drop_all i xs end) refl
+
+-- ---- by the first letter
+-- the first of some phrases that words in lower case begin with
+abbrev first_of : List (List ℕ) → List Phrase → Option Phrase
+first_of words phrases = find (λ p. starts_with bytes_eq words (map lower p.words)) phrases
+
+abbrev all_phrases : List Phrase
+all_phrases = of_length 3 ++ of_length 2 ++ of_length 1
+
+-- phrases among which words that begin with a letter find what they find among all
+abbrev pub Serves : ℕ → List Phrase → Type 0
+Serves letter phrases =
+    (ls : List ℕ) (ws : List (List ℕ))
+    → first_of ((letter ∷ ls) ∷ ws) phrases ≡ first_of ((letter ∷ ls) ∷ ws) all_phrases
+
+-- those of all phrases that begin with a letter
+abbrev pub with_letter : ℕ → List Phrase
+with_letter letter = filter (λ p. eqb (get_or (get_or p.words 0 []) 0 0) letter) all_phrases
+
+pub by_letter : (letter : ℕ) (phrases : List Phrase) → Serves letter phrases → (c : ℕ) (cs : List ℕ)
+    (ws : List (List ℕ)) → to_ascii_lowercase c ≡ letter
+    → find (λ p. begins ((c ∷ cs) ∷ ws) p.words) phrases ≡ phrase_at ((c ∷ cs) ∷ ws)
+unfolding phrase_at
+by_letter letter phrases serves c cs ws same =
+    let words : ℕ → List (List ℕ) = λ l. (l ∷ lower cs) ∷ map lower ws in
+    subst (λ (l : ℕ). first_of (words l) phrases ≡ first_of (words l) all_phrases) (sym same)
+    (serves (lower cs) (map lower ws))
+
+differs : (b c : ℕ) → (b ≡ c → ⊥) → eqb c b ≡ false
+differs b c other = elim (cases_eq b c) [ inl same ↦ absurd (other same) | inr _ ↦ grind (arith, nat_tests) ]
+
+-- no phrase begins with another letter
+pub no_letter : (l : ℕ) → (l ≡ 97 → ⊥) → (l ≡ 98 → ⊥) → (l ≡ 102 → ⊥) → (l ≡ 105 → ⊥) → (l ≡ 111 → ⊥) → (l ≡ 116 → ⊥)
+    → (l ≡ 117 → ⊥) → (l ≡ 119 → ⊥) → Serves l []
+no_letter l a b f i o t u w ls ws =
+    rw (
+      differs l 97 a,
+      differs l 98 b,
+      differs l 102 f,
+      differs l 105 i,
+      differs l 111 o,
+      differs l 116 t,
+      differs l 117 u,
+      differs l 119 w,
+    )
+    refl
+
+-- no words, and an empty first word
+pub nothing_begun : {X : Type 0} (f : X → List ℕ) (xs : List X) → length xs ≡ 0 → None ≡ phrase_at (map f xs)
+unfolding phrase_at
+nothing_begun f [] none = refl
+nothing_begun f (x ∷ xs) none = absurd (omega arith)
+
+empty_word : (ws : List (List ℕ)) → None ≡ phrase_at ([] ∷ ws)
+unfolding phrase_at
+empty_word ws = refl
+
+pub empty_begun : {X : Type 0} (f : X → List ℕ) (xs : List X) (x : X) (bytes : List ℕ) → 0 < length xs
+    → x ≡ get_or xs 0 x → bytes ≡ f x → length bytes ≡ 0 → None ≡ phrase_at (map f xs)
+empty_begun f [] x bytes some is text none = absurd (omega arith)
+empty_begun f (y ∷ ys) x bytes some is text none =
+    empty_word (map f ys)
+    ∙ ap (λ (w : List ℕ). phrase_at (w ∷ map f ys)) (sym (nil_from_length bytes none) ∙ text ∙ ap f is)
+
+-- the phrases of the first letter
+pub letter_begun : {X : Type 0} (f : X → List ℕ) (xs : List X) (x : X) (bytes : List ℕ) (letter : ℕ)
+    (phrases : List Phrase) → 0 < length xs → x ≡ get_or xs 0 x → bytes ≡ f x → 0 < length bytes
+    → letter ≡ to_ascii_lowercase (get_or bytes 0 0)
+    → ((c : ℕ) (cs : List ℕ) (ws : List (List ℕ)) → to_ascii_lowercase c ≡ letter
+    → find (λ p. begins ((c ∷ cs) ∷ ws) p.words) phrases ≡ phrase_at ((c ∷ cs) ∷ ws))
+    → find (λ p. begins (map f xs) p.words) phrases ≡ phrase_at (map f xs)
+letter_begun f [] x bytes letter phrases some is text more lower_case serves = absurd (omega arith)
+letter_begun f (y ∷ ys) x [] letter phrases some is text more lower_case serves = absurd (omega arith)
+letter_begun f (y ∷ ys) x (b ∷ bs) letter phrases some is text more lower_case serves =
+    subst (λ (w : List ℕ). find (λ p. begins (w ∷ map f ys) p.words) phrases ≡ phrase_at (w ∷ map f ys))
+    (text ∙ ap f is) (serves b bs (map f ys) (sym lower_case))

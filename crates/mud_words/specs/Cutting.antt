@@ -1,9 +1,8 @@
 -- Steps of the code, cited by private clauses alone: the words that come from a place in the middle of a line.
 -- At the start of a line, where no word is open, `rest_words` gives the words of the line by its definition.
-use Rattle.std.specs.Prelude.{ℕ, List, [], ◌∷◌, ◌++◌, map, encode_utf8, Option, Some, None}
+use Rattle.std.specs.Prelude.{ℕ, List, [], ◌∷◌, ◌++◌, Option, Some, None}
 use Rattle.std.specs.List.{slice_split}
 use Rattle.mud_words.specs.declared.piece.Piece.{Piece}
-use Rattle.mud_words.specs.declared.piece.Piece.TheVariants.{Gap, Mark, Char}
 use Rattle.mud_words.specs.Words.{is_gap, text_of, texts_of}
 
 -- the word that is open, and then what its first stretch brings
@@ -15,23 +14,6 @@ goes_on word (stretch ∷ stretches) = (word ++ text_of stretch) ∷ texts_of st
 abbrev pub rest_words : Option (List ℕ) → List Piece → List (List ℕ)
 rest_words None ps = texts_of (slice_split is_gap ps)
 rest_words (Some word) ps = goes_on word (slice_split is_gap ps)
-
--- a word that is open, and none where none is
-abbrev pub closed : Option (List ℕ) → List (List ℕ)
-closed None = []
-closed (Some word) = word ∷ []
-
--- the pieces of a character's bytes
-abbrev pub char_pieces : Piece → List Piece
-char_pieces Gap = Gap ∷ []
-char_pieces Mark = Mark ∷ []
-char_pieces (Char c) = map Char (encode_utf8 c)
-
--- the bytes that a character adds to its word
-abbrev pub char_bytes : Piece → List ℕ
-char_bytes Gap = []
-char_bytes Mark = []
-char_bytes (Char c) = encode_utf8 c
 
 -- the word that is open, and the empty one where none is
 abbrev pub begun : Option (List ℕ) → List ℕ

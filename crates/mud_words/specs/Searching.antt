@@ -7,7 +7,6 @@ use Rattle.mud_words.specs.declared.Prep.{Prep}
 use Rattle.mud_words.specs.declared.split.Objects.{Objects}
 use Rattle.mud_words.specs.declared.prepositions.Spot.{Spot}
 use Rattle.mud_words.specs.Parse.{round}
-use Rattle.mud_words.specs.Words.{after_first_word, without_front, without_back}
 use Rattle.std.specs.List.{join_with_byte}
 
 -- which preposition it is, and the places before and behind its words
@@ -40,10 +39,6 @@ line_with verb args rest o = record {
 -- the arguments parted at the preposition that counts
 abbrev pub split : List ℕ → List (List ℕ) → List ℕ → Line
 split verb args rest = round verb args rest (counted args)
-
--- the text after the first word, without the spaces at its ends
-abbrev pub rest_of : List ℕ → List ℕ
-rest_of text = without_back (without_front (after_first_word text))
 
 -- the words, joined by one space
 abbrev pub joined : List (List ℕ) → List ℕ

@@ -37,24 +37,21 @@
 //! a line without quotes is cut at its spaces, and which preposition counts.
 #![tactic(auto)]
 
-ghost use Rattle.std.specs.Prelude.{◌≡◌, ◌↔◌, [], IsTrue, map, string_bytes, IfOk};
-ghost use Rattle.mud_words.specs.Words.{words, plain_words, is_blank};
+ghost use Rattle.std.specs.Prelude.{◌≡◌, ◌↔◌, [], ◌∷◌, IsTrue, map, string_bytes, IfOk, IfSome, MatchOption};
+ghost use Rattle.mud_words.specs.Words.{words, plain_words, is_blank, without_front, after_first_word, spelled_out};
 ghost use Rattle.mud_words.specs.Line.{line_of};
-ghost use Rattle.mud_words.specs.Parse.{parsed, said};
-ghost use Rattle.mud_words.specs.Searching.{rest_of};
+ghost use Rattle.mud_words.specs.Parse.{parsed};
 
 mod cut;
 pub mod laws;
 mod piece;
 mod prepositions;
-mod rest;
 mod spaces;
 mod split;
 
-use crate::cut::plain_words;
-use crate::rest::rest_of;
-use crate::spaces::{spelled_out, without_front};
-use crate::split::said;
+use crate::cut::{first_word, push_words};
+use crate::spaces::{shorthand, without_front};
+use crate::split::{blank, said};
 use std::alloc::{AllocError, Global};
 
 /// A preposition: one variant for all phrases that say the same (LambdaMOO Programmer's Manual,
@@ -122,8 +119,12 @@ pub struct Parsed {
 pub fn words(alloc: Global, line: &str) -> Result<Vec<String>, AllocError>
     ensures { IfOk result (λ ws. map string_bytes ws.items ≡ words line.now) }
 {
-    let text = spelled_out(alloc, line)?;
-    plain_words(alloc, text.as_str())
+    let mut words = Vec::new(alloc);
+    if let Some((verb, text)) = verb_and_text(alloc, line)? {
+        words.push(verb)?;
+        push_words(alloc, text, &mut words)?;
+    }
+    Ok(words)
 }
 
 /// What a line says: verb, objects, the preposition between them, and the rest of its text.
@@ -136,17 +137,28 @@ pub fn words(alloc: Global, line: &str) -> Result<Vec<String>, AllocError>
 pub fn parse(alloc: Global, line: &str) -> Result<Parsed, AllocError>
     ensures { IfOk result (λ p. line_of p ≡ parsed line.now) }
 {
-    let text = spelled_out(alloc, line)?;
-    parse_text(alloc, text.as_str())
+    match verb_and_text(alloc, line)? {
+        Some((verb, text)) => said(alloc, verb, text),
+        None => Ok(blank(alloc)),
+    }
 }
 
-// What a line without shorthand says.
-fn parse_text(alloc: Global, text: &str) -> Result<Parsed, AllocError>
-    ensures { IfOk result (λ p. line_of p ≡ said (plain_words text.now) (rest_of text.now)) }
+// The first word of a line, its shorthand spelled out, and the text behind it. A blank line has none.
+#[tactic(auto, unfolding(crate::specs::Words::words))]
+fn verb_and_text(alloc: Global, line: &str) -> Result<Option<(String, &str)>, AllocError>
+    ensures words { IfOk result (λ v. MatchOption v (without_front line.now ≡ [])
+        (λ v. words line.now ≡ string_bytes v.0 ∷ plain_words v.1.now)) }
+    ensures rest { IfOk result (λ v. IfSome v
+        (λ v. v.1.now ≡ after_first_word (spelled_out (without_front line.now)))) }
 {
-    let words = plain_words(alloc, text)?;
-    let rest = String::from_str(alloc, rest_of(text))?;
-    said(alloc, words, rest)
+    let line = without_front(line);
+    if line.is_empty() {
+        return Ok(None);
+    }
+    if let Some((verb, text)) = shorthand(line) {
+        return Ok(Some((String::from_str(alloc, verb)?, text)));
+    }
+    Ok(Some(first_word(alloc, line)?))
 }
 
 /// Whether a line has no words: it is empty, or of spaces alone. A lone backslash is a word, and

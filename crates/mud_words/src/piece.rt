@@ -1,18 +1,18 @@
 ghost use Rattle.std.specs.Prelude.{◌≡◌, false};
 ghost use Rattle.mud_words.specs.Words.{piece, quoted_after, escaped_after};
 
-/// What a character of a line is to the words that it stands in.
+/// What a byte of a line is to the words that it stands in.
 #[derive(Clone, Copy)]
 pub(crate) enum Piece {
     /// A space that stands between words.
     Gap,
     /// A quote or a backslash that belongs to a word and is no character of it.
     Mark,
-    /// A character that stands for itself.
-    Char(char),
+    /// A byte of a character that stands for itself.
+    Char(u8),
 }
 
-/// What the characters before a place leave open there.
+/// What the bytes before a place leave open there.
 #[derive(Clone, Copy)]
 pub(crate) struct Quotes {
     /// A double quote is open.
@@ -32,21 +32,21 @@ impl Quotes {
         }
     }
 
-    /// Takes the next character, and says what it is.
-    pub(crate) fn take_char(&mut self, c: char) -> Piece
-        ensures piece { result ≡ piece self.old.quoted self.old.escaped c }
-        ensures quoted { self.new.quoted ≡ quoted_after self.old.quoted self.old.escaped c }
-        ensures escaped { self.new.escaped ≡ escaped_after self.old.escaped c }
+    /// Takes the next byte, and says what it is.
+    pub(crate) fn take_byte(&mut self, byte: u8) -> Piece
+        ensures piece { result ≡ piece self.old.quoted self.old.escaped byte }
+        ensures quoted { self.new.quoted ≡ quoted_after self.old.quoted self.old.escaped byte }
+        ensures escaped { self.new.escaped ≡ escaped_after self.old.escaped byte }
     {
         if self.escaped {
             self.escaped = false;
-            return Piece::Char(c);
+            return Piece::Char(byte);
         }
-        match c {
-            '\\' => self.escaped = true,
-            '"' => self.quoted = !self.quoted,
-            ' ' if !self.quoted => return Piece::Gap,
-            _ => return Piece::Char(c),
+        match byte {
+            b'\\' => self.escaped = true,
+            b'"' => self.quoted = !self.quoted,
+            b' ' if !self.quoted => return Piece::Gap,
+            _ => return Piece::Char(byte),
         }
         Piece::Mark
     }

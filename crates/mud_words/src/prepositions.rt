@@ -1,4 +1,5 @@
-ghost use Rattle.std.specs.Prelude.{◌≡◌, ◌≤◌, IsTrue, IfSome, length, map, string_bytes};
+ghost use Rattle.std.specs.Prelude.{◌≡◌, ◌≤◌, ℕ, List, ◌∷◌, IsTrue, IfSome, length, map, string_bytes};
+ghost use Rattle.std.specs.Char.{to_ascii_lowercase};
 ghost use Rattle.std.specs.List.{find};
 ghost use Rattle.std.specs.Option.{option_map};
 ghost use Rattle.mud_words.specs.Prepositions.{begins, phrase_at, counted};
@@ -13,38 +14,6 @@ pub(crate) struct Spot {
     pub start: usize,
     pub end: usize,
 }
-
-// The phrases that are a preposition, those of more words first.
-const PHRASES: [(Prep, &[&str]); 28] = [
-    (Prep::InFrontOf, &["in", "front", "of"]),
-    (Prep::OnTopOf, &["on", "top", "of"]),
-    (Prep::OutOf, &["out", "of"]),
-    (Prep::OutOf, &["from", "inside"]),
-    (Prep::Off, &["off", "of"]),
-    (Prep::With, &["with"]),
-    (Prep::With, &["using"]),
-    (Prep::To, &["at"]),
-    (Prep::To, &["to"]),
-    (Prep::In, &["in"]),
-    (Prep::In, &["inside"]),
-    (Prep::In, &["into"]),
-    (Prep::OnTopOf, &["on"]),
-    (Prep::OnTopOf, &["onto"]),
-    (Prep::OnTopOf, &["upon"]),
-    (Prep::OutOf, &["from"]),
-    (Prep::Over, &["over"]),
-    (Prep::Through, &["through"]),
-    (Prep::Under, &["under"]),
-    (Prep::Under, &["underneath"]),
-    (Prep::Under, &["beneath"]),
-    (Prep::Behind, &["behind"]),
-    (Prep::Beside, &["beside"]),
-    (Prep::For, &["for"]),
-    (Prep::For, &["about"]),
-    (Prep::Is, &["is"]),
-    (Prep::As, &["as"]),
-    (Prep::Off, &["off"]),
-];
 
 // The preposition that counts among the words of a line.
 pub(crate) fn counted(args: &[String]) -> Option<Spot>
@@ -66,7 +35,62 @@ fn phrase_at(words: &[String]) -> Option<(Prep, usize)>
     ensures value { result ≡ option_map phrase_len (phrase_at (map string_bytes words.now)) }
     ensures within { IfSome result (λ p. p.1 ≤ length words.now) }
 {
-    first_said(&PHRASES, words)
+    let [word, ..] = words else {
+        return None;
+    };
+    let [letter, ..] = word.as_bytes() else {
+        return None;
+    };
+    first_said(phrases_with(letter.to_ascii_lowercase()), words)
+}
+
+// The phrases that begin with a letter, those of more words first.
+fn phrases_with(letter: u8) -> &'static [(Prep, &'static [&'static str])]
+    ensures { (c : ℕ) (cs : List ℕ) (ws : List (List ℕ)) → to_ascii_lowercase c ≡ letter
+        → find (λ p. begins ((c ∷ cs) ∷ ws) p.words) (map shown result.now) ≡ phrase_at ((c ∷ cs) ∷ ws) }
+{
+    match letter {
+        b'a' => &[
+            (Prep::To, &["at"]),
+            (Prep::For, &["about"]),
+            (Prep::As, &["as"]),
+        ],
+        b'b' => &[
+            (Prep::Under, &["beneath"]),
+            (Prep::Behind, &["behind"]),
+            (Prep::Beside, &["beside"]),
+        ],
+        b'f' => &[
+            (Prep::OutOf, &["from", "inside"]),
+            (Prep::OutOf, &["from"]),
+            (Prep::For, &["for"]),
+        ],
+        b'i' => &[
+            (Prep::InFrontOf, &["in", "front", "of"]),
+            (Prep::In, &["in"]),
+            (Prep::In, &["inside"]),
+            (Prep::In, &["into"]),
+            (Prep::Is, &["is"]),
+        ],
+        b'o' => &[
+            (Prep::OnTopOf, &["on", "top", "of"]),
+            (Prep::OutOf, &["out", "of"]),
+            (Prep::Off, &["off", "of"]),
+            (Prep::OnTopOf, &["on"]),
+            (Prep::OnTopOf, &["onto"]),
+            (Prep::Over, &["over"]),
+            (Prep::Off, &["off"]),
+        ],
+        b't' => &[(Prep::To, &["to"]), (Prep::Through, &["through"])],
+        b'u' => &[
+            (Prep::With, &["using"]),
+            (Prep::OnTopOf, &["upon"]),
+            (Prep::Under, &["under"]),
+            (Prep::Under, &["underneath"]),
+        ],
+        b'w' => &[(Prep::With, &["with"])],
+        _ => &[],
+    }
 }
 
 // The first of the phrases that the words begin with, and how many words it has.

@@ -1,7 +1,5 @@
-ghost use Rattle.std.specs.Prelude.{◌≡◌, ◌++◌, string_bytes, IfOk};
-ghost use Rattle.mud_words.specs.Words.{without_front, without_back, spelled_out};
-
-use std::alloc::{AllocError, Global};
+ghost use Rattle.std.specs.Prelude.{◌≡◌, ◌∷◌, IfSome, IfNone};
+ghost use Rattle.mud_words.specs.Words.{without_front, without_back, spelled_out, plain_words, after_first_word};
 
 /// The text without the spaces at its front.
 pub(crate) fn without_front(text: &str) -> &str
@@ -17,28 +15,20 @@ pub(crate) fn without_back(text: &str) -> &str
     text.trim_end_matches(' ')
 }
 
-/// The line without the spaces at its front, and without shorthand.
-pub(crate) fn spelled_out(alloc: Global, line: &str) -> Result<String, AllocError>
-    ensures { IfOk result (λ text. string_bytes text ≡ spelled_out (without_front line.now)) }
+/// The verb that the first character of a line stands for, if it does, and the text that follows.
+pub(crate) fn shorthand(line: &str) -> Option<(&'static str, &str)>
+    ensures words { IfSome result (λ v. plain_words (spelled_out line.now) ≡ v.0.now ∷ plain_words v.1.now) }
+    ensures rest { IfSome result (λ v. after_first_word (spelled_out line.now) ≡ v.1.now) }
+    ensures none { IfNone result (spelled_out line.now ≡ line.now) }
 {
-    let (verb, rest) = verb_and_rest(without_front(line));
-    let mut text = String::from_str(alloc, verb)?;
-    text.push_str(rest)?;
-    Ok(text)
-}
-
-// The verb that the first character stands for, and what follows it.
-fn verb_and_rest(line: &str) -> (&'static str, &str)
-    ensures { result.0.now ++ result.1.now ≡ spelled_out line.now }
-{
-    if let Some(rest) = line.strip_prefix('"') {
-        return ("say ", rest);
+    if let Some(text) = line.strip_prefix('"') {
+        return Some(("say", text));
     }
-    if let Some(rest) = line.strip_prefix(':') {
-        return ("emote ", rest);
+    if let Some(text) = line.strip_prefix(':') {
+        return Some(("emote", text));
     }
-    if let Some(rest) = line.strip_prefix(';') {
-        return ("eval ", rest);
+    if let Some(text) = line.strip_prefix(';') {
+        return Some(("eval", text));
     }
-    ("", line)
+    None
 }

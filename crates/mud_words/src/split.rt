@@ -1,31 +1,30 @@
-ghost use Rattle.std.specs.Prelude.{◌≡◌, ℕ, List, [], map, string_bytes, IfOk};
+ghost use Rattle.std.specs.Prelude.{◌≡◌, ℕ, List, [], ◌∷◌, map, string_bytes, IfOk};
+ghost use Rattle.mud_words.specs.Words.{plain_words, without_front, without_back};
 ghost use Rattle.mud_words.specs.Line.{line_of};
 ghost use Rattle.mud_words.specs.Parse.{said};
 ghost use Rattle.mud_words.specs.Searching.{line_with, split, joined};
 
+use crate::cut::push_words;
 use crate::prepositions::counted;
+use crate::spaces::{without_back, without_front};
 use crate::{Parsed, Prep};
 use std::alloc::{AllocError, Global};
 
-/// What some words say, of which the first is the verb.
-pub(crate) fn said(
-    alloc: Global,
-    mut words: Vec<String>,
-    rest: String,
-) -> Result<Parsed, AllocError>
-    ensures { IfOk result (λ p. line_of p ≡ said (map string_bytes words.items) (string_bytes rest)) }
+/// What a line says that has a verb, and this text behind it.
+pub(crate) fn said(alloc: Global, mut verb: String, text: &str) -> Result<Parsed, AllocError>
+    ensures { IfOk result (λ p. line_of p
+        ≡ said (string_bytes verb ∷ plain_words text.now) (without_back (without_front text.now))) }
 {
-    if words.is_empty() {
-        return Ok(blank(alloc, rest));
-    }
-    let mut verb = words.remove(0);
     verb.make_ascii_lowercase();
-    split(alloc, verb, words, rest)
+    let mut args = Vec::new(alloc);
+    push_words(alloc, text, &mut args)?;
+    let rest = String::from_str(alloc, without_back(without_front(text)))?;
+    split(alloc, verb, args, rest)
 }
 
-/// What no words say.
-fn blank(alloc: Global, rest: String) -> Parsed
-    ensures { line_of result ≡ said [] (string_bytes rest) }
+/// What a blank line says.
+pub(crate) fn blank(alloc: Global) -> Parsed
+    ensures { line_of result ≡ said [] [] }
 {
     Parsed {
         verb: String::new(alloc),
@@ -33,7 +32,7 @@ fn blank(alloc: Global, rest: String) -> Parsed
         direct: String::new(alloc),
         prep: None,
         indirect: String::new(alloc),
-        rest,
+        rest: String::new(alloc),
     }
 }
 

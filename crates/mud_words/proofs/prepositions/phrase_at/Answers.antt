@@ -1,7 +1,23 @@
-use Rattle.std.proofs.Common.{rules}
-use Rattle.mud_words.specs.Prepositions.{phrase_at}
+use Rattle.std.proofs.Common.{string_bytes, map, ap, ◌∙◌, option_map, arith}
+use Rattle.mud_words.specs.Searching.{shown, phrase_len}
+use Rattle.mud_words.proofs.PrepositionLemmas.{nothing_begun, empty_begun, letter_begun}
 use Rattle.mud_words.proofs.prepositions.phrase_at.Goals as goal
 
-pub returns : goal.returns
-unfolding phrase_at
-returns c = search rules
+pub returns-in_default-clause-value : goal.returns-in_default-clause-value
+returns-in_default-clause-value c =
+    ap (option_map phrase_len) (nothing_begun string_bytes c.args.words.now (omega arith))
+
+pub returns-in_default-as_bytes-clause-value : goal.returns-in_default-as_bytes-clause-value
+returns-in_default-as_bytes-clause-value c =
+    ap (option_map phrase_len)
+    (empty_begun string_bytes c.args.words.now c.word-item.result c.as_bytes.result.now (omega arith) c.word-item.is
+    c.as_bytes.ensures.value (omega arith))
+
+pub returns-clause-value : goal.returns-clause-value
+returns-clause-value c =
+    c.first_said.ensures.value
+    ∙ ap (option_map phrase_len)
+    (letter_begun string_bytes c.args.words.now c.word-item.result c.as_bytes.result.now c.to_ascii_lowercase.result
+    (map shown c.phrases_with.result.now)
+    (omega arith) c.word-item.is c.as_bytes.ensures.value (omega arith) c.to_ascii_lowercase.ensures.value
+    c.phrases_with.ensures)

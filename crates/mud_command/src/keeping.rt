@@ -1,13 +1,15 @@
 //! The command line of `mud_keep`.
 
+use crate::argument::{Argument, PLACE};
 use crate::fault::CommandFault;
+use crate::form::{Form, program_of};
 use crate::matches::{matches_of, unfit};
 use clap::error::ErrorKind;
-use clap::{Arg, ArgMatches, Command};
+use clap::{ArgMatches, Command};
 use std::alloc::{AllocError, Global};
 
 /// What the keeper of a world wishes.
-#[derive(Clone, Copy, Debug, PartialEq, Eq)]
+#[derive(Clone, Copy)]
 pub enum Wish {
     /// The history that a journal holds.
     Recover,
@@ -18,7 +20,7 @@ pub enum Wish {
 }
 
 /// What `mud_keep` is asked for.
-#[derive(Clone, Copy, Debug)]
+#[derive(Clone, Copy)]
 pub enum Keeping<'a> {
     /// A text of the history or the journal in this file; `-` is standard input.
     Text {
@@ -31,16 +33,6 @@ pub enum Keeping<'a> {
         proof: Option<&'a str>,
     },
 }
-
-// The wishes by name, with what help says of each.
-const WISHES: [(&str, &str); 3] = [
-    (
-        "recover",
-        "Prints the history that a journal holds, with its end",
-    ),
-    ("shorten", "Prints a shorter history of the same world"),
-    ("show", "Prints the world as a table"),
-];
 
 // The wish of this name.
 fn wish_named(name: &str) -> Option<Wish> {
@@ -91,25 +83,45 @@ fn keeping_in<'a>(matches: &ArgMatches<'a>) -> Option<Keeping<'a>> {
 
 // The command line that is understood.
 fn command<'a>(alloc: Global) -> Result<Command<'a>, AllocError> {
-    let mut command = Command::new(alloc, "mud_keep")
-        .about("Recovers, shortens, shows and draws the history of a world")
-        .subcommand_required(true);
-    for (name, about) in WISHES {
-        command = command.subcommand(wished(alloc, name, about)?)?;
-    }
-    let map = wished(alloc, "map", "Prints the rooms and exits as a graph in DOT")?;
-    command.subcommand(map.arg(proof(alloc))?)
+    let about = "Recovers, shortens, shows and draws the history of a world";
+    program_of(alloc, "mud_keep", about, &FORMS)
 }
 
-// The command of a wish.
-fn wished<'a>(alloc: Global, name: &'a str, about: &'a str) -> Result<Command<'a>, AllocError> {
-    let file = Arg::new(alloc, "FILE")
-        .required(true)
-        .help("The file of a history or a journal; - is standard input");
-    Command::new(alloc, name).about(about).arg(file)
-}
+// What can be asked for.
+static FORMS: [Form<'static>; 4] = [
+    Form {
+        name: "recover",
+        about: "Prints the history that a journal holds, with its end",
+        arguments: &[FILE],
+    },
+    Form {
+        name: "shorten",
+        about: "Prints a shorter history of the same world",
+        arguments: &[FILE],
+    },
+    Form {
+        name: "show",
+        about: "Prints the world as a table",
+        arguments: &[FILE],
+    },
+    Form {
+        name: "map",
+        about: "Prints the rooms and exits as a graph in DOT",
+        arguments: &[FILE, PROOF],
+    },
+];
+
+// What is kept.
+const FILE: Argument = Argument {
+    name: "FILE",
+    is_required: true,
+    help: "The file of a history or a journal; - is standard input",
+    ..PLACE
+};
 
 // The certificate that is drawn in.
-fn proof<'a>(alloc: Global) -> Arg<'a> {
-    Arg::new(alloc, "PROOF").help("The file of a certificate that is drawn in")
-}
+const PROOF: Argument = Argument {
+    name: "PROOF",
+    help: "The file of a certificate that is drawn in",
+    ..PLACE
+};

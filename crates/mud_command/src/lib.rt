@@ -5,9 +5,12 @@
 //! ask for nothing, the fault has the text to be shown.
 #![tactic(auto)]
 
+mod argument;
 mod fault;
+mod form;
 mod keeping;
 mod limits;
+mod listen;
 mod matches;
 mod origin;
 mod service;

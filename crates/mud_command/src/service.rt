@@ -3,19 +3,22 @@
 ghost use Rattle.std.specs.Prelude.{◌≤◌, IfOk, IfSome};
 ghost use Rattle.mud_command.specs.Service.{AreWithin, IsServed};
 
+use crate::argument::{CAPACITY, WORKERS};
 use crate::fault::{CommandFault, told};
-use crate::limits::{Limits, capacity, limits_in, load, number, workers};
+use crate::form::{Form, program_of};
+use crate::limits::{Limits, limits_in};
+use crate::listen::LISTEN;
 use crate::matches::unfit;
 use crate::origin::is_origin;
 use clap::error::ErrorKind;
-use clap::{Arg, ArgAction, ArgMatches, Command, value_parser};
+use clap::{ArgMatches, Command};
 use std::alloc::{AllocError, Global};
 
 /// The toolchain with which the programs were proved and built.
 pub const KIT: &str = "rattle-kit-13f logic dac8208d650f15bf";
 
 /// What `mud_serve` is asked for.
-#[derive(Clone, Copy, Debug)]
+#[derive(Clone, Copy)]
 pub enum Service<'a> {
     /// To name itself, and the toolchain with which it was proved.
     Version,
@@ -26,7 +29,7 @@ pub enum Service<'a> {
 }
 
 /// What `mud_serve listen` was asked for.
-#[derive(Clone, Copy, Debug)]
+#[derive(Clone, Copy)]
 pub struct Listening<'a> {
     /// What it shares with a script.
     pub limits: Limits,
@@ -55,7 +58,7 @@ pub struct Listening<'a> {
 }
 
 /// What was asked for of a door on the web.
-#[derive(Clone, Copy, Debug)]
+#[derive(Clone, Copy)]
 pub struct WebListening<'a> {
     /// The address of this machine on which it listens.
     pub address: &'a str,
@@ -155,136 +158,19 @@ fn web_in<'a>(listen: &ArgMatches<'a>, address: &'a str) -> Option<WebListening<
 
 // The command line that is understood.
 fn command<'a>(alloc: Global) -> Result<Command<'a>, AllocError> {
-    let script = script(alloc)?;
-    let listen = listen(alloc)?;
-    Command::new(alloc, "mud_serve")
-        .about("A server of text worlds")
-        .version(KIT)
-        .subcommand_required(true)
-        .subcommand(script)?
-        .subcommand(listen)
+    Ok(program_of(alloc, "mud_serve", "A server of text worlds", &FORMS)?.version(KIT))
 }
 
-// The command of a script.
-fn script<'a>(alloc: Global) -> Result<Command<'a>, AllocError> {
-    Command::new(alloc, "script")
-        .about("Answers the lines of standard input, as the Wizard in a world of his own")
-        .arg(workers(alloc))?
-        .arg(capacity(alloc))
-}
-
-// The command of a server.
-fn listen<'a>(alloc: Global) -> Result<Command<'a>, AllocError> {
-    Command::new(alloc, "listen")
-        .about(
-            "Serves players who come by Telnet or from a browser, up to 64 at once, in one world",
-        )
-        .arg(port(alloc))?
-        .arg(address(alloc))?
-        .arg(web_port(alloc)?)?
-        .arg(web_origin(alloc)?)?
-        .arg(web_address(alloc)?)?
-        .arg(total(alloc))?
-        .arg(count_players(alloc))?
-        .arg(per_address(alloc))?
-        .arg(idle(alloc))?
-        .arg(unnamed(alloc))?
-        .arg(load(alloc))?
-        .arg(journal(alloc))?
-        .arg(console(alloc))?
-        .arg(workers(alloc))?
-        .arg(capacity(alloc))
-}
-
-fn port<'a>(alloc: Global) -> Arg<'a> {
-    Arg::new(alloc, "port")
-        .long("port")
-        .value_name("N")
-        .required(true)
-        .value_parser(value_parser!(u16))
-        .help("The port, 0 to 65535; 0 is one that is free")
-}
-
-fn address<'a>(alloc: Global) -> Arg<'a> {
-    Arg::new(alloc, "address")
-        .long("address")
-        .value_name("A")
-        .default_value("0.0.0.0")
-        .help("The address of this machine on which it listens")
-}
-
-fn web_port<'a>(alloc: Global) -> Result<Arg<'a>, AllocError> {
-    Arg::new(alloc, "web-port")
-        .long("web-port")
-        .value_name("N")
-        .value_parser(value_parser!(u16))
-        .help("The port of a door on the web, 0 to 65535; 0 is one that is free")
-        .requires_arg("web-origin")
-}
-
-fn web_origin<'a>(alloc: Global) -> Result<Arg<'a>, AllocError> {
-    Arg::new(alloc, "web-origin")
-        .long("web-origin")
-        .value_name("URL")
-        .help("Where browsers find that door: http://localhost:8000, without a slash at the end")
-        .requires_arg("web-port")
-}
-
-fn web_address<'a>(alloc: Global) -> Result<Arg<'a>, AllocError> {
-    Arg::new(alloc, "web-address")
-        .long("web-address")
-        .value_name("A")
-        .help(
-            "The address of this machine on which that door is; where it is left out, that of --address",
-        )
-        .requires_arg("web-port")
-}
-
-fn total<'a>(alloc: Global) -> Arg<'a> {
-    number(alloc, "total", 0, 65_536).default_value("0").help(
-        "After how many sessions it ends and prints its history; 0: it does not",
-    )
-}
-
-fn count_players<'a>(alloc: Global) -> Arg<'a> {
-    Arg::new(alloc, "count-players")
-        .long("count-players")
-        .action(ArgAction::SetTrue)
-        .help("Only sessions count for --total that became a player's")
-}
-
-fn per_address<'a>(alloc: Global) -> Arg<'a> {
-    number(alloc, "per-address", 0, 64).default_value("0").help(
-        "How many sessions of one address there may be at once; 0: as many as there are places",
-    )
-}
-
-fn idle<'a>(alloc: Global) -> Arg<'a> {
-    number(alloc, "idle", 0, 4_294_967_295)
-        .default_value("0")
-        .help(
-            "After how many seconds without a line from its player a session ends; 0: it does not",
-        )
-}
-
-fn unnamed<'a>(alloc: Global) -> Arg<'a> {
-    number(alloc, "unnamed", 0, 4_294_967_295)
-        .default_value("0")
-        .help("After how many seconds a session ends that is nobody's player; 0: it does not")
-}
-
-fn journal<'a>(alloc: Global) -> Arg<'a> {
-    Arg::new(alloc, "journal")
-        .long("journal")
-        .value_name("FILE")
-        .help(
-            "Where the history is kept while it runs, and goes on from; each change is there before it is told",
-        )
-}
-
-fn console<'a>(alloc: Global) -> Arg<'a> {
-    Arg::new(alloc, "console")
-        .long("console")
-        .action(ArgAction::SetTrue)
-        .help("A line `stop` on standard input, or its end, ends it and prints its history")
-}
+// What a server can be asked for.
+static FORMS: [Form<'static>; 2] = [
+    Form {
+        name: "script",
+        about: "Answers the lines of standard input, as the Wizard in a world of his own",
+        arguments: &[WORKERS, CAPACITY],
+    },
+    Form {
+        name: "listen",
+        about: "Serves players who come by Telnet or from a browser, up to 64 at once, in one world",
+        arguments: &LISTEN,
+    },
+];

@@ -1,13 +1,15 @@
 //! The command line of `mud_check`.
 
+use crate::argument::{Argument, PLACE};
 use crate::fault::CommandFault;
+use crate::form::{Form, command_of};
 use crate::matches::{matches_of, unfit};
 use clap::error::ErrorKind;
-use clap::{Arg, ArgMatches, Command};
-use std::alloc::{AllocError, Global};
+use clap::{ArgMatches, Command};
+use std::alloc::Global;
 
 /// Where a history's text and a proof's are.
-#[derive(Clone, Copy, Debug)]
+#[derive(Clone, Copy)]
 pub enum Sources<'a> {
     /// In two files of these names.
     Files { history: &'a str, proof: &'a str },
@@ -18,7 +20,7 @@ pub enum Sources<'a> {
 /// Where the words of `mud_check` say that the texts are: in two files, or in standard input where there
 /// are none but the program's name, which is the first.
 pub fn sources_of<'a>(alloc: Global, words: &'a [String]) -> Result<Sources<'a>, CommandFault> {
-    match command(alloc) {
+    match command_of(alloc, &FORM) {
         Ok(mut command) => sources_by(alloc, &mut command, words),
         Err(_) => Err(CommandFault::OutOfMemory),
     }
@@ -50,20 +52,20 @@ fn sources_in<'a>(matches: &ArgMatches<'a>) -> Option<Sources<'a>> {
 }
 
 // The command line that is understood.
-fn command<'a>(alloc: Global) -> Result<Command<'a>, AllocError> {
-    let about =
-        "Tries a certificate against a history; without files it reads the history's text and then the \
-        proof's from standard input";
-    Command::new(alloc, "mud_check")
-        .about(about)
-        .arg(history(alloc))?
-        .arg(proof(alloc))
-}
-
-fn history<'a>(alloc: Global) -> Arg<'a> {
-    Arg::new(alloc, "HISTORY").help("The file of the history's text")
-}
-
-fn proof<'a>(alloc: Global) -> Arg<'a> {
-    Arg::new(alloc, "PROOF").help("The file of the proof's text")
-}
+static FORM: Form<'static> = Form {
+    name: "mud_check",
+    about: "Tries a certificate against a history; without files it reads the history's text and then the \
+        proof's from standard input",
+    arguments: &[
+        Argument {
+            name: "HISTORY",
+            help: "The file of the history's text",
+            ..PLACE
+        },
+        Argument {
+            name: "PROOF",
+            help: "The file of the proof's text",
+            ..PLACE
+        },
+    ],
+};

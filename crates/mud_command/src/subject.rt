@@ -1,7 +1,7 @@
 //! Texts that are explained.
 
 /// What `mud_explain` tells of its input.
-#[derive(Clone, Copy, Debug, PartialEq, Eq)]
+#[derive(Clone, Copy)]
 pub enum Subject {
     /// The units of a Telnet stream.
     Units,
@@ -10,7 +10,7 @@ pub enum Subject {
 }
 
 /// What a line is read as.
-#[derive(Clone, Copy, Debug, PartialEq, Eq)]
+#[derive(Clone, Copy)]
 pub enum Reading {
     /// A line of words.
     Words,
@@ -33,18 +33,3 @@ pub(crate) fn subject_named(name: &str) -> Option<Subject> {
         _ => None,
     }
 }
-
-// The subjects by name, with what help says of each.
-pub(crate) const SUBJECTS: [(&str, &str); 5] = [
-    ("units", "The units of a Telnet stream"),
-    ("words", "The words of each line"),
-    (
-        "parse",
-        "The verb of each line, its objects, its preposition and its rest",
-    ),
-    ("names", "The names that each line is"),
-    (
-        "key",
-        "The key that each line is, with every pair of parentheses, or where it goes wrong",
-    ),
-];

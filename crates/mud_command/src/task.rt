@@ -3,16 +3,17 @@
 ghost use Rattle.std.specs.Prelude.{◌≤◌, IfOk, IfSome};
 ghost use Rattle.mud_command.specs.Task.{IsWithin};
 
+use crate::argument::{CAPACITY, LOAD};
 use crate::fault::CommandFault;
-use crate::limits::{capacity, load};
+use crate::form::{Form, program_of};
 use crate::matches::{matches_of, unfit};
-use crate::subject::{SUBJECTS, Subject, subject_named};
+use crate::subject::{Subject, subject_named};
 use clap::error::ErrorKind;
-use clap::{Arg, ArgMatches, Command};
+use clap::{ArgMatches, Command};
 use std::alloc::{AllocError, Global};
 
 /// What `mud_explain` is asked for.
-#[derive(Clone, Copy, Debug)]
+#[derive(Clone, Copy)]
 pub enum Task<'a> {
     /// To tell how a text is read.
     Text(Subject),
@@ -21,7 +22,7 @@ pub enum Task<'a> {
 }
 
 /// What a hall begins with.
-#[derive(Clone, Copy, Debug)]
+#[derive(Clone, Copy)]
 pub struct Opening<'a> {
     /// How many changes the history holds at most, 1 to 65,536.
     pub capacity: u32,
@@ -83,19 +84,40 @@ fn opening_in<'a>(hall: &ArgMatches<'a>) -> Option<Opening<'a>>
 
 // The command line that is understood.
 fn command<'a>(alloc: Global) -> Result<Command<'a>, AllocError> {
-    let mut command = Command::new(alloc, "mud_explain")
-        .about("Tells how the text of standard input is read, and what desks of a hall answer")
-        .subcommand_required(true);
-    for (name, about) in SUBJECTS {
-        command = command.subcommand(Command::new(alloc, name).about(about))?;
-    }
-    command.subcommand(hall(alloc)?)
+    let about = "Tells how the text of standard input is read, and what desks of a hall answer";
+    program_of(alloc, "mud_explain", about, &FORMS)
 }
 
-// The command that plays the steps of desks.
-fn hall<'a>(alloc: Global) -> Result<Command<'a>, AllocError> {
-    Command::new(alloc, "hall")
-        .about("What each line, a step of a desk, comes to in one hall")
-        .arg(capacity(alloc))?
-        .arg(load(alloc))
-}
+// What can be explained.
+static FORMS: [Form<'static>; 6] = [
+    Form {
+        name: "units",
+        about: "The units of a Telnet stream",
+        arguments: &[],
+    },
+    Form {
+        name: "words",
+        about: "The words of each line",
+        arguments: &[],
+    },
+    Form {
+        name: "parse",
+        about: "The verb of each line, its objects, its preposition and its rest",
+        arguments: &[],
+    },
+    Form {
+        name: "names",
+        about: "The names that each line is",
+        arguments: &[],
+    },
+    Form {
+        name: "key",
+        about: "The key that each line is, with every pair of parentheses, or where it goes wrong",
+        arguments: &[],
+    },
+    Form {
+        name: "hall",
+        about: "What each line, a step of a desk, comes to in one hall",
+        arguments: &[CAPACITY, LOAD],
+    },
+];

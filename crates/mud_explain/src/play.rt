@@ -158,7 +158,7 @@ impl<J: HallName> Play<J> {
             ⊎ GoesOn J.loaded handed.items self.old.desks.items (Some hall) self.new.hall self.new.desks.items told)) }
     {
         match hall.close(rt, handed) {
-            Ok(settled) => push_settled(out, self.alloc, &settled),
+            Ok(settled) => push_settled(out, self.alloc, settled),
             Err((hall, handed, fault)) => {
                 self.hall = Some(hall);
                 take_back(&mut self.desks, handed)?;

@@ -7,7 +7,6 @@ ghost use Rattle.mud_hall.specs.Answers.{answered};
 ghost use Rattle.mud_explain.specs.Told.{fault_line, reply_line, answer_lines, seen_line, told_lines};
 ghost use Rattle.mud_explain.specs.Told.{settled_lines, unsettled_line};
 
-use mud_chron::write_history;
 use mud_guide::Answer;
 use mud_hall::{CloseFault, Fault, Reply, Settled};
 use std::alloc::{AllocError, Global};
@@ -81,20 +80,19 @@ pub(crate) fn push_told(out: &mut String, lines: &[String]) -> Result<(), AllocE
 pub(crate) fn push_settled(
     out: &mut String,
     alloc: Global,
-    settled: &Settled,
+    settled: Settled,
 ) -> Result<(), AllocError>
-    requires { length settled.now.history.items ≤ 65536 }
     ensures { OnOk result (string_bytes out.new ≡ string_bytes out.old
-        ++ settled_lines settled.now.accepted settled.now.loaded settled.now.history.items) }
+        ++ settled_lines settled.accepted settled.loaded settled.history) }
 {
-    let history = settled.history.as_slice();
-    let (accepted, loaded) = (settled.accepted, settled.loaded);
-    writeln!(
-        out,
-        "settled {} accepted {accepted} loaded {loaded}",
-        history.len()
-    )?;
-    write_history(alloc, history, out)
+    let Settled {
+        mut history,
+        accepted,
+        loaded,
+    } = settled;
+    let count = history.len();
+    writeln!(out, "settled {count} accepted {accepted} loaded {loaded}")?;
+    history.write_text(alloc, out)
 }
 
 /// Appends why a hall was not closed.

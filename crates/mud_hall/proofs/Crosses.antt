@@ -16,6 +16,7 @@ use Rattle.mud_row.specs.contracts.replica.Replica as Replica
 use Rattle.mud_row.specs.contracts.row.Row as Row
 use Rattle.mud_hall.specs.declared.name.HallName as HallName
 use Rattle.mud_hall.specs.contracts.desk.Desk as Desk
+use Rattle.mud_hall.specs.contracts.kept.Fresh as Fresh
 use Rattle.mud_hall.specs.contracts.kept.Kept as Kept
 use Rattle.mud_hall.specs.contracts.hall.Hall as Hall
 
@@ -47,7 +48,10 @@ pub desk_send : (J : RattleType) (h : HallName.Ghosts J.Denot) → IsSend J → 
 desk_send J h s = search (sendable, crosses, replica_send) depth 40 fits 20000
 
 pub kept_send : (J : RattleType) (h : HallName.Ghosts J.Denot) → IsSend J → IsSend (Kept.the_row J h)
-kept_send J h s = search (sendable, crosses, replica_send, pass.the_send) depth 40 fits 20000
+kept_send J h s = search (sendable, crosses, pass.the_send) depth 40 fits 20000
+
+pub fresh_send : (J : RattleType) (h : HallName.Ghosts J.Denot) → IsSend J → IsSend (Fresh.the_row J h)
+fresh_send J h s = search (sendable, crosses, replica_send) depth 40 fits 20000
 
 pub hall_sync : (J : RattleType) (h : HallName.Ghosts J.Denot) → IsSend J → IsSync J → IsSync (Hall.the_row J h)
-hall_sync J h s y = search (sendable, crosses, kept_send, row_sync) depth 40 fits 20000
+hall_sync J h s y = search (sendable, crosses, kept_send, fresh_send, row_sync) depth 40 fits 20000

@@ -1,7 +1,9 @@
 -- Facts about each of the first elements of a list, and the versions of one desk's entries.
 use Rattle.std.proofs.Common.{◌≡◌, ℕ, zero, suc, ◌+◌, ◌-◌, ◌<◌, List, [], ◌∷◌, ◌++◌, length, take, drop, get_or}
+use Rattle.std.proofs.Common.{Some, slice_get}
 use Rattle.std.proofs.Common.{set, refl, sym, ap, ◌∙◌, subst, arith, add-one, append_assoc, length-drop}
-use Rattle.std.proofs.lemmas.List.{append-nil, take_all}
+use Rattle.std.proofs.lemmas.List.{append-nil, get_or-drop}
+use Rattle.std.proofs.lemmas.Option.{slice_get_within, slice_get-get_or, get_or_from_slice_get}
 use Rattle.std.proofs.Math.Seq.{take-suc}
 use Rattle.std.proofs.lemmas.List.Elements.{All-append}
 use Rattle.std.specs.Prelude.{All, ◌==◌, if◌then◌else◌}
@@ -44,6 +46,11 @@ versions-snoc n v (x ∷ es) e =
     (versions-snoc n (v + 1) es e ∙ ap (λ k. rest ++ (if e.desk == n then k ∷ [] else [])) same)
     ∙ sym (append_assoc head rest (if e.desk == n then (v + suc (length es)) ∷ [] else []))
 
--- what is left from a place on, as many as there are
-pub rest-all : {X : Type 0} (n : ℕ) (xs : List X) → take (length xs - n) (drop n xs) ≡ drop n xs
-rest-all n xs = take_all (length xs - n) (drop n xs) (omega (arith, length-drop n xs))
+-- what is at a place after the first n
+pub slice_get-drop : {X : Type 0} (xs : List X) (n i : ℕ) (x : X) → slice_get xs (n + i) ≡ Some x
+    → slice_get (drop n xs) i ≡ Some x
+slice_get-drop xs n i x at =
+    let lt : n + i < length xs = slice_get_within xs (n + i) x at in
+    let within : i < length (drop n xs) = omega (arith, lt, length-drop n xs) in
+    slice_get-get_or (drop n xs) i x within
+    ∙ ap Some (get_or-drop n xs i x ∙ get_or_from_slice_get xs (n + i) x x at)

@@ -83,9 +83,7 @@ pub record IsHeld (cells : List ℕ) (loaded : List Accepted) (number : ℕ) (pl
   pub seated : IfSome player (λ p. IsTrue (is_player (world_after r.list) p))
 
 -- what is true of what lies under its lock. A reader need not look into this: contracts only hand it on
-pub record IsKept (cells : List ℕ) (loaded : List Accepted) (given : ℕ) (r : Standing) (start : Known) : Type 0 where
+pub record IsKept (cells : List ℕ) (loaded : List Accepted) (given : ℕ) (start : Known) : Type 0 where
   pub few : given ≤ 64
-  pub row : r.row ≡ cells
-  pub begun : IsPrefix loaded r.list
-  pub start_row : start.row ≡ cells
-  pub start_list : start.list ≡ loaded
+  pub row : start.row ≡ cells
+  pub list : start.list ≡ loaded

@@ -11,9 +11,8 @@ ghost use Rattle.mud_world.specs.State.{is_player};
 use crate::answering;
 use crate::crew::{Crew, guide_by, prove_by};
 use crate::desk::Desk;
-use crate::entries::entries_of;
 use crate::name::HallName;
-use crate::texts::history_answer;
+use crate::texts::known_answer;
 use mud_guide::Answer;
 use mud_row::Row;
 use mud_rules::{Query, Verdict, decide, refusal_text};
@@ -120,10 +119,9 @@ impl<J: HallName> Desk<J> {
         ensures cert { IfOk result (λ a. a.cert ≡ None) }
     {
         let version = self.seen();
-        let entries = entries_of(alloc, row, &mut self.replica)?;
         Ok(Answer {
             version,
-            text: history_answer(alloc, &entries)?,
+            text: known_answer(alloc, row, &mut self.replica)?,
             cert: None,
         })
     }

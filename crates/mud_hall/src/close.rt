@@ -7,13 +7,12 @@ ghost use Rattle.mud_hall.specs.Settling.{HasNumber, AreApart, HaveSameNumber, v
 ghost use Rattle.mud_hall.specs.Checking.{lesser_of, IsLeast, Differs, IsUnnamed, IsCheckFault};
 
 use crate::desk::Desk;
-use crate::entries::entries_known;
+use crate::entries::Made;
 use crate::fault::CloseFault;
 use crate::hall::Hall;
 use crate::kept::Kept;
 use crate::name::HallName;
-use mud_chron::Entry;
-use mud_row::{Pass, Row};
+use mud_row::{History, Pass, Row};
 use std::alloc::Global;
 use std::sync::Wait;
 
@@ -21,7 +20,7 @@ use std::sync::Wait;
 #[derive(Drop)]
 pub struct Settled {
     /// All entries, with those that were loaded in front.
-    pub history: Vec<Entry>,
+    pub history: History,
     /// How many were accepted here.
     pub accepted: u32,
     /// How many were loaded.
@@ -32,87 +31,95 @@ impl<J: HallName> Hall<J> {
     /// Ends the hall and gives its history, where the desks that are handed in are those that made
     /// it; else hall and desks come back. Tried in this order: `SameNumber`, the least number that
     /// two of them have; `Missing`, the least that none of them has; `Mismatch`, the least version
-    /// at which what they know and what they did differ.
+    /// at which what they know and what they did differ. No entry is copied, and with the hall and
+    /// its desks all their worlds are gone.
     pub fn close<R: Wait>(
         self,
         rt: &R,
         desks: Vec<Desk<J>>,
     ) -> Result<Settled, (Hall<J>, Vec<Desk<J>>, CloseFault)>
-        ensures settled { IfOk result (λ s. IsSettled J.loaded desks.items s.history.items) }
+        ensures settled { IfOk result (λ s. IsSettled J.loaded desks.items s.history) }
         ensures loaded { IfOk result (λ s. s.loaded ≡ length J.loaded) }
-        ensures accepted { IfOk result (λ s. s.accepted ≡ length (made J.loaded s.history.items)) }
-        ensures limit { IfOk result (λ s. length s.history.items ≤ 65536) }
+        ensures accepted { IfOk result (λ s. s.accepted ≡ length (made J.loaded s.history)) }
+        ensures limit { IfOk result (λ s. length s.history ≤ 65536) }
         ensures fault { IfErr result (λ f. IsCloseFault J.loaded desks.items f.2) }
         ensures back { IfErr result (λ f. (f.0 ≡ self) × (f.1.items ≡ desks.items)) }
     {
         let mut desks = desks;
         match self.settle(rt, &mut desks) {
-            Ok(settled) => Ok(settled),
+            Ok((whole, accepted)) => Ok(self.ended(whole, accepted)),
             Err(fault) => Err((self, desks, fault)),
         }
     }
 
-    fn settle<R: Wait>(&self, rt: &R, desks: &mut Vec<Desk<J>>) -> Result<Settled, CloseFault>
+    // Which entries the desks made, with those that were loaded in front, and how many they made.
+    fn settle<R: Wait>(&self, rt: &R, desks: &mut Vec<Desk<J>>) -> Result<(Pass, u32), CloseFault>
         ensures same { desks.new.items ≡ desks.old.items }
-        ensures settled { IfOk result (λ s. IsSettled J.loaded desks.old.items s.history.items) }
-        ensures loaded { IfOk result (λ s. s.loaded ≡ length J.loaded) }
-        ensures accepted { IfOk result (λ s. s.accepted ≡ length (made J.loaded s.history.items)) }
-        ensures limit { IfOk result (λ s. length s.history.items ≤ 65536) }
+        ensures row { IfOk result (λ s. s.0.row ≡ J.cells) }
+        ensures settled { IfOk result (λ s. IsSettled J.loaded desks.old.items s.0.list) }
+        ensures accepted { IfOk result (λ s. s.1 ≡ length (made J.loaded s.0.list)) }
         ensures fault { IfErr result (IsCloseFault J.loaded desks.old.items) }
     {
         let mut kept = self.kept.lock(rt);
         kept.settle(self.alloc, &self.row, self.loaded, desks)
     }
+
+    // The history that is left of the hall.
+    fn ended(self, whole: Pass, accepted: u32) -> Settled
+        requires { whole.row ≡ J.cells }
+        ensures history { result.history ≡ whole.list }
+        ensures accepted { result.accepted ≡ accepted }
+        ensures loaded { result.loaded ≡ length J.loaded }
+        ensures limit { length result.history ≤ 65536 }
+    {
+        let Hall { row, loaded, .. } = self;
+        let history = History::new(row, whole);
+        let _ = history.len();
+        Settled {
+            history,
+            accepted,
+            loaded,
+        }
+    }
 }
 
 impl<J: HallName> Kept<J> {
-    // The history that the desks made.
+    // Which entries the desks made, with those that were loaded in front, and how many they made.
     fn settle(
         &mut self,
         alloc: Global,
         row: &Row,
         loaded: u32,
         desks: &mut Vec<Desk<J>>,
-    ) -> Result<Settled, CloseFault>
+    ) -> Result<(Pass, u32), CloseFault>
         requires row { row.now ≡ J.cells }
         requires loaded { loaded ≡ length J.loaded }
         ensures same { desks.new.items ≡ desks.old.items }
-        ensures settled { IfOk result (λ s. IsSettled J.loaded desks.old.items s.history.items) }
-        ensures loaded { IfOk result (λ s. s.loaded ≡ length J.loaded) }
-        ensures accepted { IfOk result (λ s. s.accepted ≡ length (made J.loaded s.history.items)) }
-        ensures limit { IfOk result (λ s. length s.history.items ≤ 65536) }
+        ensures row { IfOk result (λ s. s.0.row ≡ J.cells) }
+        ensures settled { IfOk result (λ s. IsSettled J.loaded desks.old.items s.0.list) }
+        ensures accepted { IfOk result (λ s. s.1 ≡ length (made J.loaded s.0.list)) }
         ensures fault { IfErr result (IsCloseFault J.loaded desks.old.items) }
     {
         let given = self.given();
-        let history = self.gathered(alloc, row, desks)?;
-        let new = &history[loaded as usize..];
-        if let Err(fault) = check(desks, given, new, loaded + 1) {
+        let mut whole = self.gathered(alloc, desks)?;
+        let accepted = whole.known() - loaded;
+        let mut new = Made::new(row, whole.again(alloc)?, loaded);
+        if let Err(fault) = check(desks, given, &mut new, loaded + 1) {
             return Err(fault);
         }
-        let accepted = new.len() as u32;
-        Ok(Settled {
-            history,
-            accepted,
-            loaded,
-        })
+        Ok((whole, accepted))
     }
 
     // The longest of what was loaded and of what each desk knows.
-    fn gathered(
-        &mut self,
-        alloc: Global,
-        row: &Row,
-        desks: &mut Vec<Desk<J>>,
-    ) -> Result<Vec<Entry>, CloseFault>
-        requires row { row.now ≡ J.cells }
+    fn gathered(&mut self, alloc: Global, desks: &mut Vec<Desk<J>>) -> Result<Pass, CloseFault>
         ensures same { desks.new.items ≡ desks.old.items }
-        ensures gathered { IfOk result (λ h. IsGathered J.loaded desks.old.items h.items) }
-        ensures limit { IfOk result (λ h. length h.items ≤ 65536) }
+        ensures row { IfOk result (λ h. h.row ≡ J.cells) }
+        ensures gathered { IfOk result (λ h. IsGathered J.loaded desks.old.items h.list) }
         ensures fault { IfErr result (λ f. f ≡ CloseFault.OutOfMemory) }
     {
         let mut whole = self.start.again(alloc)?;
         gather(desks, &mut whole);
-        Ok(entries_known(alloc, row, &mut whole)?)
+        Ok(whole)
     }
 }
 
@@ -133,15 +140,16 @@ pub(crate) fn gather<J: HallName>(desks: &mut Vec<Desk<J>>, whole: &mut Pass)
 fn check<J: HallName>(
     desks: &[Desk<J>],
     given: u32,
-    new: &[Entry],
+    new: &mut Made<'_>,
     first: u32,
 ) -> Result<(), CloseFault>
-    requires few { length new.now + first ≤ 65537 }
+    requires few { length new.old + first ≤ 65537 }
     requires given { given ≤ 64 }
-    ensures calls { OnOk result (All (λ d. d.state.calls ≡ versions_by d.state.number first new.now) desks.now) }
+    ensures same { new.new ≡ new.old }
+    ensures calls { OnOk result (All (λ d. d.state.calls ≡ versions_by d.state.number first new.old) desks.now) }
     ensures apart { OnOk result (AreApart desks.now) }
-    ensures named { OnOk result (All (λ e. HasNumber desks.now e.desk) new.now) }
-    ensures fault { IfErr result (IsCheckFault desks.now first new.now) }
+    ensures named { OnOk result (All (λ e. HasNumber desks.now e.desk) new.old) }
+    ensures fault { IfErr result (IsCheckFault desks.now first new.old) }
 {
     if let Some(number) = same_number(desks) {
         return Err(CloseFault::SameNumber(number));
@@ -203,30 +211,33 @@ fn missing<J: HallName>(desks: &[Desk<J>], given: u32) -> Option<u32>
 }
 
 // The least version at odds.
-fn mismatch<J: HallName>(desks: &[Desk<J>], new: &[Entry], first: u32) -> Option<u32>
-    requires { length new.now + first ≤ 65537 }
-    ensures { IsLeast (IsAtOdds desks.now first new.now) result }
+fn mismatch<J: HallName>(desks: &[Desk<J>], new: &mut Made<'_>, first: u32) -> Option<u32>
+    requires { length new.old + first ≤ 65537 }
+    ensures same { new.new ≡ new.old }
+    ensures least { IsLeast (IsAtOdds desks.now first new.old) result }
 {
     lesser(differing(desks, new, first), unnamed(desks, new, first))
 }
 
 // The least version whose entry bears the number of no desk.
-fn unnamed<J: HallName>(desks: &[Desk<J>], new: &[Entry], first: u32) -> Option<u32>
-    requires { length new.now + first ≤ 65537 }
-    ensures { IsLeast (IsUnnamed desks.now first new.now) result }
+fn unnamed<J: HallName>(desks: &[Desk<J>], new: &mut Made<'_>, first: u32) -> Option<u32>
+    requires { length new.old + first ≤ 65537 }
+    ensures same { new.new ≡ new.old }
+    ensures least { IsLeast (IsUnnamed desks.now first new.old) result }
 {
-    for (i, entry) in new.iter().enumerate() {
-        if !has_number(desks, entry.desk()) {
-            return Some(i as u32 + first);
+    for i in 0..new.len() {
+        if !has_number(desks, new.desk(i)) {
+            return Some(i + first);
         }
     }
     None
 }
 
 // The least of the versions at which the calls of a desk and the entries differ first.
-fn differing<J: HallName>(desks: &[Desk<J>], new: &[Entry], first: u32) -> Option<u32>
-    requires { length new.now + first ≤ 65537 }
-    ensures { IsLeast (Differs desks.now first new.now) result }
+fn differing<J: HallName>(desks: &[Desk<J>], new: &mut Made<'_>, first: u32) -> Option<u32>
+    requires { length new.old + first ≤ 65537 }
+    ensures same { new.new ≡ new.old }
+    ensures least { IsLeast (Differs desks.now first new.old) result }
 {
     let mut least = None;
     for desk in desks {
@@ -249,23 +260,25 @@ impl<J: HallName> Desk<J> {
     }
 
     // The first version at which its calls and the entries differ.
-    fn differs(&self, new: &[Entry], first: u32) -> Option<u32>
-        requires { length new.now + first ≤ 65537 }
-        ensures { result ≡ first_apart self.now.state.calls (versions_by self.now.state.number first new.now) }
+    fn differs(&self, new: &mut Made<'_>, first: u32) -> Option<u32>
+        requires { length new.old + first ≤ 65537 }
+        ensures same { new.new ≡ new.old }
+        ensures first { result ≡ first_apart self.now.state.calls (versions_by self.now.state.number first new.old) }
     {
         differs(self.number, &self.calls, new, first)
     }
 }
 
 // The first version at which the calls of the desk of this number and the entries differ.
-fn differs(number: u32, calls: &[u32], new: &[Entry], first: u32) -> Option<u32>
-    requires { length new.now + first ≤ 65537 }
-    ensures { result ≡ first_apart calls.now (versions_by number first new.now) }
+fn differs(number: u32, calls: &[u32], new: &mut Made<'_>, first: u32) -> Option<u32>
+    requires { length new.old + first ≤ 65537 }
+    ensures same { new.new ≡ new.old }
+    ensures first { result ≡ first_apart calls.now (versions_by number first new.old) }
 {
     let mut next: usize = 0;
-    for (i, entry) in new.iter().enumerate() {
-        let version = i as u32 + first;
-        if entry.desk() == number {
+    for i in 0..new.len() {
+        let version = i + first;
+        if new.desk(i) == number {
             if next == calls.len() {
                 return Some(version);
             }

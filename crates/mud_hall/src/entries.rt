@@ -1,49 +1,64 @@
-//! The entries of a history as a list.
+//! The entries of a hall, as they stand in its row.
 
-ghost use Rattle.std.specs.Prelude.{◌≡◌, ◌≤◌, length, IfOk};
+ghost use Rattle.std.specs.Prelude.{◌≡◌, ◌≤◌, ◌<◌, length, drop, Some, slice_get};
+ghost use Rattle.mud_chron.specs.Entry.{Accepted};
 
-use mud_chron::Entry;
-use mud_row::{Pass, Replica, Row};
-use std::alloc::{AllocError, Global};
+use mud_row::{Pass, Row};
+use std::marker::Model;
 
-/// Copies of the entries that a replica knows, which stays as it was.
-pub(crate) fn entries_of(
-    alloc: Global,
-    row: &Row,
-    replica: &mut Replica,
-) -> Result<Vec<Entry>, AllocError>
-    requires { replica.old.row ≡ row.now }
-    ensures same { replica.new ≡ replica.old }
-    ensures entries { IfOk result (λ h. h.items ≡ replica.old.list) }
-    ensures limit { length replica.old.list ≤ 65536 }
-{
-    let mut all = Vec::new(alloc);
-    for i in 0..replica.known() {
-        match replica.entry(row, i + 1) {
-            Some(entry) => all.push(entry.copy(alloc)?)?,
-            None => unreachable!(),
-        }
-    }
-    Ok(all)
+/// The entries that were made after what was loaded: of those that the pass knows, all but the first so many. A
+/// contract sees them in order.
+#[derive(Drop)]
+pub(crate) struct Made<'r> {
+    row: &'r Row,
+    pass: Pass,
+    loaded: u32,
 }
 
-/// Copies of the entries that a pass knows, which stays as it was.
-pub(crate) fn entries_known(
-    alloc: Global,
-    row: &Row,
-    pass: &mut Pass,
-) -> Result<Vec<Entry>, AllocError>
-    requires { pass.old.row ≡ row.now }
-    ensures same { pass.new ≡ pass.old }
-    ensures entries { IfOk result (λ h. h.items ≡ pass.old.list) }
-    ensures limit { length pass.old.list ≤ 65536 }
-{
-    let mut all = Vec::new(alloc);
-    for i in 0..pass.known() {
-        match row.entry(pass, i + 1) {
-            Some(entry) => all.push(entry.copy(alloc)?)?,
+impl<'r> Model for Made<'r> {
+    ghost use Rattle.std.specs.Prelude.{◌≡◌, ◌≤◌, List, drop, length};
+    ghost use Rattle.mud_chron.specs.Entry.{Accepted};
+
+    ghost Value = { List Accepted };
+
+    ghost use Rattle.mud_key.specs.TreeCode.{coded_number_tree};
+    ghost use Rattle.std.specs.Coded.{codes};
+
+    ghost coded = { Prim.hlevel (codes, coded_number_tree) };
+
+    ghost view = { λ m. drop m.loaded m.pass.list };
+
+    ghost invariant = { λ m. (m.pass.row ≡ m.row.now) × (m.loaded ≤ length m.pass.list) };
+}
+
+impl<'r> Made<'r> {
+    /// Those after the first `loaded` that the pass knows.
+    pub(crate) fn new(row: &'r Row, pass: Pass, loaded: u32) -> Made<'r>
+        requires row { pass.row ≡ row.now }
+        requires loaded { loaded ≤ length pass.list }
+        ensures { result ≡ drop loaded pass.list }
+    {
+        Made { row, pass, loaded }
+    }
+
+    /// How many they are.
+    pub(crate) fn len(&self) -> u32
+        ensures len { result ≡ length self.now }
+        ensures limit { result ≤ 65536 }
+    {
+        self.pass.known() - self.loaded
+    }
+
+    /// The number of the desk that made the one at this place, counted from 0.
+    pub(crate) fn desk(&mut self, i: u32) -> u32
+        requires { i < length self.old }
+        ensures same { self.new ≡ self.old }
+        ensures desk { (e : Accepted) × (slice_get self.old i ≡ Some e) × (result ≡ e.desk) }
+    {
+        let _ = self.pass.known();
+        match self.row.entry(&mut self.pass, self.loaded + i + 1) {
+            Some(entry) => entry.desk(),
             None => unreachable!(),
         }
     }
-    Ok(all)
 }

@@ -2,6 +2,7 @@
 
 ghost use Rattle.std.specs.Prelude.{◌≡◌, ◌≢◌, ◌≤◌, ◌<◌, ◌⊎◌, [], length, max, IfOk, IfErr, OnErr, OnOk};
 ghost use Rattle.std.specs.List.{AllByRecursion};
+ghost use mathlib.Core.List.{IsPrefix};
 ghost use Rattle.mud_chron.specs.Entry.{IsEntry};
 ghost use Rattle.mud_hall.specs.Desk.{IsNew, TakesIn, untold};
 ghost use Rattle.mud_hall.specs.Replies.{Failed, shown, Acts};
@@ -12,7 +13,7 @@ ghost use Rattle.mud_hall.specs.Steps.{AreLoadable};
 use crate::crew::Crew;
 use crate::desk::Desk;
 use crate::fault::{Fault, LoadFault};
-use crate::kept::Kept;
+use crate::kept::{Fresh, Kept};
 use crate::name::HallName;
 use crate::reply::Reply;
 use mud_chron::{ChronFault, Entry, replay};
@@ -117,7 +118,8 @@ impl NewHall {
         } = self;
         let loaded = known.known();
         Hall {
-            kept: Mutex::new(Kept::new(known, start)),
+            kept: Mutex::new(Kept::new(start)),
+            fresh: Mutex::new(Fresh::new(known)),
             row,
             alloc,
             loaded,
@@ -152,12 +154,14 @@ fn are_entries(entries: &[Entry])
     }
 }
 
-/// One history, and the desks of those who make it. The lock keeps how many desks were given and what
-/// the hall itself knows, nothing else. How many entries the history can have, and which were loaded,
-/// its type says. It has no model: so the prover finds by itself that threads may share a hall.
+/// One history, and the desks of those who make it. Its lock keeps how many desks were given and what was loaded; a
+/// second one keeps the world that new desks copy, so that who acts never waits for that. How many entries the history
+/// can have, and which were loaded, its type says. It has no model: so the prover finds by itself that threads may
+/// share a hall.
 #[derive(Drop)]
 pub struct Hall<J: HallName> {
     pub(crate) kept: Mutex<Kept<J>>,
+    fresh: Mutex<Fresh<J>>,
     pub(crate) row: Row,
     pub(crate) alloc: Global,
     pub(crate) loaded: u32,
@@ -182,13 +186,30 @@ impl<J: HallName> Hall<J> {
     }
 
     /// A guest's desk of the next number, from 1, which has seen the whole history. It is
-    /// `DesksFull` where 64 were given.
+    /// `DesksFull` where 64 were given. Who acts does not wait while a world is copied for it.
     pub fn desk<R: Wait>(&self, rt: &R) -> Result<Desk<J>, Fault>
         ensures new { IfOk result (λ d. IsNew J.loaded d.state) }
         ensures fault { IfErr result (λ f. (f ≡ Fault.OutOfMemory) ⊎ (f ≡ Fault.DesksFull)) }
     {
+        let replica = self.copied(rt)?;
         let mut kept = self.kept.lock(rt);
-        kept.desk(self.alloc, &self.row)
+        kept.desk(self.alloc, replica)
+    }
+
+    // A copy of what the hall itself knows, once it knows all that is found.
+    fn copied<R: Wait>(&self, rt: &R) -> Result<Replica, AllocError>
+        ensures row { IfOk result (λ r. r.row ≡ J.cells) }
+        ensures loaded { IfOk result (λ r. IsPrefix J.loaded r.list) }
+    {
+        let mut fresh = self.fresh.lock(rt);
+        fresh.copy(self.alloc, &self.row)
+    }
+
+    // Has what new desks copy follow the history, unless somebody else has it do so now.
+    fn follow(&self) {
+        if let Some(mut fresh) = self.fresh.try_lock() {
+            fresh.follow(&self.row);
+        }
     }
 
     /// Takes in all entries, and then replies to the line in the world that they lead to. A change
@@ -198,8 +219,11 @@ impl<J: HallName> Hall<J> {
         ensures acts { Acts (length J.cells) desk.old.state line.now (shown result) desk.new.state }
         ensures told { shown result ≢ Failed Fault.OutOfMemory → untold desk.new ≡ [] }
     {
-        let _kept = self.kept.lock(rt);
-        desk.act(self.alloc, &self.row, line)
+        let kept = self.kept.lock(rt);
+        let reply = desk.act(self.alloc, &self.row, line);
+        drop(kept);
+        self.follow();
+        reply
     }
 }
 

@@ -1,6 +1,6 @@
-//! What lies under the lock of a hall.
+//! What lies under the locks of a hall.
 
-ghost use Rattle.std.specs.Prelude.{◌≡◌, ◌≤◌, ◌<◌, ◌+◌, ◌↔◌, IfOk, OnOk, OnErr, IsErrAnd, IfErr, ◌⊎◌};
+ghost use Rattle.std.specs.Prelude.{◌≡◌, ◌≤◌, ◌<◌, ◌+◌, ◌↔◌, IfOk, IsErr, IfErr};
 ghost use mathlib.Core.List.{IsPrefix};
 ghost use Rattle.mud_hall.specs.Desk.{IsNew};
 
@@ -15,39 +15,37 @@ use std::marker::{Model, PhantomData};
 /// The most desks of a hall.
 pub const MOST_DESKS: u32 = 64;
 
-/// How many desks were given, what the hall knows, which begins with what was loaded, and only what
-/// was loaded. A contract sees the number.
+// The most entries that are taken at once into the world that new desks copy.
+const MOST_FOLLOWED: u32 = 16;
+
+/// How many desks were given, and what was loaded. A contract sees the number.
 #[derive(Drop)]
 pub struct Kept<J: HallName> {
     given: u32,
-    pub(crate) known: Replica,
     pub(crate) start: Pass,
     of: PhantomData<J>,
 }
 
 impl<J: HallName> Model for Kept<J> {
-    ghost use Rattle.std.specs.Prelude.{ℕ, ◌≡◌, ◌≤◌};
+    ghost use Rattle.std.specs.Prelude.{ℕ};
     ghost use Rattle.mud_hall.specs.Desk.{IsKept};
 
     ghost Value = { ℕ };
 
     ghost view = { λ k. k.given };
 
-    ghost invariant = { λ k. IsKept J.cells J.loaded k.given k.known k.start };
+    ghost invariant = { λ k. IsKept J.cells J.loaded k.given k.start };
 }
 
 impl<J: HallName> Kept<J> {
     // At first no desk was given.
-    pub(crate) fn new(known: Replica, start: Pass) -> Kept<J>
-        requires row { known.row ≡ J.cells }
-        requires loaded { IsPrefix J.loaded known.list }
-        requires start_row { start.row ≡ J.cells }
-        requires start_list { start.list ≡ J.loaded }
+    pub(crate) fn new(start: Pass) -> Kept<J>
+        requires row { start.row ≡ J.cells }
+        requires list { start.list ≡ J.loaded }
         ensures { result ≡ 0 }
     {
         Kept {
             given: 0,
-            known,
             start,
             of: PhantomData,
         }
@@ -72,20 +70,84 @@ impl<J: HallName> Kept<J> {
         })
     }
 
-    // The desk of the next number, which has seen all that is found.
-    pub(crate) fn desk(&mut self, alloc: Global, row: &Row) -> Result<Desk<J>, Fault>
-        requires { row.now ≡ J.cells }
+    // The desk of the next number, with this replica.
+    pub(crate) fn desk(&mut self, alloc: Global, replica: Replica) -> Result<Desk<J>, Fault>
+        requires row { replica.row ≡ J.cells }
+        requires loaded { IsPrefix J.loaded replica.list }
         ensures new { IfOk result (λ d. IsNew J.loaded d.state) }
         ensures number { IfOk result (λ d. (d.state.number ≡ self.old + 1) × (self.new ≡ self.old + 1)) }
-        ensures err { IfErr result (λ f. (self.new ≡ self.old) × ((f ≡ Fault.OutOfMemory) ⊎ (f ≡ Fault.DesksFull))) }
-        ensures full { IsErrAnd result (λ f. f ≡ Fault.DesksFull) ↔ (self.old ≡ 64) }
+        ensures err { IfErr result (λ f. (self.new ≡ self.old) × (f ≡ Fault.DesksFull)) }
+        ensures full { IsErr result ↔ (self.old ≡ 64) }
     {
         if self.given >= MOST_DESKS {
             return Err(Fault::DesksFull);
         }
-        self.known.see(row)?;
-        let replica = self.known.copy(alloc)?;
         self.given += 1;
         Ok(Desk::guest_at(alloc, replica, self.given))
+    }
+}
+
+/// What the hall itself knows, which begins with what was loaded: new desks copy it. A contract sees how many entries
+/// it knows.
+#[derive(Drop)]
+pub struct Fresh<J: HallName> {
+    known: Replica,
+    of: PhantomData<J>,
+}
+
+impl<J: HallName> Model for Fresh<J> {
+    ghost use Rattle.std.specs.Prelude.{ℕ, ◌≡◌, length};
+    ghost use mathlib.Core.List.{IsPrefix};
+
+    ghost Value = { ℕ };
+
+    ghost view = { λ f. length f.known.list };
+
+    ghost invariant = { λ f. (f.known.row ≡ J.cells) × IsPrefix J.loaded f.known.list };
+}
+
+impl<J: HallName> Fresh<J> {
+    // It knows what the replica knows.
+    pub(crate) fn new(known: Replica) -> Fresh<J>
+        requires row { known.row ≡ J.cells }
+        requires loaded { IsPrefix J.loaded known.list }
+    {
+        Fresh {
+            known,
+            of: PhantomData,
+        }
+    }
+
+    // Comes to know what is found, and takes some of it into its world: so it is never far behind. What it has no
+    // memory for it takes in later.
+    pub(crate) fn follow(&mut self, row: &Row)
+        requires { row.now ≡ J.cells }
+    {
+        self.known.extend(row);
+        take_some_in(&mut self.known, row);
+    }
+
+    // A copy that knows all that is found, and has it in its world.
+    pub(crate) fn copy(&mut self, alloc: Global, row: &Row) -> Result<Replica, AllocError>
+        requires { row.now ≡ J.cells }
+        ensures row { IfOk result (λ r. r.row ≡ J.cells) }
+        ensures loaded { IfOk result (λ r. IsPrefix J.loaded r.list) }
+    {
+        self.known.see(row)?;
+        self.known.copy(alloc)
+    }
+}
+
+// Takes some of the known entries into the world.
+fn take_some_in(known: &mut Replica, row: &Row)
+    requires { known.old.row ≡ row.now }
+    ensures row { known.new.row ≡ known.old.row }
+    ensures list { known.new.list ≡ known.old.list }
+{
+    for _ in 0..MOST_FOLLOWED {
+        match known.step(row) {
+            Ok(true) => {}
+            _ => return,
+        }
     }
 }

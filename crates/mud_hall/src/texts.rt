@@ -7,6 +7,7 @@ ghost use Rattle.mud_cert.specs.Text.{cert_text};
 use mud_cert::Cert;
 use mud_cert::text_laws::ends_with_lf;
 use mud_chron::{Entry, write_history};
+use mud_row::{Replica, Row};
 use std::alloc::{AllocError, Global};
 
 /// The answer to `@history`: the word, and the lines of the history text, the last without its end.
@@ -16,6 +17,22 @@ pub(crate) fn history_answer(alloc: Global, history: &[Entry]) -> Result<String,
 {
     let mut text = String::from_str(alloc, "history\n")?;
     write_history(alloc, history, &mut text)?;
+    Ok(without_last_line_end(text))
+}
+
+/// The same of the entries that a replica knows, which stays as it was. They are not copied.
+pub(crate) fn known_answer(
+    alloc: Global,
+    row: &Row,
+    replica: &mut Replica,
+) -> Result<String, AllocError>
+    requires { replica.old.row ≡ row.now }
+    ensures same { replica.new ≡ replica.old }
+    ensures text { IfOk result
+        (λ text. string_bytes text ++ codes "\n" ≡ codes "history\n" ++ written_text replica.old.list) }
+{
+    let mut text = String::from_str(alloc, "history\n")?;
+    replica.write_text(alloc, row, &mut text)?;
     Ok(without_last_line_end(text))
 }
 

@@ -1,3 +1,4 @@
 pub mod Crosses
 pub mod Keeping
 pub mod Written
+pub mod Pieces

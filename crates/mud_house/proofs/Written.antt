@@ -44,10 +44,9 @@ may_end limits loaded history desks few settled loadable = record {
       (λ e. Contains (map number_of desks) e.desk) (λ e. numbered desks e.desk) (made loaded history) settled.named;
 }
 
-pub end_of : (limits : Limits) (loaded begun history written : List Accepted) → begun ≡ loaded → written ≡ history
-    → MayEnd limits begun history → MayEnd limits loaded written
-end_of limits loaded begun history written is same ends =
-    subst (λ l. MayEnd limits l written) is (subst (MayEnd limits begun) (sym same) ends)
+pub end_of : (limits : Limits) (loaded begun history : List Accepted) → begun ≡ loaded
+    → MayEnd limits begun history → MayEnd limits loaded history
+end_of limits loaded begun history is ends = subst (λ l. MayEnd limits l history) is ends
 
 -- the lines of two ports, as they are written
 pub two_lines : (telnet web : ℕ)

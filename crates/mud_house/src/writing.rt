@@ -1,6 +1,6 @@
 //! What a server writes.
 
-ghost use Rattle.std.specs.Prelude.{◌≡◌, ◌≤◌, ◌⊎◌, ℕ, length, take, true, IfOk, IfErr, OnOk, OnErr};
+ghost use Rattle.std.specs.Prelude.{◌≡◌, ◌⊎◌, ℕ, take, true, IfOk, IfErr, OnOk, OnErr};
 ghost use Rattle.std.specs.Prelude.{string_bytes};
 ghost use Rattle.std.specs.Io.KnownBytes.{Appends};
 ghost use Rattle.mud_chron.specs.Text.{history_text};
@@ -9,10 +9,14 @@ ghost use Rattle.mud_house.specs.Listening.{opening_lines};
 
 use crate::doors::Ports;
 use crate::fault::ListenFault;
-use mud_chron::{Entry, write_history};
+use mud_chron::Format;
 use mud_ends::Sink;
+use mud_row::{History, write_end};
 use std::alloc::{AllocError, Global};
 use std::io::Write;
+
+// From how many bytes on a piece of a history's text is written.
+const PIECE_LEN: usize = 65_536;
 
 /// Writes the lines that name the ports; where it fails, a beginning of them.
 pub fn write_ports<W: Write>(
@@ -30,20 +34,28 @@ pub fn write_ports<W: Write>(
     write(out, lines.as_bytes())
 }
 
-/// Writes the text of a history; where it fails, a beginning of it.
+/// Writes the text of a history, which stays as it was; where it fails, a beginning of it. It is made piece by piece,
+/// so it takes memory for one piece.
 pub fn write_entries<W: Write>(
     alloc: Global,
     out: &mut Sink<W>,
-    history: &[Entry],
+    history: &mut History,
 ) -> Result<(), ListenFault>
-    requires { length history.now ≤ 65536 }
-    ensures ok { OnOk result (Appends out.old.holds out.new.holds (history_text Two history.now)) }
+    ensures ok { OnOk result (Appends out.old.holds out.new.holds (history_text Two history.old)) }
     ensures front { OnErr result ((n : ℕ) × Appends out.old.holds out.new.holds
-        (take n (history_text Two history.now))) }
+        (take n (history_text Two history.old))) }
     ensures fault { IfErr result (λ f. (f ≡ ListenFault.OutOfMemory)
         ⊎ ((f ≡ ListenFault.Write) × (out.new.has_failed ≡ true))) }
 {
-    let text = text_of(alloc, history)?;
+    let mut text = String::from_str(alloc, Format::Two.first_line())?;
+    for n in 0..history.len() {
+        history.write_line(alloc, n, &mut text)?;
+        if text.len() >= PIECE_LEN {
+            write(out, text.as_bytes())?;
+            text.clear();
+        }
+    }
+    write_end(alloc, history.len(), &mut text)?;
     write(out, text.as_bytes())
 }
 
@@ -56,16 +68,6 @@ fn ports_lines(alloc: Global, ports: Ports) -> Result<String, AllocError>
         None => format!(in alloc; "listening on {telnet}\n"),
         Some(web) => format!(in alloc; "listening on {telnet}\nweb on {web}\n"),
     }
-}
-
-// The text of a history.
-fn text_of(alloc: Global, history: &[Entry]) -> Result<String, AllocError>
-    requires { length history.now ≤ 65536 }
-    ensures { IfOk result (λ text. string_bytes text ≡ history_text Two history.now) }
-{
-    let mut text = String::new(alloc);
-    write_history(alloc, history, &mut text)?;
-    Ok(text)
 }
 
 // Writes all of a text; where it fails, a beginning of it.

@@ -20,6 +20,7 @@ use mud_house::{
     settle_journaled, write_entries, write_ports,
 };
 use mud_journal::{Disk, Found, Gate, Journal, JournalFault};
+use mud_row::History;
 use std::alloc::{AllocError, Global};
 use std::io::Write;
 use std::marker::Brand;
@@ -167,7 +168,7 @@ fn serve_all<J: HallName + Send + Sync, D: Disk + Drop, R: Threads + Wait + Log 
     limits: Limits,
     stop: Option<&StopSign>,
     journal: Journal<D>,
-) -> Result<(Vec<Entry>, Journal<D>, bool), ListenFault>
+) -> Result<(History, Journal<D>, bool), ListenFault>
     requires cells { hall.cells ≡ J.cells }
     requires loaded { hall.loaded ≡ J.loaded }
     requires workers { limits.workers ≤ 8 }
@@ -175,9 +176,8 @@ fn serve_all<J: HallName + Send + Sync, D: Disk + Drop, R: Threads + Wait + Log 
     requires holds { Holds (D.kept journal.disk) J.loaded }
     requires count { journal.count ≡ length J.loaded }
     requires going { journal.has_failed ≡ false }
-    ensures ends { IfOk result (λ s. MayEnd limits J.loaded s.0.items) }
-    ensures journaled { IfOk result (λ s. Holds (D.kept s.1.disk) s.0.items) }
-    ensures limit { IfOk result (λ s. length s.0.items ≤ 65536) }
+    ensures ends { IfOk result (λ s. MayEnd limits J.loaded s.0) }
+    ensures journaled { IfOk result (λ s. Holds (D.kept s.1.disk) s.0) }
     ensures total { IfOk result (λ s. IsTrue s.2 → IfNone stop.entry (0 < limits.total)) }
     ensures fault { IfErr result (λ f. (capacity : ℕ) (loaded : List Accepted) (old new : Writer)
         → IsListenFault capacity loaded old new f) }
@@ -210,15 +210,14 @@ fn serve<D: Disk + Drop, R: Threads + Wait + Log + Clock + Sync>(
     limits: Limits,
     stop: Option<&StopSign>,
     journal: Journal<D>,
-) -> Result<(Vec<Entry>, Journal<D>, bool), ListenFault>
+) -> Result<(History, Journal<D>, bool), ListenFault>
     requires workers { limits.workers ≤ 8 }
     requires capacity { limits.capacity ≤ 65536 }
     requires holds { Holds (D.kept journal.disk) hall.loaded }
     requires count { journal.count ≡ length hall.loaded }
     requires going { journal.has_failed ≡ false }
-    ensures ends { IfOk result (λ s. MayEnd limits hall.loaded s.0.items) }
-    ensures journaled { IfOk result (λ s. Holds (D.kept s.1.disk) s.0.items) }
-    ensures limit { IfOk result (λ s. length s.0.items ≤ 65536) }
+    ensures ends { IfOk result (λ s. MayEnd limits hall.loaded s.0) }
+    ensures journaled { IfOk result (λ s. Holds (D.kept s.1.disk) s.0) }
     ensures total { IfOk result (λ s. IsTrue s.2 → IfNone stop.entry (0 < limits.total)) }
     ensures fault { IfErr result (λ f. (capacity : ℕ) (loaded : List Accepted) (old new : Writer)
         → IsListenFault capacity loaded old new f) }
@@ -289,8 +288,8 @@ pub fn listen_journaled<D: Disk + Drop, R: Threads + Wait + Log + Clock + Sync, 
     let ports = doors.ports()?;
     let journal = begun(alloc, found, &more)?;
     write_ports(alloc, out, ports)?;
-    let (history, journal, is_well) = serve(rt, alloc, hall, doors, limits, stop, journal)?;
-    write_entries(alloc, out, history.as_slice())?;
+    let (mut history, journal, is_well) = serve(rt, alloc, hall, doors, limits, stop, journal)?;
+    write_entries(alloc, out, &mut history)?;
     if is_well {
         Ok(journal)
     } else {

@@ -20,6 +20,7 @@ use mud_house::{
     write_entries, write_ports,
 };
 use mud_journal::Gate;
+use mud_row::History;
 use mud_talk::{Entrance, Wire, set_up};
 use std::alloc::Global;
 use std::io::Write;
@@ -244,13 +245,12 @@ fn serve_all<J: HallName + Send + Sync, R: Threads + Wait + Log + Clock + Sync>(
     site: Option<Site>,
     limits: Limits,
     stop: Option<&StopSign>,
-) -> Result<(Vec<Entry>, bool), ListenFault>
+) -> Result<(History, bool), ListenFault>
     requires cells { hall.cells ≡ J.cells }
     requires loaded { hall.loaded ≡ J.loaded }
     requires workers { limits.workers ≤ 8 }
     requires capacity { limits.capacity ≤ 65536 }
-    ensures ends { IfOk result (λ s. MayEnd limits J.loaded s.0.items) }
-    ensures limit { IfOk result (λ s. length s.0.items ≤ 65536) }
+    ensures ends { IfOk result (λ s. MayEnd limits J.loaded s.0) }
     ensures total { IfOk result (λ s. IsTrue s.1 → IfNone stop.entry (0 < limits.total)) }
     ensures fault { IfErr result (λ f. (capacity : ℕ) (loaded : List Accepted) (old new : Writer)
         → IsListenFault capacity loaded old new f) }
@@ -276,11 +276,10 @@ fn serve<R: Threads + Wait + Log + Clock + Sync>(
     doors: Doors,
     limits: Limits,
     stop: Option<&StopSign>,
-) -> Result<(Vec<Entry>, bool), ListenFault>
+) -> Result<(History, bool), ListenFault>
     requires workers { limits.workers ≤ 8 }
     requires capacity { limits.capacity ≤ 65536 }
-    ensures ends { IfOk result (λ s. MayEnd limits hall.loaded s.0.items) }
-    ensures limit { IfOk result (λ s. length s.0.items ≤ 65536) }
+    ensures ends { IfOk result (λ s. MayEnd limits hall.loaded s.0) }
     ensures total { IfOk result (λ s. IsTrue s.1 → IfNone stop.entry (0 < limits.total)) }
     ensures fault { IfErr result (λ f. (capacity : ℕ) (loaded : List Accepted) (old new : Writer)
         → IsListenFault capacity loaded old new f) }
@@ -344,8 +343,8 @@ pub fn listen_on<R: Threads + Wait + Log + Clock + Sync, W: Write>(
     let hall = resumed(alloc, limits.capacity, loaded)?;
     let ports = doors.ports()?;
     write_ports(alloc, out, ports)?;
-    let (history, is_served) = serve(rt, alloc, hall, doors, limits, stop)?;
-    write_entries(alloc, out, history.as_slice())?;
+    let (mut history, is_served) = serve(rt, alloc, hall, doors, limits, stop)?;
+    write_entries(alloc, out, &mut history)?;
     if is_served {
         Ok(())
     } else {

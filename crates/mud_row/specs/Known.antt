@@ -1,7 +1,9 @@
 -- What is known of a row of cells, each of which takes one entry and keeps it.
-use Rattle.std.specs.Prelude.{◌≡◌, ◌≤◌, length, ℕ, zero, suc, List, [], ◌∷◌, Option, Some, None, slice_get, take, ◌++◌}
+use Rattle.std.specs.Prelude.{◌≡◌, ◌≤◌, ◌+◌, length, ℕ, zero, suc, List, [], ◌∷◌, ◌++◌, Option, Some, None}
+use Rattle.std.specs.Prelude.{slice_get, take, drop}
 use Rattle.once_cell.specs.declared.race.note.Note.{Note}
 use Rattle.mud_chron.specs.Entry.{Accepted}
+use Rattle.mud_chron.specs.Text.{entries_text}
 
 -- a pass: the names of the cells of its row, in order, and the entries of the first cells, which it knows
 pub record Known : Type 0 where
@@ -48,3 +50,7 @@ pub record Fills (old entries new : List Accepted) : Type 0 where
   pub count : ℕ
   pub few : count ≤ length entries
   pub is : new ≡ old ++ take count entries
+
+-- the lines of the entries after the first n, in a history's text
+abbrev pub lines_after : ℕ → List Accepted → List ℕ
+lines_after n es = entries_text (n + 1) (drop n es)

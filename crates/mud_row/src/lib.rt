@@ -23,6 +23,11 @@
 //! | `Replica::see` | `extend`, and then `catch_up` |
 //! | `Replica::entry`, `tell`, `hear` | a known entry; a pass learns what the replica knows, or it what a pass knows |
 //! | `Replica::copy` | an equal replica, with a copy of the world |
+//! | `Replica::write_text` | appends the text of the history of what it knows |
+//! | `History::new`, `len` | a row that nobody shares any more, with what was known of it |
+//! | `History::write_line`, `write_text` | appends the line of an entry, or the text of the history |
+//! | `History::replay` | the world of its entries, or the first whose change isn't legal |
+//! | `write_end` | appends the last line of a history's text |
 //!
 //! ```text
 //! let row = Row::new(alloc, 65536)?;
@@ -36,9 +41,10 @@
 //!
 //! A pass, or a replica, is used with the row that made it: a contract asks that the names of the
 //! cells be those of the row. Memory is asked for by `Row::new`, `Row::pass`, `Row::fill`,
-//! `Pass::again`, `Replica::new`, `copy`, `step`, `catch_up` and `see`, and by no other call. What is
-//! known of a cell is read through a `&mut` today, so `entry`, `learn`, `agree`, `again`, `peek` and
-//! `tell` take the pass or replica that they read by `&mut`, and say that it stays as it was.
+//! `Pass::again`, `Replica::new`, `copy`, `step`, `catch_up` and `see`, and by what a `History`
+//! writes and replays. What is known of a cell is read through a `&mut` today, so `entry`, `learn`,
+//! `agree`, `again`, `peek`, `tell` and the calls of a `History` take what they read by `&mut`, and
+//! say that it stays as it was.
 //!
 //! Proved is that a known entry never changes, that of two passes of one row one knows the
 //! beginning of what the other knows, that a fault leaves the pass as it was and gives the entry
@@ -47,11 +53,15 @@
 #![tactic(auto)]
 
 mod fault;
+mod history;
 mod pass;
 mod replica;
 mod row;
+mod writing;
 
 pub use fault::{FillFault, RowFault};
+pub use history::History;
 pub use pass::Pass;
 pub use replica::Replica;
 pub use row::Row;
+pub use writing::write_end;

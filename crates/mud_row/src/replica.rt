@@ -1,16 +1,19 @@
 //! A world that follows a row.
 
 ghost use Rattle.std.specs.Prelude.{◌≡◌, ◌++◌, ◌∷◌, [], ◌<◌, ◌≤◌, ◌+◌, ◌↔◌, ◌⊎◌, length, max, slice_get};
-ghost use Rattle.std.specs.Prelude.{IfOk, IfErr, OnErr, OnOk, IsErrAnd, MatchBool, MatchOption};
+ghost use Rattle.std.specs.Prelude.{IfOk, IfErr, OnErr, OnOk, IsErrAnd, MatchBool, MatchOption, string_bytes};
 ghost use Rattle.std.specs.Option.{option_copied};
 ghost use mathlib.Core.List.{IsPrefix};
 ghost use Rattle.mud_world.specs.Inner.{stepped};
 ghost use Rattle.mud_chron.specs.Replay.{world_at};
+ghost use Rattle.mud_chron.specs.declared.format.Format.TheVariants.{Two};
+ghost use Rattle.mud_chron.specs.Text.{history_text};
 ghost use Rattle.mud_row.specs.Known.{entry_at};
 
 use crate::fault::RowFault;
 use crate::pass::Pass;
 use crate::row::Row;
+use crate::writing::write_text;
 use mud_chron::Entry;
 use mud_world::World;
 use std::alloc::{AllocError, Global};
@@ -200,6 +203,23 @@ impl Replica {
             (λ _. (1 ≤ n) × (n ≤ length self.old.list)) }
     {
         row.entry(&mut self.pass, n)
+    }
+
+    /// Appends the text of the history of the known entries, in format 2. The replica stays as it
+    /// was. The only error is out of memory, and then a part of the text may have been appended.
+    pub fn write_text(
+        &mut self,
+        alloc: Global,
+        row: &Row,
+        out: &mut String,
+    ) -> Result<(), AllocError>
+        requires { self.old.row ≡ row.now }
+        ensures same { self.new ≡ self.old }
+        ensures limit { length self.old.list ≤ 65536 }
+        ensures ok { OnOk result (string_bytes out.new ≡ string_bytes out.old ++ history_text Two self.old.list) }
+    {
+        let _ = self.pass.known();
+        write_text(alloc, row, &mut self.pass, out)
     }
 
     /// The pass learns what the replica knows, as `Pass::learn`. The replica stays as it was. It

@@ -12,3 +12,4 @@ pub mod ServeLemmas
 pub mod ScriptLemmas
 pub mod Begun
 pub mod Ones
+pub mod Widening

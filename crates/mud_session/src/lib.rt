@@ -25,6 +25,7 @@ pub mod laws;
 mod scripting;
 mod seat;
 mod session;
+mod wiring;
 
 pub use door::Door;
 pub use fault::SessionFault;

@@ -1,15 +1,14 @@
 //! A session: bytes in, bytes out.
 
 ghost use Rattle.std.specs.Prelude.{◌≡◌, ℕ, List, ◌++◌, [], false, true, if◌then◌else◌, Some, Err, codes};
-ghost use Rattle.std.specs.Prelude.{OnOk, OnErr, IfOk};
-ghost use Rattle.std.specs.List.{flat_map};
+ghost use Rattle.std.specs.Prelude.{OnOk, OnErr, IfOk, string_bytes};
 ghost use Rattle.mud_nvt.specs.History.{StandsAfter};
 ghost use Rattle.mud_nvt.specs.Units.{Text};
 ghost use Rattle.mud_nvt.specs.Shown.{shown};
-ghost use Rattle.mud_session.specs.Inner.{on_wire};
 
 use crate::door::Door;
 use crate::fault::SessionFault;
+use crate::wiring::{answer_on_wire, push_on_wire};
 use mud_hall::{Fault, Reply};
 use mud_nvt::{Nvt, Unit};
 use mud_rules::laws::questions;
@@ -253,7 +252,7 @@ impl Session {
         }
         match door.ask(rt, line) {
             Ok(answer) => {
-                self.send_numbered(answer.version, answer.text.as_str())?;
+                self.send_answer(answer.version, answer.text)?;
                 self.has_ended = is_last;
                 Ok(())
             }
@@ -331,6 +330,18 @@ impl Session {
         self.send(text)
     }
 
+    // Sends an answer. A long one is made what is sent where it stands.
+    fn send_answer(&mut self, version: u32, text: String) -> Result<(), AllocError>
+        ensures { OnOk result (self.new ≡ sends self.old (sent (numbered version (string_bytes text)))) }
+    {
+        if text.len() <= self.out.len() {
+            return self.send_numbered(version, text.as_str());
+        }
+        let number = format!(in self.alloc; "[{version}] ")?;
+        self.out = answer_on_wire(self.take_out(), number.as_str(), text)?;
+        self.send_bytes(b"\r\n")
+    }
+
     // Sends a text of one or more lines.
     fn send(&mut self, text: &str) -> Result<(), AllocError>
         ensures { OnOk result (self.new ≡ sends self.old (sent text.now)) }
@@ -345,17 +356,4 @@ impl Session {
     {
         self.out.extend_from_slice(bytes)
     }
-}
-
-// Each LF as CR LF.
-fn push_on_wire(out: &mut Vec<u8>, text: &[u8]) -> Result<(), AllocError>
-    ensures { OnOk result (out.new.items ≡ out.old.items ++ flat_map on_wire text.now) }
-{
-    for byte in text {
-        if *byte == b'\n' {
-            out.push(b'\r')?;
-        }
-        out.push(*byte)?;
-    }
-    Ok(())
 }

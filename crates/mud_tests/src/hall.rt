@@ -117,7 +117,7 @@ fn crowded<J: HallName + Send + Sync, R: Threads + Wait + Sync>(
 // Closes a hall with all its desks; how many entries there are.
 fn closed<J: HallName, R: Wait>(rt: &R, hall: Hall<J>, desks: Vec<Desk<J>>) -> Result<usize, Fail> {
     match hall.close(rt, desks) {
-        Ok(settled) => Ok(settled.history.len()),
+        Ok(settled) => Ok(settled.history.len() as usize),
         Err((_, _, fault)) => Err(fault.into()),
     }
 }

@@ -5,14 +5,14 @@ use Rattle.mud_hall.proofs.close.check.Goals as goal
 
 pub returns-clause-calls : goal.returns-clause-calls
 returns-clause-calls g c =
-    all_same c.args.desks.now c.args.first c.args.new.now (λ v h. c.in_default-mismatch.ensures v (inl h))
+    all_same c.args.desks.now c.args.first c.args.new.now (λ v h. c.in_default-mismatch.ensures.least v (inl h))
 
 pub returns-clause-apart : goal.returns-clause-apart
 returns-clause-apart g c = all_apart c.args.desks.now c.in_default.ensures
 
 pub returns-clause-named : goal.returns-clause-named
 returns-clause-named g c =
-    all_named c.args.desks.now c.args.first c.args.new.now (λ v h. c.in_default-mismatch.ensures v (inr h))
+    all_named c.args.desks.now c.args.first c.args.new.now (λ v h. c.in_default-mismatch.ensures.least v (inr h))
 
 pub returns-in-Some-missing-clause-fault : goal.returns-in-Some-missing-clause-fault
 returns-in-Some-missing-clause-fault g c =
@@ -20,4 +20,4 @@ returns-in-Some-missing-clause-fault g c =
 
 pub returns-in-Some-mismatch-clause-fault : goal.returns-in-Some-mismatch-clause-fault
 returns-in-Some-mismatch-clause-fault g c =
-    (all_apart c.args.desks.now c.in_default.ensures, c.in-Some-mismatch.ensures)
+    (all_apart c.args.desks.now c.in_default.ensures, c.in-Some-mismatch.ensures.least)

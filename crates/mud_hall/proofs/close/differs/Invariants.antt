@@ -5,6 +5,8 @@ use Rattle.mud_hall.proofs.close.differs.Given as goal
 
 abbrev pub invariant-loop-i : goal.invariant-loop-i
 invariant-loop-i l = record {
-  rest : left l.number l.first l.i l.next l.calls l.new ≡ first_apart l.calls (versions_by l.number l.first l.new);
+  same : l.new ≡ l.fn.new;
+  rest : left l.number l.first l.i l.next l.calls l.fn.new
+      ≡ first_apart l.calls (versions_by l.number l.first l.fn.new);
   within : l.next ≤ length l.calls;
 }

@@ -6,13 +6,16 @@ use Rattle.mud_hall.specs.Checking.{IsLeast, Differs, IsUnnamed}
 use Rattle.mud_hall.proofs.Least.{least_either}
 use Rattle.mud_hall.proofs.close.mismatch.Goals as goal
 
-pub returns : goal.returns
-returns g c =
+pub returns-clause-least : goal.returns-clause-least
+returns-clause-least g c =
     let ds : List View = c.args.desks.now in
     let first : ℕ = c.args.first in
     let es : List Accepted = c.args.new.now in
     let Q : Option ℕ → Type 0 = λ a. IsLeast (IsAtOdds ds first es) a in
     let P : ℕ → Type 0 = Differs ds first es in
     let N : ℕ → Type 0 = IsUnnamed ds first es in
+    let none : IsLeast N c.unnamed.result =
+    subst (λ (l : List Accepted). IsLeast (IsUnnamed ds first l) c.unnamed.result) c.differing.ensures.same
+    c.unnamed.ensures.least in
     subst Q (sym c.lesser.ensures)
-    (least_either P N c.differing.result c.unnamed.result c.differing.ensures c.unnamed.ensures)
+    (least_either P N c.differing.result c.unnamed.result c.differing.ensures.least none)

@@ -1,7 +1,10 @@
-use Rattle.std.proofs.Common.{take}
+use Rattle.std.proofs.Common.{◌≡◌, take}
 use Rattle.std.specs.Prelude.{All}
 use Rattle.mud_hall.specs.Settling.{HasNumber}
 use Rattle.mud_hall.proofs.close.unnamed.Given as goal
 
 abbrev pub invariant-loop-i : goal.invariant-loop-i
-invariant-loop-i g l = All (λ e. HasNumber l.desks e.desk) (take l.i l.new)
+invariant-loop-i g l = record {
+  same : l.new ≡ l.fn.new;
+  all : All (λ e. HasNumber l.desks e.desk) (take l.i l.fn.new);
+}

@@ -1,13 +1,18 @@
-use Rattle.std.proofs.Common.{subst}
-use Rattle.mud_hall.specs.Steps.{AreLoadable}
+use Rattle.std.proofs.Common.{List, subst, sym}
+use Rattle.mud_chron.specs.Entry.{Accepted}
+use Rattle.mud_hall.specs.Settling.{IsGathered}
+use Rattle.mud_house.specs.Listening.{MayEnd}
 use Rattle.mud_house.proofs.Written.{may_end}
 use Rattle.mud_house.proofs.ending.settle.Goals as goal
 
 pub returns-in-Ok-clause-ends : goal.returns-in-Ok-clause-ends
 returns-in-Ok-clause-ends g c =
-    may_end c.args.limits g.J.HallName.loaded c.in-Ok.settled.history.items c.args.desks.items c.requires.few
-    c.in-Ok.ensures.settled
-    (subst (AreLoadable c.args.limits.capacity) c.deref.ensures.value c.in_ok-try_history-in-Ok.ensures.loadable)
+    let loaded : List Accepted = g.J.HallName.loaded in
+    subst (λ (h : List Accepted). MayEnd c.args.limits loaded h) (sym c.try_history.ensures.same)
+    (may_end c.args.limits loaded c.in-Ok.settled.history c.args.desks.items c.requires.few c.in-Ok.ensures.settled
+    c.in_ok-try_history-in-Ok.ensures.loadable)
 
 pub returns-in-Ok-clause-gathered : goal.returns-in-Ok-clause-gathered
-returns-in-Ok-clause-gathered g c = c.in-Ok.ensures.settled.gathered
+returns-in-Ok-clause-gathered g c =
+    subst (λ (h : List Accepted). IsGathered g.J.HallName.loaded c.args.desks.items h) (sym c.try_history.ensures.same)
+    c.in-Ok.ensures.settled.gathered

@@ -8,7 +8,7 @@ pub returns-clause-journaled : goal.returns-clause-journaled
 returns-clause-journaled g c =
     let loaded = g.J.HallName.loaded in
     let list = c.finish.new.self.entries in
-    let history = c.in_ok-history.history.items in
+    let history = c.in_ok-history.history in
     let long : length history ≡ length list = omega arith in
     let made : IsGathered loaded c.args.desks.items history =
     subst (λ ds. IsGathered loaded ds history) c.finish.ensures.same c.in_ok-history.ensures.gathered in

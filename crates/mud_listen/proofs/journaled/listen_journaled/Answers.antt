@@ -1,7 +1,6 @@
 use Rattle.std.proofs.Common.{rules, ◌≡◌, drop, sym, subst}
 use Rattle.std.proofs.lemmas.List.{places, length-take-le}
 use Rattle.std.proofs.lemmas.Result.{err_from_is_err_and}
-use Rattle.mud_journal.specs.Disk.{Holds}
 use Rattle.mud_house.specs.Listening.{IsListenFault}
 use Rattle.mud_house.proofs.Keeping.{all_loaded}
 use Rattle.mud_house.proofs.Written.{opened, any_err, end_of, none_written, front_written, line_written, part_written}
@@ -67,8 +66,7 @@ returns-in_err-history-clause-fault g c =
 
 pub returns-in_err-write_entries-clause-front : goal.returns-in_err-write_entries-clause-front
 returns-in_err-write_entries-clause-front g c =
-    let ends =
-    end_of _ _ _ _ _ c.in_ok-hall.ensures.loaded c.as_slice.ensures.value c.in_ok-history.ensures.ends in
+    let ends = end_of _ _ _ _ c.in_ok-hall.ensures.loaded c.in_ok-history.ensures.ends in
     let front = c.in_err-write_entries.ensures.front in
     let lines = opened _ c.in_ok-ports.ports.telnet c.in_ok-ports.ports.web c.in_ok-ports.ensures.named in
     any_err c.from_residual-in_err-write_entries.result
@@ -76,15 +74,22 @@ returns-in_err-write_entries-clause-front g c =
 
 pub returns-then-is_well-clause-ok : goal.returns-then-is_well-clause-ok
 returns-then-is_well-clause-ok g c =
-    let ends =
-    end_of _ _ _ _ _ c.in_ok-hall.ensures.loaded c.as_slice.ensures.value c.in_ok-history.ensures.ends in
+    let ends = end_of _ _ _ _ c.in_ok-hall.ensures.loaded c.in_ok-history.ensures.ends in
     let lines = opened _ c.in_ok-ports.ports.telnet c.in_ok-ports.ports.web c.in_ok-ports.ensures.named in
     all_journaled _ _ lines _ _ _ _ _ _ ends c.in_ok-write_ports.ensures.ok c.in_ok-write_entries.ensures.ok
-    (subst (Holds _) (sym c.as_slice.ensures.value) c.in_ok-history.ensures.journaled)
+    c.in_ok-history.ensures.journaled
 
 pub returns-clause-front : goal.returns-clause-front
 returns-clause-front g c =
-    let ends =
-    end_of _ _ _ _ _ c.in_ok-hall.ensures.loaded c.as_slice.ensures.value c.in_ok-history.ensures.ends in
+    let ends = end_of _ _ _ _ c.in_ok-hall.ensures.loaded c.in_ok-history.ensures.ends in
     let lines = opened _ c.in_ok-ports.ports.telnet c.in_ok-ports.ports.web c.in_ok-ports.ensures.named in
     whole_written _ _ lines _ _ _ _ _ ends c.in_ok-write_ports.ensures.ok c.in_ok-write_entries.ensures.ok
+
+pub returns-in_err-write_entries-clause-fault : goal.returns-in_err-write_entries-clause-fault
+returns-in_err-write_entries-clause-fault g c =
+    let p =
+    err_from_is_err_and c.from_residual-in_err-write_entries.result
+    c.from_residual-in_err-write_entries.ensures.1 in
+    rw (p.1, p.2)
+    (write_fault c.args.limits.capacity c.args.loaded.items c.args.out.now c.write_entries.new.out
+    c.in_err-write_entries.field-0.0 c.in_err-write_entries.ensures.fault)

@@ -39,8 +39,7 @@ returns-in_err-history-clause-front g c =
 
 pub returns-in_err-write_entries-clause-front : goal.returns-in_err-write_entries-clause-front
 returns-in_err-write_entries-clause-front g c =
-    let ends =
-    end_of _ _ _ _ _ c.in_ok-hall.ensures.loaded c.as_slice.ensures.value c.in_ok-history.ensures.ends in
+    let ends = end_of _ _ _ _ c.in_ok-hall.ensures.loaded c.in_ok-history.ensures.ends in
     let front = c.in_err-write_entries.ensures.front in
     let lines = opened _ c.in_ok-ports.ports.telnet c.in_ok-ports.ports.web c.in_ok-ports.ensures.named in
     any_err c.from_residual-in_err-write_entries.result
@@ -48,14 +47,12 @@ returns-in_err-write_entries-clause-front g c =
 
 pub returns-then-is_served-clause-ok : goal.returns-then-is_served-clause-ok
 returns-then-is_served-clause-ok g c =
-    let ends =
-    end_of _ _ _ _ _ c.in_ok-hall.ensures.loaded c.as_slice.ensures.value c.in_ok-history.ensures.ends in
+    let ends = end_of _ _ _ _ c.in_ok-hall.ensures.loaded c.in_ok-history.ensures.ends in
     let lines = opened _ c.in_ok-ports.ports.telnet c.in_ok-ports.ports.web c.in_ok-ports.ensures.named in
     all_written _ _ lines _ _ _ _ _ ends c.in_ok-write_ports.ensures.ok c.in_ok-write_entries.ensures.ok
 
 pub returns-clause-front : goal.returns-clause-front
 returns-clause-front g c =
-    let ends =
-    end_of _ _ _ _ _ c.in_ok-hall.ensures.loaded c.as_slice.ensures.value c.in_ok-history.ensures.ends in
+    let ends = end_of _ _ _ _ c.in_ok-hall.ensures.loaded c.in_ok-history.ensures.ends in
     let lines = opened _ c.in_ok-ports.ports.telnet c.in_ok-ports.ports.web c.in_ok-ports.ensures.named in
     whole_written _ _ lines _ _ _ _ _ ends c.in_ok-write_ports.ensures.ok c.in_ok-write_entries.ensures.ok

@@ -7,22 +7,22 @@ use Rattle.mud_explain.proofs.play.Play.settle.Goals as goal
 
 pub returns-in-Ok : goal.returns-in-Ok
 returns-in-Ok g c =
-    let settled : IsSettled g.J.HallName.loaded c.args.handed.items c.in-Ok.settled.history.items = search rules in
-    let accepted : c.in-Ok.settled.accepted ≡ length (made g.J.HallName.loaded c.in-Ok.settled.history.items)
+    let settled : IsSettled g.J.HallName.loaded c.args.handed.items c.in-Ok.settled.history = search rules in
+    let accepted : c.in-Ok.settled.accepted ≡ length (made g.J.HallName.loaded c.in-Ok.settled.history)
     = search rules in
     let loaded : c.in-Ok.settled.loaded ≡ length g.J.HallName.loaded = search rules in
-    let told : settled_lines c.in-Ok.settled.accepted c.in-Ok.settled.loaded c.in-Ok.settled.history.items
-    ≡ settled_lines (length (made g.J.HallName.loaded c.in-Ok.settled.history.items))
-    (length g.J.HallName.loaded) c.in-Ok.settled.history.items
+    let told : settled_lines c.in-Ok.settled.accepted c.in-Ok.settled.loaded c.in-Ok.settled.history
+    ≡ settled_lines (length (made g.J.HallName.loaded c.in-Ok.settled.history))
+    (length g.J.HallName.loaded) c.in-Ok.settled.history
     = rw accepted (rw loaded refl) in
     on_ok_weaker {Q = (told : List ℕ) × (string_bytes c.push_settled.new.out ≡ string_bytes c.args.out.now ++ told)
     × (Settles g.J.HallName.loaded c.args.handed.items c.args.self.now.hall told
     ⊎ GoesOn g.J.HallName.loaded c.args.handed.items c.args.self.now.desks.items (Some c.args.hall)
     c.args.self.now.hall c.args.self.now.desks.items told)} c.push_settled.result
     (λ said. (
-      settled_lines c.in-Ok.settled.accepted c.in-Ok.settled.loaded c.in-Ok.settled.history.items,
+      settled_lines c.in-Ok.settled.accepted c.in-Ok.settled.loaded c.in-Ok.settled.history,
       said,
-      inl (c.in-Ok.settled.history.items, settled, c.requires, told),
+      inl (c.in-Ok.settled.history, settled, c.requires, told),
     ))
     c.push_settled.ensures
 

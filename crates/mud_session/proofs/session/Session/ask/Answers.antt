@@ -1,21 +1,16 @@
-use Rattle.std.proofs.Common.{List, ℕ, ap, ◌∙◌}
+use Rattle.std.proofs.Common.{ap, ◌∙◌}
 use Rattle.mud_hall.specs.Answers.{answered}
 use Rattle.mud_session.specs.State.{State}
-use Rattle.mud_session.specs.Session.{sent, numbered}
-use Rattle.mud_session.specs.Turning.{sends}
 use Rattle.mud_session.proofs.Answering.{asked}
 use Rattle.mud_session.proofs.session.Session.ask.Goals as goal
 use Rattle.mud_session.proofs.session.Session.ask.Goals.{in-Some-2, in-None-2}
 
-pub returns-in_ok-send_numbered-in-Ok-clause-replied :
-    goal.returns-in_ok-send_numbered-in-Ok-clause-replied
-returns-in_ok-send_numbered-in-Ok-clause-replied g c =
+pub returns-in_ok-send_answer-in-Ok-clause-replied : goal.returns-in_ok-send_answer-in-Ok-clause-replied
+returns-in_ok-send_answer-in-Ok-clause-replied g c =
     let state = g.D.Door.state in
     let looked = c.in_ok-look.ensures in
     let said = ap (λ (s : State). let t : State = record s { has_ended = c.args.is_last } in t)
-    (c.self.view_is ∙ c.in_ok-send_numbered-in-Ok.ensures
-    ∙ ap (λ (l : List ℕ). sends c.look.new.self
-    (sent (numbered c.in-Ok.answer.version l))) c.as_str.ensures.value) in
+    (c.self.view_is ∙ c.in_ok-send_answer-in-Ok.ensures) in
     asked g.D.Door.takes_in c.args.line.now c.args.self.now c.look.new.self c.match-answer-2.self
     (state c.args.door.now) (state c.look.new.door) (state c.ask.new.self)
     c.args.is_last (answered c.in-Ok.answer) c.requires.question c.requires.last looked.looked

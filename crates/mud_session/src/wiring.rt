@@ -1,0 +1,87 @@
+//! How a text is put on the wire: each LF as CR LF.
+
+ghost use Rattle.std.specs.Prelude.{◌≡◌, ◌++◌, ◌+◌, ◌≤◌, length, take, drop, IfOk, OnOk, string_bytes};
+ghost use Rattle.std.specs.List.{flat_map};
+ghost use Rattle.mud_session.specs.Inner.{on_wire};
+
+use std::alloc::AllocError;
+
+/// Appends the text.
+pub(crate) fn push_on_wire(out: &mut Vec<u8>, text: &[u8]) -> Result<(), AllocError>
+    ensures { OnOk result (out.new.items ≡ out.old.items ++ flat_map on_wire text.now) }
+{
+    for byte in text {
+        if *byte == b'\n' {
+            out.push(b'\r')?;
+        }
+        out.push(*byte)?;
+    }
+    Ok(())
+}
+
+/// Appends the number of an answer and its text, which is widened where it stands: so it is in memory only once.
+pub(crate) fn answer_on_wire(
+    before: Vec<u8>,
+    number: &str,
+    text: String,
+) -> Result<Vec<u8>, AllocError>
+    ensures { IfOk result (λ out. out.items ≡ before.items ++ flat_map on_wire (number.now ++ string_bytes text)) }
+{
+    let mut front = before;
+    push_on_wire(&mut front, number.as_bytes())?;
+    put_on_wire(&front, text.into_bytes())
+}
+
+// What stands in front, and behind it the text, which is widened where it stands.
+fn put_on_wire(front: &[u8], text: Vec<u8>) -> Result<Vec<u8>, AllocError>
+    ensures { IfOk result (λ out. out.items ≡ front.now ++ flat_map on_wire text.items) }
+{
+    let mut out = text;
+    let end = out.len();
+    let Some(len) = length_on_wire(&out).checked_add(front.len()) else {
+        return Err(AllocError);
+    };
+    out.resize(len, 0)?;
+    put_in_place(&mut out, end, front);
+    Ok(out)
+}
+
+// Widens the first `end` bytes, so that they are the last ones then, and puts what stands in front before them.
+fn put_in_place(out: &mut [u8], end: usize, front: &[u8])
+    requires within { end ≤ length out.old }
+    requires fits { length out.old ≡ length front.now + length (flat_map on_wire (take end out.old)) }
+    ensures { out.new ≡ front.now ++ flat_map on_wire (take end out.old) }
+{
+    widen(out, end, front.len());
+    out[..front.len()].copy_from_slice(front);
+}
+
+// How long the text is on the wire.
+fn length_on_wire(text: &[u8]) -> usize
+    ensures { result ≡ length (flat_map on_wire text.now) }
+{
+    let mut len = 0;
+    for byte in text {
+        len += if *byte == b'\n' { 2 } else { 1 };
+    }
+    len
+}
+
+// Widens the first `end` bytes from their end on, so that they are the last ones then, after the first `front`.
+fn widen(out: &mut [u8], end: usize, front: usize)
+    requires within { end ≤ length out.old }
+    requires fits { length out.old ≡ front + length (flat_map on_wire (take end out.old)) }
+    ensures len { length out.new ≡ length out.old }
+    ensures widened { drop front out.new ≡ flat_map on_wire (take end out.old) }
+{
+    let mut to = out.len();
+    for done in 0..end {
+        let byte = out[end - done - 1];
+        to -= 1;
+        out[to] = byte;
+        if byte == b'\n' {
+            to -= 1;
+            out[to] = b'\r';
+        }
+    }
+}

@@ -5,22 +5,21 @@
 //! the version), and on standard error the seconds that the answers took. It knows the few
 //! changes and key forms that the worlds of `worlds.py` have.
 
-use std::cmp::Reverse;
-use std::collections::{BinaryHeap, HashSet};
-use std::fmt::Write as _;
-use std::time::Instant;
+#[path = "plain/keys.rs"]
+mod keys;
+#[path = "plain/roads.rs"]
+mod roads;
 
-enum Key {
-    Has(u32),
-    Not(Box<Key>),
-    Join(Box<Key>, bool, Box<Key>),
-}
+use keys::Key;
+use roads::{Map, Passage, Roads};
+use std::collections::HashSet;
+use std::time::Instant;
 
 #[derive(Default)]
 struct Object {
     is_room: bool,
     place: Option<u32>,
-    exit: Option<(u32, u32, u32)>,
+    exit: Option<Passage>,
     key: Option<Key>,
 }
 
@@ -34,40 +33,17 @@ fn number(text: &str) -> u32 {
     text.trim_start_matches('#').parse().expect("a number")
 }
 
-struct Parser<'a> {
-    rest: &'a str,
-}
-
-impl Parser<'_> {
-    fn unary(&mut self) -> Key {
-        self.rest = self.rest.trim_start();
-        if let Some(rest) = self.rest.strip_prefix('!') {
-            self.rest = rest;
-            return Key::Not(Box::new(self.unary()));
-        }
-        if let Some(rest) = self.rest.strip_prefix('(') {
-            self.rest = rest;
-            let key = self.chain();
-            self.rest = self.rest.trim_start().strip_prefix(')').expect("a parenthesis");
-            return key;
-        }
-        let rest = self.rest.strip_prefix('#').expect("an object");
-        let end = rest.find(|c: char| !c.is_ascii_digit()).unwrap_or(rest.len());
-        self.rest = &rest[end..];
-        Key::Has(rest[..end].parse().expect("a number"))
+impl Map for World {
+    fn size(&self) -> usize {
+        self.objects.len()
     }
 
-    fn chain(&mut self) -> Key {
-        let mut left = self.unary();
-        loop {
-            let rest = self.rest.trim_start();
-            let is_and = rest.starts_with("&&");
-            if !is_and && !rest.starts_with("||") {
-                return left;
-            }
-            self.rest = &rest[2..];
-            left = Key::Join(Box::new(left), is_and, Box::new(self.unary()));
-        }
+    fn leaving(&self, room: u32) -> &[u32] {
+        &self.leaving[room as usize]
+    }
+
+    fn passage(&self, exit: u32) -> Passage {
+        self.objects[exit as usize].exit.expect("an exit")
     }
 }
 
@@ -115,8 +91,7 @@ impl World {
                 exit.as_mut().expect("an exit").2 = words[5].parse().expect("a cost");
             }
             "lock" => {
-                let mut parser = Parser { rest: words[5] };
-                self.objects[number(words[4]) as usize].key = Some(parser.chain());
+                self.objects[number(words[4]) as usize].key = Some(Key::read(words[5]).expect("a key"));
             }
             other => panic!("no {other} in these worlds"),
         }
@@ -136,73 +111,14 @@ impl World {
     }
 
     fn opens(&self, held: &HashSet<u32>, object: u32) -> bool {
-        fn holds(held: &HashSet<u32>, key: &Key) -> bool {
-            match key {
-                Key::Has(object) => held.contains(object),
-                Key::Not(key) => !holds(held, key),
-                Key::Join(left, true, right) => holds(held, left) && holds(held, right),
-                Key::Join(left, false, right) => holds(held, left) || holds(held, right),
-            }
-        }
-        match &self.objects[object as usize].key {
-            None => true,
-            Some(key) => holds(held, key),
-        }
+        let key = &self.objects[object as usize].key;
+        key.as_ref().is_none_or(|key| key.is_true(&|object, _| held.contains(&(object as u32))))
     }
 
     fn route(&self, player: u32, target: u32) -> String {
-        let from = self.objects[player as usize].place.expect("a place");
         let held = self.carried(player);
-        let open: Vec<bool> = (0..self.objects.len()).map(|n| self.opens(&held, n as u32)).collect();
-        let passes = |x: u32| {
-            let (_, to, _) = self.objects[x as usize].exit.expect("an exit");
-            open[x as usize] && open[to as usize]
-        };
-        let mut labels: Vec<Option<(u32, u32)>> = vec![None; self.objects.len()];
-        let mut heap = BinaryHeap::from([Reverse(((0u32, 0u32), from))]);
-        labels[from as usize] = Some((0, 0));
-        while let Some(Reverse((label, room))) = heap.pop() {
-            if labels[room as usize] != Some(label) {
-                continue;
-            }
-            for &x in &self.leaving[room as usize] {
-                let (_, to, cost) = self.objects[x as usize].exit.expect("an exit");
-                let next = (label.0 + cost, label.1 + 1);
-                if passes(x) && labels[to as usize].is_none_or(|old| next < old) {
-                    labels[to as usize] = Some(next);
-                    heap.push(Reverse((next, to)));
-                }
-            }
-        }
-        let mut text = format!("route #{from} to #{target}");
-        let Some((cost, _)) = labels[target as usize] else {
-            return text + " no way";
-        };
-        let mut last: Vec<Option<u32>> = vec![None; self.objects.len()];
-        for (room, label) in labels.iter().enumerate() {
-            let Some(label) = label else { continue };
-            for &x in &self.leaving[room] {
-                let (_, to, cost) = self.objects[x as usize].exit.expect("an exit");
-                let ends = labels[to as usize] == Some((label.0 + cost, label.1 + 1));
-                if ends && passes(x) && last[to as usize].is_none_or(|old| x < old) {
-                    last[to as usize] = Some(x);
-                }
-            }
-        }
-        let mut walk = Vec::new();
-        let mut at = target;
-        while let Some(x) = last[at as usize].filter(|_| at != from) {
-            walk.push(x);
-            at = self.objects[x as usize].exit.expect("an exit").0;
-        }
-        write!(text, " cost {cost} by").expect("memory");
-        if walk.is_empty() {
-            text.push_str(" nothing");
-        }
-        for x in walk.iter().rev() {
-            write!(text, " #{x}").expect("memory");
-        }
-        text
+        let open = (0..self.objects.len()).map(|n| self.opens(&held, n as u32)).collect();
+        Roads { map: self, open }.route(self.objects[player as usize].place.expect("a place"), target)
     }
 }
 

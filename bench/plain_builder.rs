@@ -5,87 +5,14 @@
 //! each holds, which exits leave it, whose keys ask it) and the list of changes, and tests names, keys and how deep a
 //! key nests as `docs/KEYS.md` and `docs/WORLD.md` say, by going down through what a key asks. It knows no other line.
 
-use std::fmt::Write as _;
+#[path = "plain/keys.rs"]
+mod keys;
+
+use keys::Key;
 use std::io::{self, BufRead, Write as _};
 
 const FULL: usize = 8192;
 const WIZARD: usize = 1;
-
-enum Key {
-    Has(usize),
-    Asks(usize),
-    Not(Box<Key>),
-    Join(Box<Key>, &'static str, Box<Key>),
-}
-
-impl Key {
-    /// Whether the test holds of each object of the key; it is told whether the key asks the object.
-    fn all(&self, test: &mut impl FnMut(usize, bool) -> bool) -> bool {
-        match self {
-            Key::Has(object) => test(*object, false),
-            Key::Asks(object) => test(*object, true),
-            Key::Not(key) => key.all(test),
-            Key::Join(left, _, right) => left.all(test) && right.all(test),
-        }
-    }
-
-    fn write(&self, text: &mut String, is_part: bool) {
-        match self {
-            Key::Has(object) => write!(text, "#{object}").expect("memory"),
-            Key::Asks(object) => write!(text, "?#{object}").expect("memory"),
-            Key::Not(key) => {
-                text.push('!');
-                key.write(text, true);
-            }
-            Key::Join(left, sign, right) => {
-                text.push_str(if is_part { "(" } else { "" });
-                left.write(text, false);
-                write!(text, " {sign} ").expect("memory");
-                right.write(text, true);
-                text.push_str(if is_part { ")" } else { "" });
-            }
-        }
-    }
-}
-
-struct Parser<'a> {
-    rest: &'a str,
-}
-
-impl Parser<'_> {
-    fn takes(&mut self, sign: &str) -> bool {
-        self.rest = self.rest.trim_start();
-        let rest = self.rest.strip_prefix(sign);
-        self.rest = rest.unwrap_or(self.rest);
-        rest.is_some()
-    }
-
-    fn object(&mut self) -> Option<usize> {
-        let rest = self.rest.trim_start().strip_prefix('#')?;
-        let end = rest.find(|it: char| !it.is_ascii_digit()).unwrap_or(rest.len());
-        self.rest = &rest[end..];
-        rest[..end].parse().ok()
-    }
-
-    fn unary(&mut self) -> Option<Key> {
-        if self.takes("!") {
-            return Some(Key::Not(Box::new(self.unary()?)));
-        }
-        if self.takes("(") {
-            let key = self.chain()?;
-            return self.takes(")").then_some(key);
-        }
-        Some(if self.takes("?") { Key::Asks(self.object()?) } else { Key::Has(self.object()?) })
-    }
-
-    fn chain(&mut self) -> Option<Key> {
-        let mut left = self.unary()?;
-        while let Some(sign) = ["&&", "||"].into_iter().find(|sign| self.takes(sign)) {
-            left = Key::Join(Box::new(left), sign, Box::new(self.unary()?));
-        }
-        Some(left)
-    }
-}
 
 struct Object {
     name: String,
@@ -191,9 +118,7 @@ impl World {
     fn lock(&mut self, object: &str, text: &str) -> Result<String, &'static str> {
         let number = object.strip_prefix('#').and_then(|it| it.parse::<usize>().ok());
         let number = number.filter(|it| *it < self.objects.len()).ok_or("There is no such thing.")?;
-        let mut parser = Parser { rest: text };
-        let key = parser.chain().filter(|_| parser.rest.trim().is_empty());
-        let key = key.filter(|key| key.all(&mut |it, _| it < self.objects.len()));
+        let key = Key::read(text).filter(|key| key.all(&mut |it, _| it < self.objects.len()));
         let key = key.ok_or("That key is not understood.")?;
         let mut said = format!("locked #{number} with ");
         key.write(&mut said, false);

@@ -1,0 +1,103 @@
+//! The plain program that lines are compared with: unproved Rust with a vector of objects.
+//!
+//! `plain_lines < SCRIPT` answers lines of the Wizard as `mud_serve script` does, byte for byte. It reads them as
+//! docs/TELNET.md says, takes them apart and decides them as docs/COMMANDS.md and docs/WORLD.md say, and keeps the
+//! list of changes. It knows talk, `look`, walks, `drop`, `@create`, `@dig`, `@cost`, `@lock`, `route`, `@version` and
+//! `@history` of one player, keys of numbers that don't ask, and no proofs of its routes. A line of another verb of the
+//! table ends it.
+//!
+//! `plain_lines split < SCRIPT` only cuts each line at its spaces, and answers as if its text were too long to be said,
+//! or no command.
+
+#[path = "plain/history.rs"]
+mod history;
+#[path = "plain/keys.rs"]
+mod keys;
+#[path = "plain/lines.rs"]
+mod lines;
+#[path = "plain/roads.rs"]
+mod roads;
+#[path = "plain/terminal.rs"]
+mod terminal;
+#[path = "plain/words.rs"]
+mod words;
+#[path = "plain/world.rs"]
+mod world;
+
+use lines::answer;
+use std::hint::black_box;
+use std::io::{self, BufRead, BufWriter, Write};
+use terminal::{Terminal, Unit};
+use words::{Line, spelled_out};
+use world::World;
+
+/// A session: its terminal, the world, and the text of an answer.
+struct Session<W: Write> {
+    world: World,
+    terminal: Terminal,
+    text: String,
+    out: W,
+}
+
+impl<W: Write> Session<W> {
+    /// Answers a line; nothing is said of a blank one.
+    fn answer(&mut self, typed: &str) -> io::Result<()> {
+        let typed = spelled_out(typed);
+        let Some(line) = Line::read(&typed) else { return Ok(()) };
+        self.text.clear();
+        answer(&mut self.world, &line, &mut self.text);
+        let version = self.world.history.len();
+        write!(self.out, "[{version}] ")?;
+        self.out.write_all(self.text.as_bytes())?;
+        self.out.write_all(b"\r\n")
+    }
+
+    /// Answers all units of these bytes.
+    fn feed(&mut self, mut bytes: &[u8]) -> io::Result<()> {
+        while let Some(unit) = self.terminal.next(&mut bytes) {
+            match unit {
+                Unit::Text(typed) => self.answer(&typed)?,
+                Unit::TooLong => self.out.write_all(b"(line too long)\r\n")?,
+                Unit::AreYouThere => self.out.write_all(b"[Yes]\r\n")?,
+                Unit::Answer(bytes) => self.out.write_all(&bytes)?,
+            }
+            self.out.flush()?;
+        }
+        Ok(())
+    }
+}
+
+/// Answers a script.
+fn play() -> io::Result<()> {
+    let (mut input, out) = (io::stdin().lock(), BufWriter::new(io::stdout().lock()));
+    let mut session = Session { world: World::opening(), terminal: Terminal::default(), text: String::new(), out };
+    loop {
+        let piece = input.fill_buf()?;
+        let length = piece.len();
+        if length == 0 {
+            break;
+        }
+        session.feed(piece)?;
+        input.consume(length);
+    }
+    black_box(&session.world);
+    Ok(())
+}
+
+/// Cuts lines at their spaces.
+fn split() -> io::Result<()> {
+    let mut out = BufWriter::new(io::stdout().lock());
+    for line in io::stdin().lock().lines() {
+        let line = line?;
+        let words: Vec<&str> = line.split(' ').collect();
+        let is_said = black_box(&words).first() == Some(&"say");
+        let text = if is_said { "That text is not allowed." } else { "I couldn't understand that." };
+        write!(out, "[0] {text}\r\n")?;
+        out.flush()?;
+    }
+    Ok(())
+}
+
+fn main() -> io::Result<()> {
+    if std::env::args().nth(1).as_deref() == Some("split") { split() } else { play() }
+}

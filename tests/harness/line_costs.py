@@ -1,0 +1,110 @@
+"""What a line of a player costs: how many instructions callgrind counts for it. A script with some lines is given to a
+program, and one with more of them; what the further lines add is shared out among them, so the lines that build the
+world don't count. Three lines have a bound here; `bench/lines` has more of them, beside a plain program.
+"""
+import re
+import shutil
+import subprocess
+import tempfile
+from itertools import cycle, islice
+from typing import NamedTuple
+
+from harness.inputs import read
+from harness.parts import Skipped, part
+from harness.programs import program
+
+SECONDS = 600
+# A line may cost so many times its bound: compilers differ a little.
+SLACK = 1.3
+TOTAL = re.compile(rb"^totals: (\d+)", re.M)
+# How many rooms the ring has, and how many further on its chords lead.
+ROOMS, FURTHER = 1200, 35
+
+
+class NotCounted(Exception):
+    """Callgrind gives no count of a program."""
+
+
+class Line(NamedTuple):
+    """What is shown; the lines that build the world; those that are counted, which are given by turns; how many of them
+    the shorter script has, and how many more the longer one.
+    """
+
+    what: str
+    world: list
+    asked: list
+    fewer: int = 200
+    more: int = 1000
+
+    def script(self, times):
+        """The input of a script with so many of the lines that are counted."""
+        lines = [*self.world, *islice(cycle(self.asked), times)]
+        return "".join(f"{line}\n" for line in lines).encode()
+
+
+def needs_valgrind():
+    """Whether there is nothing to count with."""
+    return not shutil.which("valgrind")
+
+
+def counted(command, text):
+    """How many instructions a program takes for an input, and what it answers."""
+    with tempfile.TemporaryDirectory() as folder:
+        report = f"{folder}/report"
+        valgrind = ["valgrind", "--tool=callgrind", f"--callgrind-out-file={report}", *command]
+        done = subprocess.run(valgrind, input=text, capture_output=True, timeout=SECONDS)
+        totals = TOTAL.findall(read(report))
+    if done.returncode != 0 or not totals:
+        raise NotCounted(f"{command[0]}: callgrind has no count, as of a program that isn't proved")
+    return int(totals[-1]), done.stdout
+
+
+def cost_of(command, line):
+    """How many instructions one more line takes, and what the longer script is answered."""
+    fewer, _ = counted(command, line.script(line.fewer))
+    all_of_them, told = counted(command, line.script(line.fewer + line.more))
+    return (all_of_them - fewer) / line.more, told
+
+
+def ring():
+    """The lines that build a ring of rooms: from each an exit leads to the next, and a chord to one further on. Room n
+    is object 2n, the first is the hall, and there the player stands at the end.
+    """
+    lines = [line for room in range(1, ROOMS) for line in (f'@dig next to "R{room}"', "go next")]
+    lines += ["@dig next to #0", "go next"]
+    chords = (f"@dig chord to #{2 * ((room + FURTHER) % ROOMS)}" for room in range(ROOMS))
+    return lines + [line for chord in chords for line in (chord, "go next")]
+
+
+def ring_routes():
+    """Routes to rooms here and there in the ring."""
+    return [f"route to #{2 * (977 * turn % ROOMS)}" for turn in range(1, ROOMS)]
+
+
+SAY = Line("say hello there everybody", [], ["say hello there everybody"])
+GO = Line("go X, there and back", ['@dig there|back to "Another room"'], ["go there", "go back"])
+RING = Line("route in a ring with chords", ring(), ring_routes(), fewer=5, more=20)
+# A line, the most instructions that it takes, and how its answer begins.
+BOUNDS = [
+    (SAY, 11_800, "said"),
+    (GO, 9_600, "went by #"),
+    (RING, 1_520_000, "route #0 to #"),
+]
+
+
+def why_dear(line, bound, right):
+    """Why a line is answered wrong or costs too much; nothing where it doesn't."""
+    cost, told = cost_of([program("mud_serve"), "script"], line)
+    answer = told.decode().splitlines()[-1].partition(" ")[2]
+    if not answer.startswith(right):
+        return f"{answer}, and not {right}"
+    return f"{cost:,.0f} instructions, and the bound is {bound:,}" if cost > SLACK * bound else ""
+
+
+@part("line-costs", "what is said, a walk and a route take no more instructions than they did")
+def line_costs(count):
+    if needs_valgrind():
+        raise Skipped("valgrind is not there")
+    for line, bound, right in BOUNDS:
+        why = why_dear(line, bound, right)
+        count(f"line costs: {line.what}", not why, why)

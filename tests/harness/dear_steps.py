@@ -73,12 +73,22 @@ def asked_by_sixteen():
     return many_things() + first + [f"@lock #{n} with {key}" for n in range(19, THINGS + 2)]
 
 
-def long_names():
-    """Many things of four long names each, which differ in the last byte alone. The last thing's name has one byte
-    more than the others.
+def named(end):
+    """Many things of four long names each, which differ in the byte before this end; another byte stands there in the
+    name of the last thing, and one more behind it.
     """
-    names = ",".join(STEM + last for last in "wxyz")
+    names = ",".join(STEM + last + end for last in "wxyz")
     return [f"@create {names}"] * (THINGS - 1) + [f"@create {STEM}bc"]
+
+
+def long_names():
+    """Names that are as long as what is looked up, but for the last thing's."""
+    return named("")
+
+
+def longer_names():
+    """Names that have one byte more than what is looked up."""
+    return named("c")
 
 
 def many_exits():
@@ -112,8 +122,10 @@ ROWS = [
     Row("a recycling", in_one_another, f"@recycle #{THINGS + 1}", "That is in use."),
     Row("a name of many things", many_things, "drop t", "Which one do you mean?"),
     Row("a name of many exits", many_exits, "go e", "Which one do you mean?"),
-    # Each name is compared with all others, byte by byte, and with none of them twice.
-    Row("sixteen long names", long_names, f"@lock #2 with {NAMED}", f"locked #2 with {MEANT}", most=1.0, steps=4),
+    # Each name is compared with all others, and with none of them twice: as a whole where they are as long, else as
+    # the beginning of a longer one.
+    Row("sixteen long names", long_names, f"@lock #2 with {NAMED}", f"locked #2 with {MEANT}"),
+    Row("sixteen beginnings of names", longer_names, f"@lock #2 with {NAMED}", f"locked #2 with {MEANT}"),
 ]
 
 

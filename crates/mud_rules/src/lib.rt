@@ -38,6 +38,7 @@
 
 mod answers;
 mod building;
+mod comparing;
 mod digging;
 mod given;
 mod hearing;

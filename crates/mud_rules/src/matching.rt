@@ -9,6 +9,7 @@ ghost use Rattle.mud_rules.specs.Matching.{candidates, match_with, local_match, 
 ghost use Rattle.mud_rules.specs.Steps.{direct_match, fits, sole_fit, together, is_sort};
 ghost use Rattle.mud_world.specs.State.{exists, place_of};
 
+use crate::comparing::is_same;
 use mud_world::World;
 
 /// Why a text means no object; the numbers -1, -3 and -2 of the LambdaMOO Programmer's Manual
@@ -236,7 +237,7 @@ fn fits(text: &str, name: &str, likeness: Likeness) -> bool
     ensures { result ≡ fits likeness text.now name.now }
 {
     match likeness {
-        Likeness::Equal => text.eq_ignore_ascii_case(name),
+        Likeness::Equal => is_same(text.as_bytes(), name.as_bytes()),
         Likeness::Prefix => text.len() < name.len() && begins(text, name),
     }
 }
@@ -245,7 +246,7 @@ fn begins(text: &str, name: &str) -> bool
     ensures { result ≡ is_like Prefix text.now name.now }
 {
     match name.as_bytes().get(..text.len()) {
-        Some(head) => text.as_bytes().eq_ignore_ascii_case(head),
+        Some(head) => is_same(text.as_bytes(), head),
         None => false,
     }
 }

@@ -1,9 +1,9 @@
 -- What a line asks, the verb of a question asks.
-use Rattle.std.proofs.Common.{◌≡◌, ℕ, zero, suc, Bool, true, false, List, [], ◌∷◌, Option, None, Some, Result, Ok, Err}
-use Rattle.std.proofs.Common.{slice_get, refl, sym, ◌∙◌, subst, ap}
-use Rattle.std.specs.Prelude.{not, ◌&&◌, ◌||◌, codes, is_none, if◌then◌else◌}
-use Rattle.std.specs.Option.{option_map_or}
-use Rattle.std.specs.List.{AllByRecursion, list_any}
+use Rattle.std.proofs.Common.{◌≡◌, ℕ, Bool, true, false, List, [], ◌∷◌, Option, None, Some, Result, Ok, Err}
+use Rattle.std.proofs.Common.{refl, sym, ◌∙◌, subst, ap}
+use Rattle.std.specs.Prelude.{not, ◌&&◌, ◌||◌, is_none, if◌then◌else◌}
+use Rattle.std.specs.Option.{option_map_or, option_or, is_some}
+use Rattle.std.specs.List.{list_any}
 use Rattle.std.specs.Map.{lookup}
 use Rattle.std.specs.Str.{str_eq_ignore_ascii_case}
 use Rattle.std.proofs.lemmas.Bool.{true≢false}
@@ -30,9 +30,10 @@ use Rattle.mud_rules.specs.Outcome.{outcome, does, on_found, shaped}
 use Rattle.mud_rules.specs.Inner.{connect, connecting, dig_room, dig_exits, first_of, has_empty_side}
 use Rattle.mud_rules.specs.Shapes.{all_of, looked_at, object_named, is_pair, text_behind}
 use Rattle.mud_rules.specs.Table.{journey_of}
-use Rattle.mud_rules.specs.Table.{verbs, verb_named, connect_line, command, other_line, guest, decision}
+use Rattle.mud_rules.specs.Table.{question_verbs, other_verbs, verb_named, connect_line, command, other_line, guest, decision}
 use Rattle.mud_rules.specs.Laws.{AreQuestions}
 use Rattle.mud_rules.proofs.Ordered.{outcome_is}
+use Rattle.mud_rules.proofs.Finding.{lookup-append}
 
 -- what is asked, only a question asks
 abbrev AsksIf : Bool → Verdict → Type 0
@@ -100,11 +101,6 @@ asks-command w p l verb.Look =
     asks-either true (is_empty l.args) (verdict.Ask (query.View Look)) (on_found named shown) refl
     (asks-found true named shown (λ x. refl))
 asks-command w p l verb.Inventory = asks-shaped true (is_empty l.args) (verdict.Ask (query.View Inventory)) refl
-asks-command w p l verb.Go = asks-found false _ _ (λ x. asks-does false w p _ _)
-asks-command w p l verb.Take = asks-found false _ _ (λ x. asks-does false w p _ _)
-asks-command w p l verb.Drop = asks-found false _ _ (λ x. asks-does false w p _ _)
-asks-command w p l verb.Put = asks-found false _ _ (λ x. asks-does false w p _ _)
-asks-command w p l verb.Give = asks-found false _ _ (λ x. asks-does false w p _ _)
 asks-command w p l verb.Say = asks-does false w p _ _
 asks-command w p l verb.Emote = asks-does false w p _ _
 asks-command w p l verb.Dig =
@@ -113,14 +109,8 @@ asks-command w p l verb.Dig =
     (asks-found false (text_behind l) (dig_room w p) (λ x. asks-does false w p _ _))
     (asks-shaped false (is_pair To l && not (has_empty_side l.direct)) (dig_exits w p l.direct l.indirect)
     (asks-does false w p _ _))
-asks-command w p l verb.Create = asks-found false _ _ (λ x. asks-does false w p _ _)
-asks-command w p l verb.Lock = asks-found false _ _ (λ x. asks-does false w p _ _)
-asks-command w p l verb.Unlock = asks-found false _ _ (λ x. asks-does false w p _ _)
 asks-command w p l verb.Key =
     asks-found true (object_named w p (all_of l)) (λ x. verdict.Ask (query.View (KeyOf x))) (λ x. refl)
-asks-command w p l verb.Cost = asks-found false _ _ (λ x. asks-does false w p _ _)
-asks-command w p l verb.Rename = asks-found false _ _ (λ x. asks-does false w p _ _)
-asks-command w p l verb.Recycle = asks-found false _ _ (λ x. asks-does false w p _ _)
 asks-command w p l verb.Route =
     asks-found true (journey_of w p l (Some verb.Route)) (λ j. verdict.Ask (query.Journey j)) (λ j. refl)
 asks-command w p l verb.Meet =
@@ -131,6 +121,7 @@ asks-command w p l verb.Proof =
 asks-command w p l verb.Version = asks-shaped true (is_empty l.args) (verdict.Ask (query.View Version)) refl
 asks-command w p l verb.History = asks-shaped true (is_empty l.args) (verdict.Ask query.History) refl
 asks-command w p l verb.Quit = asks-shaped true (is_empty l.args) (verdict.Ask (query.View Quit)) refl
+asks-command w p l other = asks-found false _ _ (λ x. asks-does false w p _ _)
 
 asks-other : (w : State) (p : ℕ) (l : Line) → AsksIf false (other_line w p l)
 asks-other w p l = asks-found false _ _ (λ x. asks-does false w p _ _)
@@ -138,29 +129,8 @@ asks-other w p l = asks-found false _ _ (λ x. asks-does false w p _ _)
 asks-guest : (w : State) (l : Line) (o : Option Verb) → AsksIf (option_map_or asks o false) (guest w l o)
 asks-guest w l None = tt
 asks-guest w l (Some verb.Connect) = asks-connect_line false w l
-asks-guest w l (Some verb.Look) = tt
-asks-guest w l (Some verb.Inventory) = tt
-asks-guest w l (Some verb.Go) = tt
-asks-guest w l (Some verb.Take) = tt
-asks-guest w l (Some verb.Drop) = tt
-asks-guest w l (Some verb.Put) = tt
-asks-guest w l (Some verb.Give) = tt
-asks-guest w l (Some verb.Say) = tt
-asks-guest w l (Some verb.Emote) = tt
-asks-guest w l (Some verb.Dig) = tt
-asks-guest w l (Some verb.Create) = tt
-asks-guest w l (Some verb.Lock) = tt
-asks-guest w l (Some verb.Unlock) = tt
-asks-guest w l (Some verb.Key) = tt
-asks-guest w l (Some verb.Cost) = tt
-asks-guest w l (Some verb.Rename) = tt
-asks-guest w l (Some verb.Recycle) = tt
-asks-guest w l (Some verb.Route) = tt
-asks-guest w l (Some verb.Meet) = tt
-asks-guest w l (Some verb.Proof) = tt
-asks-guest w l (Some verb.Version) = tt
-asks-guest w l (Some verb.History) = tt
 asks-guest w l (Some verb.Quit) = asks-shaped true (is_empty l.args) (verdict.Ask (query.View Quit)) refl
+asks-guest w l (Some other) = tt
 
 asks-decision : (w : State) (player : Option ℕ) (l : Line)
     → AsksIf (option_map_or asks (verb_named l.verb) false) (decision w player l)
@@ -174,124 +144,29 @@ asks-decision w (Some p) l = go (verb_named l.verb)
 
 -- ---- words of questions
 
-abbrev questions : List (List ℕ)
-questions =
-    codes "look" ∷ codes "l" ∷ codes "inventory" ∷ codes "inv" ∷ codes "i" ∷ codes "@key" ∷ codes "route"
-    ∷ codes "meet" ∷ codes "proof" ∷ codes "@version" ∷ codes "@history" ∷ codes "quit" ∷ []
-
-abbrev IsListed : List ℕ × Verb → Type 0
-IsListed pair = asks pair.1 ≡ true → (k : ℕ) × (slice_get questions k ≡ Some pair.0)
-
-none : false ≡ true → (word : List ℕ) → (k : ℕ) × (slice_get questions k ≡ Some word)
-none e word = absurd (true≢false (sym e))
-
--- each word of a verb that asks is one of a question
-listed : AllByRecursion IsListed verbs
-listed = (
-  λ e. none e _,
-  (
-    λ e. (0, refl),
-    (
-      λ e. (1, refl),
-      (
-        λ e. (2, refl),
-        (
-          λ e. (3, refl),
-          (
-            λ e. (4, refl),
-            (
-              λ e. none e _,
-              (
-                λ e. none e _,
-                (
-                  λ e. none e _,
-                  (
-                    λ e. none e _,
-                    (
-                      λ e. none e _,
-                      (
-                        λ e. none e _,
-                        (
-                          λ e. none e _,
-                          (
-                            λ e. none e _,
-                            (
-                              λ e. none e _,
-                              (
-                                λ e. none e _,
-                                (
-                                  λ e. none e _,
-                                  (
-                                    λ e. none e _,
-                                    (
-                                      λ e. (5, refl),
-                                      (
-                                        λ e. none e _,
-                                        (
-                                          λ e. none e _,
-                                          (
-                                            λ e. none e _,
-                                            (
-                                              λ e. (6, refl),
-                                              (
-                                                λ e. (7, refl),
-                                                (
-                                                  λ e. (8, refl),
-                                                  (λ e. (9, refl), (λ e. (10, refl), (λ e. (11, refl), tt))),
-                                                ),
-                                              ),
-                                            ),
-                                          ),
-                                        ),
-                                      ),
-                                    ),
-                                  ),
-                                ),
-                              ),
-                            ),
-                          ),
-                        ),
-                      ),
-                    ),
-                  ),
-                ),
-              ),
-            ),
-          ),
-        ),
-      ),
-    ),
-  ),
-)
-
-or_true : (b : Bool) → (b || true) ≡ true
-or_true true = refl
-or_true false = refl
-
-any-at : (test : List ℕ → Bool) (words : List (List ℕ)) (k : ℕ) (word : List ℕ) → slice_get words k ≡ Some word
-    → test word ≡ true → list_any test words ≡ true
-any-at test [] k word at is = absurd (cc)
-any-at test (w ∷ words) zero word at is =
-    let same : w ≡ word = cc in
-    ap (λ b. b || list_any test words) (ap test same ∙ is)
-any-at test (w ∷ words) (suc k) word at is =
-    ap (λ b. test w || b) (any-at test words k word at is) ∙ or_true (test w)
-
-named-asks : (test : List ℕ → Bool) (pairs : List (List ℕ × Verb)) → AllByRecursion IsListed pairs
-    → option_map_or asks (lookup test pairs) false ≡ true → list_any test questions ≡ true
-named-asks test [] are e = absurd (true≢false (sym e))
-named-asks test (pair ∷ pairs) are e = go (test pair.0) refl e (named-asks test pairs are.1)
+-- no other word is that of a verb that asks
+plain : (test : List ℕ → Bool) (rows : List (List ℕ × Verb)) → list_any (λ row. asks row.1) rows ≡ false
+    → option_map_or asks (lookup test rows) false ≡ false
+plain test [] none = refl
+plain test (row ∷ rows) none = go (test row.0) (asks row.1) refl none (plain test rows)
   where
-    go : (b : Bool) → test pair.0 ≡ b
-        → option_map_or asks (if b then Some pair.1 else lookup test pairs) false ≡ true
-        → (option_map_or asks (lookup test pairs) false ≡ true → list_any test questions ≡ true)
-        → list_any test questions ≡ true
-    go true here asked later = let at = are.0 asked in any-at test questions at.0 pair.0 at.1 here
-    go false here asked later = later asked
+    go : (here asking : Bool) → asks row.1 ≡ asking → (asking || list_any (λ row. asks row.1) rows) ≡ false
+        → (list_any (λ row. asks row.1) rows ≡ false → option_map_or asks (lookup test rows) false ≡ false)
+        → option_map_or asks (if here then Some row.1 else lookup test rows) false ≡ false
+    go here true is none later = absurd (true≢false none)
+    go true false is none later = is
+    go false false is none later = later none
+
+by_question : (question other : Option Verb) → option_map_or asks other false ≡ false
+    → option_map_or asks (option_or question other) false ≡ true → is_some question ≡ true
+by_question None other plain asked = absurd (true≢false (sym asked ∙ plain))
+by_question (Some v) other plain asked = refl
 
 pub are_questions : AreQuestions
 unfolding verb_named
 are_questions w player l q is =
+    let test : List ℕ → Bool = str_eq_ignore_ascii_case l.verb in
     let asked : AsksIf (option_map_or asks (verb_named l.verb) false) (verdict.Ask q) =
     subst (AsksIf (option_map_or asks (verb_named l.verb) false)) is (asks-decision w player l) in
-    named-asks (str_eq_ignore_ascii_case l.verb) verbs listed asked
+    by_question (lookup test question_verbs) (lookup test other_verbs) (plain test other_verbs refl)
+    (sym (ap (λ o. option_map_or asks o false) (lookup-append test question_verbs other_verbs)) ∙ asked)

@@ -373,29 +373,8 @@ fine-command w sound p l verb.Quit = fine-shaped w (is_empty l.args) (verdict.As
 fine-guest : (w : State) (l : Line) (o : Option Verb) → IsFine w (guest w l o)
 fine-guest w l None = tt
 fine-guest w l (Some verb.Connect) = fine-connect_line w l
-fine-guest w l (Some verb.Look) = tt
-fine-guest w l (Some verb.Inventory) = tt
-fine-guest w l (Some verb.Go) = tt
-fine-guest w l (Some verb.Take) = tt
-fine-guest w l (Some verb.Drop) = tt
-fine-guest w l (Some verb.Put) = tt
-fine-guest w l (Some verb.Give) = tt
-fine-guest w l (Some verb.Say) = tt
-fine-guest w l (Some verb.Emote) = tt
-fine-guest w l (Some verb.Dig) = tt
-fine-guest w l (Some verb.Create) = tt
-fine-guest w l (Some verb.Lock) = tt
-fine-guest w l (Some verb.Unlock) = tt
-fine-guest w l (Some verb.Key) = tt
-fine-guest w l (Some verb.Cost) = tt
-fine-guest w l (Some verb.Rename) = tt
-fine-guest w l (Some verb.Recycle) = tt
-fine-guest w l (Some verb.Route) = tt
-fine-guest w l (Some verb.Meet) = tt
-fine-guest w l (Some verb.Proof) = tt
-fine-guest w l (Some verb.Version) = tt
-fine-guest w l (Some verb.History) = tt
 fine-guest w l (Some verb.Quit) = fine-shaped w (is_empty l.args) (verdict.Ask (query.View Quit)) tt
+fine-guest w l (Some other) = tt
 
 fine-decision : (w : State) → IsSound w → (player : Option ℕ) (l : Line) → IsFine w (decision w player l)
 unfolding decision

@@ -61,29 +61,8 @@ askable : (w : State) (l : Line) (v : Option Verb) → IsAskable (guest w l v)
 askable w l None = tt
 askable w l (Some verb.Connect) =
     askable-shaped (not (is_empty (first_of l))) (connect w (first_of l)) (askable-connect w (name_in (first_of l)))
-askable w l (Some verb.Look) = tt
-askable w l (Some verb.Inventory) = tt
-askable w l (Some verb.Go) = tt
-askable w l (Some verb.Take) = tt
-askable w l (Some verb.Drop) = tt
-askable w l (Some verb.Put) = tt
-askable w l (Some verb.Give) = tt
-askable w l (Some verb.Say) = tt
-askable w l (Some verb.Emote) = tt
-askable w l (Some verb.Dig) = tt
-askable w l (Some verb.Create) = tt
-askable w l (Some verb.Lock) = tt
-askable w l (Some verb.Unlock) = tt
-askable w l (Some verb.Key) = tt
-askable w l (Some verb.Cost) = tt
-askable w l (Some verb.Rename) = tt
-askable w l (Some verb.Recycle) = tt
-askable w l (Some verb.Route) = tt
-askable w l (Some verb.Meet) = tt
-askable w l (Some verb.Proof) = tt
-askable w l (Some verb.Version) = tt
-askable w l (Some verb.History) = tt
 askable w l (Some verb.Quit) = askable-shaped (is_empty l.args) _ tt
+askable w l (Some other) = tt
 
 -- a guest asks about no journey
 pub guest-asks : (w : State) (l : Line) (q : Query) → decision w None l ≡ verdict.Ask q → (journey : Journey)

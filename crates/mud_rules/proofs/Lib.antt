@@ -6,7 +6,6 @@ pub mod Bounds
 pub mod Least
 pub mod Ordered
 pub mod Barred
-pub mod Verbs
 pub mod Ranging
 pub mod Parties
 pub mod Parts

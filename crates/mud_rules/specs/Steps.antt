@@ -1,6 +1,7 @@
 -- Steps of the code. Cited by private clauses alone: what they come to, Matching, Outcome, Journeys and Table say.
-use Rattle.std.specs.Prelude.{ℕ, Bool, not, ◌&&◌, ◌||◌, nat_lt, List, [], ◌∷◌, length, filter, codes, Option, Some}
+use Rattle.std.specs.Prelude.{ℕ, Bool, not, ◌&&◌, ◌||◌, nat_lt, List, length, filter, codes, Option, Some}
 use Rattle.std.specs.Prelude.{None, ok_or, Result, Ok, Err, if◌then◌else◌}
+use Rattle.std.specs.Borrow.{Bor}
 use Rattle.std.specs.Option.{option_map_or}
 use Rattle.std.specs.List.{list_any}
 use Rattle.std.specs.Str.{str_eq_ignore_ascii_case}
@@ -98,40 +99,9 @@ unfit party = refused_if (not (is_party party)) PartyBad
 
 -- ---- verbs
 
-abbrev pub words_of : Verb → List (List ℕ)
-words_of verb.Connect = codes "connect" ∷ []
-words_of verb.Look = codes "look" ∷ codes "l" ∷ []
-words_of verb.Inventory = codes "inventory" ∷ codes "inv" ∷ codes "i" ∷ []
-words_of verb.Go = codes "go" ∷ []
-words_of verb.Take = codes "take" ∷ codes "get" ∷ []
-words_of verb.Drop = codes "drop" ∷ []
-words_of verb.Put = codes "put" ∷ []
-words_of verb.Give = codes "give" ∷ []
-words_of verb.Say = codes "say" ∷ []
-words_of verb.Emote = codes "emote" ∷ []
-words_of verb.Dig = codes "@dig" ∷ []
-words_of verb.Create = codes "@create" ∷ []
-words_of verb.Lock = codes "@lock" ∷ []
-words_of verb.Unlock = codes "@unlock" ∷ []
-words_of verb.Key = codes "@key" ∷ []
-words_of verb.Cost = codes "@cost" ∷ []
-words_of verb.Rename = codes "@rename" ∷ []
-words_of verb.Recycle = codes "@recycle" ∷ []
-words_of verb.Route = codes "route" ∷ []
-words_of verb.Meet = codes "meet" ∷ []
-words_of verb.Proof = codes "proof" ∷ []
-words_of verb.Version = codes "@version" ∷ []
-words_of verb.History = codes "@history" ∷ []
-words_of verb.Quit = codes "quit" ∷ []
-
-abbrev pub each_verb : List Verb
-each_verb =
-    verb.Connect ∷ verb.Look ∷ verb.Inventory ∷ verb.Go ∷ verb.Take ∷ verb.Drop ∷ verb.Put ∷ verb.Give ∷ verb.Say
-    ∷ verb.Emote ∷ verb.Dig ∷ verb.Create ∷ verb.Lock ∷ verb.Unlock ∷ verb.Key ∷ verb.Cost ∷ verb.Rename
-    ∷ verb.Recycle ∷ verb.Route ∷ verb.Meet ∷ verb.Proof ∷ verb.Version ∷ verb.History ∷ verb.Quit ∷ []
-
-abbrev pub is_called : List ℕ → Verb → Bool
-is_called text verb = list_any (str_eq_ignore_ascii_case text) (words_of verb)
+-- a row of the code's table of verbs
+abbrev pub row_of : Bor (List ℕ) × Verb → List ℕ × Verb
+row_of row = (row.0.now, row.1)
 
 -- ---- the table
 

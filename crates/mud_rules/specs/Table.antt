@@ -1,9 +1,9 @@
 -- The table of commands: verb, shape and meaning.
-use Rattle.std.specs.Prelude.{ℕ, Bool, not, ◌&&◌, List, [], ◌∷◌, codes, Option, Some, None, is_none, Result, Err}
+use Rattle.std.specs.Prelude.{ℕ, Bool, not, ◌&&◌, List, [], ◌∷◌, ◌++◌, codes, Option, Some, None, is_none, Result, Err}
 use Rattle.std.specs.Prelude.{unwrap_or}
 use Rattle.std.specs.Prelude.{get_or, map}
 use Rattle.std.specs.Prelude.{if◌then◌else◌}
-use Rattle.std.specs.Option.{option_map_or}
+use Rattle.std.specs.Option.{option_map_or, is_some}
 use Rattle.std.specs.List.{list_any, slice_split, join_with_byte}
 use Rattle.std.specs.Map.{lookup}
 use Rattle.std.specs.Str.{str_eq_ignore_ascii_case}
@@ -41,22 +41,26 @@ use Rattle.mud_world.specs.Reach.{in_reach}
 
 -- ---- verbs
 
--- the words that are verbs
-abbrev pub verbs : List (List ℕ × Verb)
-verbs =
-    (codes "connect", verb.Connect) ∷ (codes "look", verb.Look) ∷ (codes "l", verb.Look)
-    ∷ (codes "inventory", verb.Inventory) ∷ (codes "inv", verb.Inventory) ∷ (codes "i", verb.Inventory)
-    ∷ (codes "go", verb.Go) ∷ (codes "take", verb.Take) ∷ (codes "get", verb.Take) ∷ (codes "drop", verb.Drop)
-    ∷ (codes "put", verb.Put) ∷ (codes "give", verb.Give) ∷ (codes "say", verb.Say) ∷ (codes "emote", verb.Emote)
-    ∷ (codes "@dig", verb.Dig) ∷ (codes "@create", verb.Create) ∷ (codes "@lock", verb.Lock)
-    ∷ (codes "@unlock", verb.Unlock) ∷ (codes "@key", verb.Key) ∷ (codes "@cost", verb.Cost)
-    ∷ (codes "@rename", verb.Rename) ∷ (codes "@recycle", verb.Recycle) ∷ (codes "route", verb.Route)
-    ∷ (codes "meet", verb.Meet) ∷ (codes "proof", verb.Proof) ∷ (codes "@version", verb.Version)
-    ∷ (codes "@history", verb.History) ∷ (codes "quit", verb.Quit) ∷ []
+-- the words that are verbs of questions
+abbrev pub question_verbs : List (List ℕ × Verb)
+question_verbs =
+    (codes "look", verb.Look) ∷ (codes "l", verb.Look) ∷ (codes "inventory", verb.Inventory)
+    ∷ (codes "inv", verb.Inventory) ∷ (codes "i", verb.Inventory) ∷ (codes "@key", verb.Key)
+    ∷ (codes "route", verb.Route) ∷ (codes "meet", verb.Meet) ∷ (codes "proof", verb.Proof)
+    ∷ (codes "@version", verb.Version) ∷ (codes "@history", verb.History) ∷ (codes "quit", verb.Quit) ∷ []
+
+-- the other words that are verbs
+abbrev pub other_verbs : List (List ℕ × Verb)
+other_verbs =
+    (codes "connect", verb.Connect) ∷ (codes "go", verb.Go) ∷ (codes "take", verb.Take) ∷ (codes "get", verb.Take)
+    ∷ (codes "drop", verb.Drop) ∷ (codes "put", verb.Put) ∷ (codes "give", verb.Give) ∷ (codes "say", verb.Say)
+    ∷ (codes "emote", verb.Emote) ∷ (codes "@dig", verb.Dig) ∷ (codes "@create", verb.Create)
+    ∷ (codes "@lock", verb.Lock) ∷ (codes "@unlock", verb.Unlock) ∷ (codes "@cost", verb.Cost)
+    ∷ (codes "@rename", verb.Rename) ∷ (codes "@recycle", verb.Recycle) ∷ []
 
 -- the verb that a word is, ASCII case ignored
 unfoldable pub verb_named : List ℕ → Option Verb
-verb_named text = lookup (str_eq_ignore_ascii_case text) verbs
+verb_named text = lookup (str_eq_ignore_ascii_case text) (question_verbs ++ other_verbs)
 
 -- ---- the table
 
@@ -144,10 +148,7 @@ decision w (Some p) l = option_map_or (command w p l) (verb_named l.verb) (other
 
 -- the line has the verb of a question
 abbrev pub is_question : Line → Bool
-is_question l =
-    list_any (str_eq_ignore_ascii_case l.verb)
-    (codes "look" ∷ codes "l" ∷ codes "inventory" ∷ codes "inv" ∷ codes "i" ∷ codes "@key" ∷ codes "route"
-    ∷ codes "meet" ∷ codes "proof" ∷ codes "@version" ∷ codes "@history" ∷ codes "quit" ∷ [])
+is_question l = is_some (lookup (str_eq_ignore_ascii_case l.verb) question_verbs)
 
 -- the line is `quit`, with no words behind
 abbrev pub is_quit : Line → Bool

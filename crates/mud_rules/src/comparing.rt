@@ -17,3 +17,10 @@ pub(crate) fn is_same(text: &[u8], name: &[u8]) -> bool
     }
     same
 }
+
+// Whether a text is this word, ASCII case ignored.
+pub(crate) fn is_word(text: &str, word: &str) -> bool
+    ensures { result ≡ str_eq_ignore_ascii_case text.now word.now }
+{
+    text.eq_ignore_ascii_case(word)
+}

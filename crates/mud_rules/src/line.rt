@@ -1,11 +1,11 @@
 //! What a line means to a player, or to a guest.
 
-ghost use Rattle.std.specs.Prelude.{◌≡◌, ℕ, Option, Some, IfOk, codes};
-ghost use Rattle.std.specs.Str.{str_eq_ignore_ascii_case};
+ghost use Rattle.std.specs.Prelude.{◌≡◌, ℕ, Option, Some, IfOk};
 ghost use Rattle.mud_words.specs.Line.{line_of};
 ghost use Rattle.mud_rules.specs.Outcome.{IsLawful};
 ghost use Rattle.mud_rules.specs.Table.{command, other_line, guest, decision, is_question, is_quit};
 
+use crate::comparing::is_word;
 use crate::matching::{Likeness, Match, sole_fit};
 use crate::moving::walk;
 use crate::outcome::{asked_journey, asked_proof, shaped};
@@ -27,19 +27,7 @@ use std::alloc::{AllocError, Global};
 pub fn is_question(parsed: &Parsed) -> bool
     ensures { result ≡ is_question (line_of parsed.now) }
 {
-    let verb = parsed.verb.as_str();
-    verb.eq_ignore_ascii_case("look")
-        || verb.eq_ignore_ascii_case("l")
-        || verb.eq_ignore_ascii_case("inventory")
-        || verb.eq_ignore_ascii_case("inv")
-        || verb.eq_ignore_ascii_case("i")
-        || verb.eq_ignore_ascii_case("@key")
-        || verb.eq_ignore_ascii_case("route")
-        || verb.eq_ignore_ascii_case("meet")
-        || verb.eq_ignore_ascii_case("proof")
-        || verb.eq_ignore_ascii_case("@version")
-        || verb.eq_ignore_ascii_case("@history")
-        || verb.eq_ignore_ascii_case("quit")
+    Verb::asks(&parsed.verb)
 }
 
 /// Whether a line is `quit`, with no words behind: its answer is the last of a session (this project's
@@ -47,14 +35,7 @@ pub fn is_question(parsed: &Parsed) -> bool
 pub fn is_quit(parsed: &Parsed) -> bool
     ensures { result ≡ is_quit (line_of parsed.now) }
 {
-    parsed.args.is_empty() && has_verb_quit(parsed)
-}
-
-// Whether the verb is `quit`, ASCII case ignored.
-fn has_verb_quit(parsed: &Parsed) -> bool
-    ensures { result ≡ str_eq_ignore_ascii_case (line_of parsed.now).verb (codes "quit") }
-{
-    parsed.verb.as_str().eq_ignore_ascii_case("quit")
+    parsed.args.is_empty() && is_word(&parsed.verb, "quit")
 }
 
 /// What a line asks for in a world: a change that is legal there, a question, a player to become,

@@ -1,8 +1,8 @@
 -- What a line comes to is legal, and its names, keys and texts are such.
-use Rattle.std.proofs.Common.{◌≡◌, ℕ, ◌≤◌, inl, inr, Bool, true, false, List, [], ◌∷◌, Option, None, Some, Result, Ok}
+use Rattle.std.proofs.Common.{◌≡◌, ℕ, ◌≤◌, inl, inr, Bool, true, false, List, [], Option, None, Some, Result, Ok}
 use Rattle.std.proofs.Common.{Err}
 use Rattle.std.proofs.Common.{refl, sym, ◌∙◌, subst}
-use Rattle.std.specs.Prelude.{not, ◌&&◌, ◌||◌, IsTrue, is_none, nat_lt, unwrap_or, if◌then◌else◌}
+use Rattle.std.specs.Prelude.{not, ◌&&◌, IsTrue, IfOk, is_none, nat_lt, if◌then◌else◌}
 use Rattle.std.specs.Option.{option_map, option_map_or, option_and_then, option_zip}
 use Rattle.std.specs.Result.{result_ok, result_map_both}
 use Rattle.std.specs.List.{before_first, after_first}
@@ -20,14 +20,12 @@ use Rattle.mud_key.proofs.Resolving.{resolved_key}
 use Rattle.mud_words.specs.Line.{Line}
 use Rattle.mud_words.specs.Parse.{parsed}
 use Rattle.mud_words.specs.Searching.{joined}
-use Rattle.mud_words.specs.declared.Prep.TheVariants.{With, To, In, Is}
+use Rattle.mud_words.specs.declared.Prep.TheVariants.{With, To, Is}
 use Rattle.mud_world.specs.Speech.{is_speech}
-use Rattle.mud_world.specs.Refusals.{number, lesser, refused_if}
-use Rattle.mud_world.specs.State.{State, place_of, leaving_of, exists, named_player, is_thing, is_player, within}
+use Rattle.mud_world.specs.Refusals.{number, lesser}
+use Rattle.mud_world.specs.State.{State, exists, named_player, is_room, is_player}
 use Rattle.mud_world.specs.Sound.{IsSound}
-use Rattle.mud_world.specs.Conditions.{shares_room}
-use Rattle.mud_world.specs.Reach.{in_reach}
-use Rattle.mud_world.specs.Legal.{refusal}
+use Rattle.mud_world.specs.Legal.{refusal, is_arrival}
 use Rattle.mud_world.specs.Parts.{HasParts, IsTarget}
 use Rattle.mud_world.specs.Inner.{AreDoors}
 use Rattle.mud_world.specs.declared.change.Change.{Change}
@@ -37,38 +35,42 @@ use Rattle.mud_world.specs.declared.change.Doors.{Doors}
 use Rattle.mud_world.specs.declared.change.Target.{Target}
 use Rattle.mud_world.specs.declared.change.Target.TheVariants.{New, Old}
 use Rattle.mud_world.specs.declared.refusal.Refusal.{Refusal}
-use Rattle.mud_world.specs.declared.refusal.Refusal.TheVariants.{NotUnderstood, NoSuch, WrongKind, NotHere}
+use Rattle.mud_world.specs.declared.refusal.Refusal.TheVariants.{NotUnderstood, NoSuch, WrongKind}
 use Rattle.mud_world.specs.declared.refusal.Refusal.TheVariants.{BadName, BadKey, BadCost}
 use Rattle.mud_world.proofs.Least.{refusals_law}
-use Rattle.mud_rules.specs.declared.matching.Likeness.TheVariants.{Equal}
+use Rattle.mud_world.proofs.Players.{named-player}
 use Rattle.mud_rules.specs.declared.verb.Verb.{Verb}
 use Rattle.mud_rules.specs.declared.verb.Verb.TheVariants as verb
-use Rattle.mud_rules.specs.declared.verdict.View.TheVariants.{Look, LookAt, Inventory, KeyOf, Version, Quit}
+use Rattle.mud_rules.specs.declared.verdict.View.TheVariants.{Look, LookAt}
 use Rattle.mud_rules.specs.declared.verdict.Query.TheVariants as query
 use Rattle.mud_rules.specs.declared.verdict.Verdict.{Verdict}
 use Rattle.mud_rules.specs.declared.verdict.Verdict.TheVariants as verdict
-use Rattle.mud_rules.specs.Matching.{is_empty, number_in, local_match, object_number, sole_like}
+use Rattle.mud_rules.specs.Matching.{is_empty, number_in, local_match, room_match, object_number}
 use Rattle.mud_rules.specs.Outcome.{outcome, does, does_read, found, of_kind, on_found, shaped}
-use Rattle.mud_rules.specs.Commands.{kind_then_here, key_meant}
+use Rattle.mud_rules.specs.Outcome.{IsActor, IsJourney, IsQuestion, IsLawful}
+use Rattle.mud_rules.specs.declared.verdict.Journey.{Journey}
+use Rattle.mud_rules.specs.declared.verdict.Journey.TheVariants.{Route}
+use Rattle.mud_rules.proofs.Parties.{meet-lawful}
+use Rattle.mud_rules.specs.Commands.{key_meant}
 use Rattle.mud_rules.specs.Commands.{doors_in, is_bar, target_in, dig_between}
 use Rattle.mud_rules.specs.Inner.{create, rename, cost, lock, dig_room, has_bar, dig_exits, connecting, connect}
-use Rattle.mud_rules.specs.Inner.{drop_down}
+use Rattle.mud_rules.specs.Inner.{route, meet, is_aimed}
 use Rattle.mud_rules.specs.Inner.{near_named}
 use Rattle.mud_rules.specs.Inner.{first_of, has_empty_side}
 use Rattle.mud_rules.specs.Shapes.{all_of, looked_at, is_pair, text_behind}
-use Rattle.mud_rules.specs.Shapes.{object_named, object_before, objects_round}
+use Rattle.mud_rules.specs.Shapes.{object_named, object_before}
 use Rattle.mud_rules.specs.Table.{connect_line, journey_of, command, other_line, guest, decision, verb_named}
 use Rattle.mud_rules.specs.Laws.{IsMade}
 use Rattle.mud_rules.proofs.Bounds.{number_of_object}
 use Rattle.mud_rules.proofs.Ordered.{outcome_is}
 use Rattle.mud_rules.specs.declared.verdict.Verdict.TheVariants.{Change as Changes}
 
--- a change that a line comes to is so
-abbrev IsFine : State → Verdict → Type 0
-IsFine w (verdict.Change e) = IsMade w e
-IsFine w (verdict.Ask q) = Unit {0}
-IsFine w (verdict.Become n) = Unit {0}
-IsFine w (verdict.Refused f) = Unit {0}
+-- what is true of a verdict, and of the parts of its change
+abbrev IsFine : State → Option ℕ → Verdict → Type 0
+IsFine w player (verdict.Change e) = IsMade w e × IsActor w player e
+IsFine w player (verdict.Ask q) = IsQuestion w q
+IsFine w player (verdict.Become n) = IsTrue (is_player w n)
+IsFine w player (verdict.Refused f) = Unit {0}
 
 -- ---- what a verdict is made of
 no-some : {A B : Type 0} (x : A) → Some x ≡ None → B
@@ -82,53 +84,62 @@ lesser-none (Some f) (Some g) e = elim (cases_Bool (nat_lt (number g) (number f)
   | inr t ↦ no-some f (sym (cond-false (nat_lt (number g) (number f)) (Some g) (Some f) t) ∙ e)
 ]
 
-fine-legal : (w : State) (own : Option Refusal) (e : Change) → (refusal w e ≡ None → HasParts e.deed)
-    → IsFine w (outcome w own e)
-fine-legal w own e parts = subst (IsFine w) (outcome_is w own e) (go (lesser own (refusal w e)) refl)
+fine-legal : (w : State) (player : Option ℕ) (own : Option Refusal) (e : Change) → IsActor w player e
+    → (refusal w e ≡ None → HasParts e.deed) → IsFine w player (outcome w own e)
+fine-legal w player own e acts parts =
+    subst (IsFine w player) (outcome_is w own e) (go (lesser own (refusal w e)) refl)
   where
     go : (o : Option Refusal) → lesser own (refusal w e) ≡ o
-        → IsFine w (option_map_or verdict.Refused o (verdict.Change e))
-    go None is = let legal = lesser-none own (refusal w e) is in record { legal = legal; parts = parts legal }
+        → IsFine w player (option_map_or verdict.Refused o (verdict.Change e))
+    go None is =
+        let legal = lesser-none own (refusal w e) is in
+        (record { legal = legal; parts = parts legal }, acts)
     go (Some f) is = tt
 
-fine-outcome : (w : State) (own : Option Refusal) (e : Change) → HasParts e.deed → IsFine w (outcome w own e)
-fine-outcome w own e parts = fine-legal w own e (λ legal. parts)
+by_player : (p : ℕ) (w : State) (d : Deed) → is_arrival d ≡ false → IsActor w (Some p) (record { actor = p; deed = d })
+by_player p w d acts = record { old = λ e. refl; new = λ e. absurd (true≢false (sym e ∙ acts)) }
 
-fine-does : (w : State) (p : ℕ) (own : Option Refusal) (d : Deed) → HasParts d → IsFine w (does w p own d)
-fine-does w p own d parts = fine-outcome w own (record { actor = p; deed = d }) parts
+fine-does : (w : State) (p : ℕ) (own : Option Refusal) (d : Deed) → is_arrival d ≡ false → HasParts d
+    → IsFine w (Some p) (does w p own d)
+fine-does w p own d acts parts =
+    fine-legal w (Some p) own (record { actor = p; deed = d }) (by_player p w d acts) (λ legal. parts)
 
 never-none : {B : Type 0} (f : Refusal) (o : Option Refusal) → lesser (Some f) o ≡ None → B
 never-none f None e = no-some f e
 never-none f (Some g) e = no-some g (lesser-none (Some f) (Some g) e)
 
-fine-refused : (w : State) (p : ℕ) (own : Refusal) (d : Deed) → IsFine w (does w p (Some own) d)
-fine-refused w p own d = subst (IsFine w) (outcome_is w (Some own) e) (go (lesser (Some own) (refusal w e)) refl)
+fine-refused : (w : State) (p : ℕ) (own : Refusal) (d : Deed) → IsFine w (Some p) (does w p (Some own) d)
+fine-refused w p own d =
+    subst (IsFine w (Some p)) (outcome_is w (Some own) e) (go (lesser (Some own) (refusal w e)) refl)
   where
     e : Change
     e = record { actor = p; deed = d }
 
     go : (o : Option Refusal) → lesser (Some own) (refusal w e) ≡ o
-        → IsFine w (option_map_or verdict.Refused o (verdict.Change e))
+        → IsFine w (Some p) (option_map_or verdict.Refused o (verdict.Change e))
     go None is = never-none own (refusal w e) is
     go (Some f) is = tt
 
 fine-read : {A : Type 0} (w : State) (p : ℕ) (own : Refusal) (blank : A) (o : Option A) (d : A → Deed)
-    → ((x : A) → o ≡ Some x → HasParts (d x)) → IsFine w (does_read w p own blank o d)
-fine-read w p own blank None d is = fine-refused w p own (d blank)
-fine-read w p own blank (Some x) d is = fine-does w p None (d x) (is x refl)
+    → ((x : A) → is_arrival (d x) ≡ false) → ((x : A) → o ≡ Some x → HasParts (d x))
+    → IsFine w (Some p) (does_read w p own blank o d)
+fine-read w p own blank None d acts is = fine-refused w p own (d blank)
+fine-read w p own blank (Some x) d acts is = fine-does w p None (d x) (acts x) (is x refl)
 
-fine-found : {A : Type 0} (w : State) (r : Result A Refusal) (f : A → Verdict) → ((x : A) → IsFine w (f x))
-    → IsFine w (on_found r f)
-fine-found w (Ok x) f is = is x
-fine-found w (Err g) f is = tt
+fine-found : {A : Type 0} (w : State) (player : Option ℕ) (r : Result A Refusal) (f : A → Verdict)
+    → ((x : A) → IsFine w player (f x)) → IsFine w player (on_found r f)
+fine-found w player (Ok x) f is = is x
+fine-found w player (Err g) f is = tt
 
-fine-shaped : (w : State) (b : Bool) (v : Verdict) → IsFine w v → IsFine w (shaped b v)
-fine-shaped w true v is = is
-fine-shaped w false v is = tt
+fine-shaped : (w : State) (player : Option ℕ) (b : Bool) (v : Verdict) → IsFine w player v
+    → IsFine w player (shaped b v)
+fine-shaped w player true v is = is
+fine-shaped w player false v is = tt
 
-fine-if : (w : State) (b : Bool) (u v : Verdict) → IsFine w u → IsFine w v → IsFine w (if b then u else v)
-fine-if w true u v x y = x
-fine-if w false u v x y = y
+fine-if : (w : State) (player : Option ℕ) (b : Bool) (u v : Verdict) → IsFine w player u → IsFine w player v
+    → IsFine w player (if b then u else v)
+fine-if w player true u v x y = x
+fine-if w player false u v x y = y
 
 -- ---- names and texts
 names-are : (text : List ℕ) (names : List (List ℕ)) → names_in text ≡ Some names → AreNames names
@@ -259,135 +270,163 @@ target-is text t e = go (object_number text) (names_in text) (λ ns at. names-ar
 
 fine-between : (w : State) (p : ℕ) (d : Option Doors) (t : Option Target)
     → ((x : Doors) → d ≡ Some x → AreDoors (Some x)) → ((x : Target) → t ≡ Some x → IsTarget x)
-    → IsFine w (dig_between w p d t)
+    → IsFine w (Some p) (dig_between w p d t)
 fine-between w p None None x y = fine-refused w p BadName (deed.Dig (New []) (Some (record { out = []; back = None })))
 fine-between w p None (Some target) x y =
     fine-refused w p BadName (deed.Dig target (Some (record { out = []; back = None })))
 fine-between w p (Some doors) None x y = fine-refused w p BadName (deed.Dig (New []) (Some doors))
 fine-between w p (Some doors) (Some target) x y =
-    fine-does w p None (deed.Dig target (Some doors)) (y target refl, x doors refl)
+    fine-does w p None (deed.Dig target (Some doors)) refl (y target refl, x doors refl)
 
-fine-dig_room : (w : State) (p : ℕ) (text : List ℕ) → IsFine w (dig_room w p text)
+fine-dig_room : (w : State) (p : ℕ) (text : List ℕ) → IsFine w (Some p) (dig_room w p text)
 fine-dig_room w p text =
-    fine-read w p BadName [] (names_in text) (λ names. deed.Dig (New names) None)
+    fine-read w p BadName [] (names_in text) (λ names. deed.Dig (New names) None) (λ names. refl)
     (λ names is. (names-are text names is, tt))
 
-fine-dig : (w : State) (p : ℕ) (l : Line) → IsFine w (command w p l verb.Dig)
+fine-dig : (w : State) (p : ℕ) (l : Line) → IsFine w (Some p) (command w p l verb.Dig)
 fine-dig w p l =
     let fits = is_pair To l && not (has_empty_side l.direct) in
-    fine-if w (is_none l.prep) (on_found (text_behind l) (dig_room w p))
+    fine-if w (Some p) (is_none l.prep) (on_found (text_behind l) (dig_room w p))
     (shaped fits (dig_exits w p l.direct l.indirect))
-    (fine-found w (text_behind l) (dig_room w p) (fine-dig_room w p))
-    (fine-shaped w fits (dig_exits w p l.direct l.indirect)
+    (fine-found w (Some p) (text_behind l) (dig_room w p) (fine-dig_room w p))
+    (fine-shaped w (Some p) fits (dig_exits w p l.direct l.indirect)
     (fine-between w p (doors_in l.direct) (target_in l.indirect) (doors-are l.direct) (target-is l.indirect)))
 
 -- ---- players
-fine-connecting : (w : State) (name : List ℕ) → IsName name → IsFine w (connecting w name)
-fine-connecting w name is = go (named_player w name)
+fine-connecting : (w : State) → IsSound w → (player : Option ℕ) (name : List ℕ) → IsName name
+    → IsFine w player (connecting w name)
+fine-connecting w sound player name is = go (named_player w name) refl
   where
-    go : (o : Option ℕ)
-        → IsFine w (option_map_or verdict.Become o
-        (outcome w None (record { actor = w.next; deed = deed.Player name })))
-    go (Some n) = tt
-    go None = fine-outcome w None (record { actor = w.next; deed = deed.Player name }) is
+    new : Change
+    new = record { actor = w.next; deed = deed.Player name }
 
-fine-connect : (w : State) (text : List ℕ) → IsFine w (connect w text)
-fine-connect w text = go (name_in text) refl
+    go : (o : Option ℕ) → named_player w name ≡ o
+        → IsFine w player (option_map_or verdict.Become o (outcome w None new))
+    go (Some n) named = named-player w sound name n named
+    go None named =
+        fine-legal w player None new (record { old = λ e. absurd (true≢false e); new = λ e. refl }) (λ legal. is)
+
+fine-connect_line : (w : State) → IsSound w → (player : Option ℕ) (l : Line) → IsFine w player (connect_line w l)
+fine-connect_line w sound player l =
+    fine-shaped w player (not (is_empty (first_of l))) (connect w (first_of l)) (go (name_in (first_of l)) refl)
   where
-    go : (o : Option (List ℕ)) → name_in text ≡ o → IsFine w (option_map_or (connecting w) o (verdict.Refused BadName))
+    go : (o : Option (List ℕ)) → name_in (first_of l) ≡ o
+        → IsFine w player (option_map_or (connecting w) o (verdict.Refused BadName))
     go None is = tt
-    go (Some name) is = let h = (name_law text name).0 is in fine-connecting w name (subst IsName (sym h.0) h.1)
+    go (Some name) is =
+        let h = (name_law (first_of l) name).0 is in fine-connecting w sound player name (subst IsName (sym h.0) h.1)
 
-fine-connect_line : (w : State) (l : Line) → IsFine w (connect_line w l)
-fine-connect_line w l =
-    fine-shaped w (not (is_empty (first_of l))) (connect w (first_of l)) (fine-connect w (first_of l))
+-- ---- journeys
+kind-is : (wanted : ℕ → Bool) (r : Result ℕ Refusal) → IfOk (of_kind wanted r) (λ n. IsTrue (wanted n))
+kind-is wanted (Err f) = tt
+kind-is wanted (Ok n) = go (wanted n) refl
+  where
+    go : (b : Bool) → wanted n ≡ b → IfOk (if b then Ok n else Err WrongKind) (λ n. IsTrue (wanted n))
+    go true is = is
+    go false is = tt
 
-fine-walk : (w : State) (p : ℕ) (r : Result ℕ Refusal) → IsFine w (on_found r (λ x. does w p None (deed.Walk x)))
-fine-walk w p r =
-    fine-found w r (λ x. does w p None (deed.Walk x)) (λ x. fine-does w p None (deed.Walk x) tt)
+route-of : (w : State) (r : Result ℕ Refusal) → IfOk r (λ n. IsTrue (is_room w n))
+    → IfOk (result_map_both Route (λ f. f) r) (IsJourney w)
+route-of w (Ok n) is = is
+route-of w (Err f) is = tt
+
+journey-if : (w : State) (b : Bool) (r s : Result Journey Refusal) → IfOk r (IsJourney w) → IfOk s (IsJourney w)
+    → IfOk (if b then r else s) (IsJourney w)
+journey-if w true r s x y = x
+journey-if w false r s x y = y
+
+journey-is : (w : State) (p : ℕ) (l : Line) (o : Option Verb) → IfOk (journey_of w p l o) (IsJourney w)
+journey-is w p l None = tt
+journey-is w p l (Some verb.Route) =
+    journey-if w (is_aimed To l) (route w p l.indirect) (Err NotUnderstood)
+    (route-of w _ (kind-is (is_room w) (found NoSuch (room_match w p l.indirect)))) tt
+journey-is w p l (Some verb.Meet) =
+    journey-if w (is_empty (all_of l)) (Err NotUnderstood) (meet w p (all_of l)) tt (meet-lawful w p (all_of l))
+journey-is w p l (Some other) = tt
+
+fine-asked : (w : State) (player : Option ℕ) (r : Result Journey Refusal) → IfOk r (IsJourney w)
+    → IsFine w player (on_found r (λ j. verdict.Ask (query.Journey j)))
+fine-asked w player (Ok j) is = is
+fine-asked w player (Err f) is = tt
+
+fine-proof : (w : State) (player : Option ℕ) (r : Result Journey Refusal) → IfOk r (IsJourney w)
+    → IsFine w player (on_found r (λ j. verdict.Ask (query.Proof j)))
+fine-proof w player (Ok j) is = is
+fine-proof w player (Err f) is = tt
 
 -- ---- the table
-fine-object : (w : State) (p : ℕ) (l : Line) (meaning : ℕ → Verdict) → ((x : ℕ) → IsFine w (meaning x))
-    → IsFine w (on_found (object_named w p (all_of l)) meaning)
-fine-object w p l meaning is = fine-found w (object_named w p (all_of l)) meaning is
 
-fine-move : (w : State) (p : ℕ) (prep : _) (l : Line) (own : ℕ × ℕ → Option Refusal)
-    → IsFine w (on_found (objects_round prep w p l) (λ o. does w p (own o) (deed.Move o.0 o.1)))
-fine-move w p prep l own =
-    fine-found w (objects_round prep w p l) (λ o. does w p (own o) (deed.Move o.0 o.1))
-    (λ o. fine-does w p (own o) (deed.Move o.0 o.1) tt)
-
-fine-command : (w : State) → IsSound w → (p : ℕ) (l : Line) (v : Verb) → IsFine w (command w p l v)
-fine-command w sound p l verb.Connect = fine-connect_line w l
+-- the last clause is of those who do something with what is found near them
+fine-command : (w : State) → IsSound w → (p : ℕ) (l : Line) (v : Verb) → IsFine w (Some p) (command w p l v)
+fine-command w sound p l verb.Connect = fine-connect_line w sound (Some p) l
 fine-command w sound p l verb.Look =
     let object = object_named w p (joined (looked_at l.args)) in
-    fine-if w (is_empty l.args) (verdict.Ask (query.View Look))
+    fine-if w (Some p) (is_empty l.args) (verdict.Ask (query.View Look))
     (on_found object (λ x. verdict.Ask (query.View (LookAt x)))) tt
-    (fine-found w object (λ x. verdict.Ask (query.View (LookAt x))) (λ x. tt))
-fine-command w sound p l verb.Inventory = fine-shaped w (is_empty l.args) (verdict.Ask (query.View Inventory)) tt
-fine-command w sound p l verb.Go =
-    fine-object w p l (λ x. does w p None (deed.Walk x)) (λ x. fine-does w p None (deed.Walk x) tt)
-fine-command w sound p l verb.Take =
-    fine-object w p l (λ x. does w p None (deed.Move x p)) (λ x. fine-does w p None (deed.Move x p) tt)
-fine-command w sound p l verb.Drop =
-    fine-object w p l (drop_down w p)
-    (λ x. fine-does w p (refused_if (not (within w x p)) NotHere) (deed.Move x (unwrap_or (place_of w p) 0)) tt)
-fine-command w sound p l verb.Put =
-    fine-move w p In l (λ o. kind_then_here (not (is_thing w o.1)) (not (in_reach w p o.1)))
-fine-command w sound p l verb.Give =
-    fine-move w p To l (λ o. kind_then_here (not (is_player w o.1)) (not (within w o.0 p) || not (shares_room w p o.1)))
+    (fine-found w (Some p) object (λ x. verdict.Ask (query.View (LookAt x))) (λ x. tt))
+fine-command w sound p l verb.Inventory = fine-shaped w (Some p) (is_empty l.args) _ tt
 fine-command w sound p l verb.Say =
-    fine-legal w None (record { actor = p; deed = deed.Say l.rest }) (says-speech w p l.rest)
+    fine-legal w (Some p) None (record { actor = p; deed = deed.Say l.rest }) (by_player p w (deed.Say l.rest) refl)
+    (says-speech w p l.rest)
 fine-command w sound p l verb.Emote =
-    fine-legal w None (record { actor = p; deed = deed.Emote l.rest }) (emotes-speech w p l.rest)
+    fine-legal w (Some p) None (record { actor = p; deed = deed.Emote l.rest }) (by_player p w (deed.Emote l.rest) refl)
+    (emotes-speech w p l.rest)
 fine-command w sound p l verb.Dig = fine-dig w p l
 fine-command w sound p l verb.Create =
-    fine-found w (text_behind l) (create w p)
-    (λ text. fine-read w p BadName [] (names_in text) deed.Make (λ names is. names-are text names is))
+    fine-found w (Some p) (text_behind l) (create w p)
+    (λ text. fine-read w p BadName [] (names_in text) deed.Make (λ names. refl) (λ names is. names-are text names is))
 fine-command w sound p l verb.Lock =
-    fine-found w (object_before With w p l) (λ x. lock w p x l.indirect)
-    (λ x. fine-read w p BadKey (Has 0) (key_meant w p l.indirect) (deed.Lock x)
+    fine-found w (Some p) (object_before With w p l) (λ x. lock w p x l.indirect)
+    (λ x. fine-read w p BadKey (Has 0) (key_meant w p l.indirect) (deed.Lock x) (λ k. refl)
     (λ k is. key-is w sound p l.indirect k is))
-fine-command w sound p l verb.Unlock =
-    fine-object w p l (λ x. does w p None (deed.Unlock x)) (λ x. fine-does w p None (deed.Unlock x) tt)
-fine-command w sound p l verb.Key = fine-object w p l (λ x. verdict.Ask (query.View (KeyOf x))) (λ x. tt)
+fine-command w sound p l verb.Key = fine-found w (Some p) (object_named w p (all_of l)) _ (λ x. tt)
 fine-command w sound p l verb.Cost =
-    fine-found w (object_before Is w p l) (λ x. cost w p x l.indirect)
-    (λ x. fine-read w p BadCost 0 (number_in l.indirect) (deed.Cost x) (λ n is. tt))
+    fine-found w (Some p) (object_before Is w p l) (λ x. cost w p x l.indirect)
+    (λ x. fine-read w p BadCost 0 (number_in l.indirect) (deed.Cost x) (λ n. refl) (λ n is. tt))
 fine-command w sound p l verb.Rename =
-    fine-found w (object_before To w p l) (λ x. rename w p x l.indirect)
-    (λ x. fine-read w p BadName [] (names_in l.indirect) (deed.Rename x) (λ names is. names-are l.indirect names is))
-fine-command w sound p l verb.Recycle =
-    fine-object w p l (λ x. does w p None (deed.Recycle x)) (λ x. fine-does w p None (deed.Recycle x) tt)
+    fine-found w (Some p) (object_before To w p l) (λ x. rename w p x l.indirect)
+    (λ x. fine-read w p BadName [] (names_in l.indirect) (deed.Rename x) (λ names. refl)
+    (λ names is. names-are l.indirect names is))
 fine-command w sound p l verb.Route =
-    fine-found w (journey_of w p l (Some verb.Route)) (λ j. verdict.Ask (query.Journey j)) (λ j. tt)
+    fine-asked w (Some p) (journey_of w p l (Some verb.Route)) (journey-is w p l (Some verb.Route))
 fine-command w sound p l verb.Meet =
-    fine-found w (journey_of w p l (Some verb.Meet)) (λ j. verdict.Ask (query.Journey j)) (λ j. tt)
+    fine-asked w (Some p) (journey_of w p l (Some verb.Meet)) (journey-is w p l (Some verb.Meet))
 fine-command w sound p l verb.Proof =
     let line = parsed l.rest in
-    fine-found w (journey_of w p line (verb_named line.verb)) (λ j. verdict.Ask (query.Proof j)) (λ j. tt)
-fine-command w sound p l verb.Version = fine-shaped w (is_empty l.args) (verdict.Ask (query.View Version)) tt
-fine-command w sound p l verb.History = fine-shaped w (is_empty l.args) (verdict.Ask query.History) tt
-fine-command w sound p l verb.Quit = fine-shaped w (is_empty l.args) (verdict.Ask (query.View Quit)) tt
+    fine-proof w (Some p) (journey_of w p line (verb_named line.verb)) (journey-is w p line (verb_named line.verb))
+fine-command w sound p l verb.Version = fine-shaped w (Some p) (is_empty l.args) _ tt
+fine-command w sound p l verb.History = fine-shaped w (Some p) (is_empty l.args) _ tt
+fine-command w sound p l verb.Quit = fine-shaped w (Some p) (is_empty l.args) _ tt
+fine-command w sound p l other = fine-found w (Some p) _ _ (λ x. fine-does w p _ _ refl tt)
 
-fine-guest : (w : State) (l : Line) (o : Option Verb) → IsFine w (guest w l o)
-fine-guest w l None = tt
-fine-guest w l (Some verb.Connect) = fine-connect_line w l
-fine-guest w l (Some verb.Quit) = fine-shaped w (is_empty l.args) (verdict.Ask (query.View Quit)) tt
-fine-guest w l (Some other) = tt
+fine-guest : (w : State) → IsSound w → (l : Line) (o : Option Verb) → IsFine w None (guest w l o)
+fine-guest w sound l None = tt
+fine-guest w sound l (Some verb.Connect) = fine-connect_line w sound None l
+fine-guest w sound l (Some verb.Quit) = fine-shaped w None (is_empty l.args) _ tt
+fine-guest w sound l (Some other) = tt
 
-fine-decision : (w : State) → IsSound w → (player : Option ℕ) (l : Line) → IsFine w (decision w player l)
+fine-decision : (w : State) → IsSound w → (player : Option ℕ) (l : Line) → IsFine w player (decision w player l)
 unfolding decision
-fine-decision w sound None l = fine-guest w l (verb_named l.verb)
+fine-decision w sound None l = fine-guest w sound l (verb_named l.verb)
 fine-decision w sound (Some p) l = go (verb_named l.verb)
   where
-    go : (o : Option Verb) → IsFine w (option_map_or (command w p l) o (other_line w p l))
-    go None =
-        fine-walk w p
-        (found NotUnderstood
-        (sole_like Equal w (joined (l.verb ∷ l.args)) (option_map_or (leaving_of w) (place_of w p) [])))
+    go : (o : Option Verb) → IsFine w (Some p) (option_map_or (command w p l) o (other_line w p l))
+    go None = fine-found w (Some p) _ _ (λ x. fine-does w p None (deed.Walk x) refl tt)
     go (Some v) = fine-command w sound p l v
+
+-- ---- what follows
+
+lawful-of : (w : State) (player : Option ℕ) (v : Verdict) → IsFine w player v → IsLawful w player v
+lawful-of w player (verdict.Change e) is = (is.0.legal, is.1)
+lawful-of w player (verdict.Ask q) is = is
+lawful-of w player (verdict.Become n) is = is
+lawful-of w player (verdict.Refused f) is = tt
+
+-- in a sound world each decision is lawful
+pub are_lawful : (w : State) → IsSound w → (player : Option ℕ) (l : Line) → IsLawful w player (decision w player l)
+are_lawful w sound player l = lawful-of w player (decision w player l) (fine-decision w sound player l)
 
 pub are_made : (w : State) → IsSound w → (player : Option ℕ) (l : Line) (e : Change)
     → decision w player l ≡ Changes e → IsMade w e
-are_made w sound player l e is = subst (IsFine w) is (fine-decision w sound player l)
+are_made w sound player l e is =
+    let fine : IsFine w player (Changes e) = subst (IsFine w player) is (fine-decision w sound player l) in fine.0

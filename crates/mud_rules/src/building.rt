@@ -1,7 +1,6 @@
 //! The cost of an exit.
 
 ghost use Rattle.std.specs.Prelude.{◌≡◌, Some};
-ghost use Rattle.mud_rules.specs.Outcome.{IsLawful};
 ghost use Rattle.mud_rules.specs.Inner.{cost};
 
 use crate::Verdict;
@@ -11,8 +10,7 @@ use mud_world::{Deed, Refusal, World};
 
 #[tactic(auto, using(crate::proofs::Barred::cost_barred))]
 pub(crate) fn cost(world: &World, player: u32, exit: u32, text: &str) -> Verdict
-    ensures decision { result ≡ cost world.now player exit text.now }
-    ensures lawful { IsLawful world.now (Some player) result }
+    ensures { result ≡ cost world.now player exit text.now }
 {
     match number_in(text.as_bytes()) {
         Some(cost) => does(world, player, None, Deed::Cost { exit, cost }),

@@ -1,7 +1,6 @@
 //! Digging.
 
 ghost use Rattle.std.specs.Prelude.{◌≡◌, Some, IfOk};
-ghost use Rattle.mud_rules.specs.Outcome.{IsLawful};
 ghost use Rattle.mud_rules.specs.Commands.{doors_in, target_in, dig_between};
 ghost use Rattle.mud_rules.specs.Inner.{dig_room, dig_exits, has_empty_side};
 
@@ -19,8 +18,7 @@ pub(crate) fn dig_room(
     player: u32,
     text: &str,
 ) -> Result<Verdict, AllocError>
-    ensures decision { IfOk result (λ v. v ≡ dig_room world.now player text.now) }
-    ensures lawful { IfOk result (IsLawful world.now (Some player)) }
+    ensures { IfOk result (λ v. v ≡ dig_room world.now player text.now) }
 {
     match names_in(alloc, text)? {
         Some(names) => Ok(does(world, player, None, Deed::Dig(Target::New(names), None))),
@@ -71,8 +69,7 @@ pub(crate) fn dig_exits(
     doors: &str,
     target: &str,
 ) -> Result<Verdict, AllocError>
-    ensures decision { IfOk result (λ v. v ≡ dig_exits world.now player doors.now target.now) }
-    ensures lawful { IfOk result (IsLawful world.now (Some player)) }
+    ensures { IfOk result (λ v. v ≡ dig_exits world.now player doors.now target.now) }
 {
     let doors = doors_in(alloc, doors)?;
     let target = target_in(alloc, target)?;
@@ -81,8 +78,7 @@ pub(crate) fn dig_exits(
 
 #[tactic(auto, using(crate::proofs::Barred::room_barred, crate::proofs::Barred::exits_barred))]
 fn dig_between(world: &World, player: u32, doors: Option<Doors>, target: Option<Target>) -> Verdict
-    ensures decision { result ≡ dig_between world.now player doors target }
-    ensures lawful { IsLawful world.now (Some player) result }
+    ensures { result ≡ dig_between world.now player doors target }
 {
     let Some(target) = target else {
         return unread(no_player(world, player), Refusal::BadName);

@@ -1,11 +1,11 @@
 //! Routes and meetings.
 
-ghost use Rattle.std.specs.Prelude.{◌≡◌, map, IfOk, IsTrue};
+ghost use Rattle.std.specs.Prelude.{◌≡◌, map, IfOk};
 ghost use Rattle.mud_key.specs.Parts.{parts_of};
 ghost use Rattle.mud_world.specs.State.{is_room};
 ghost use Rattle.mud_rules.specs.Matching.{room_match};
 ghost use Rattle.mud_rules.specs.Party.{all_distinct, is_party};
-ghost use Rattle.mud_rules.specs.Outcome.{found as found_one, of_kind, IsJourney};
+ghost use Rattle.mud_rules.specs.Outcome.{found as found_one, of_kind};
 ghost use Rattle.mud_rules.specs.Journeys.{player_meant, meeting, least_refusal};
 ghost use Rattle.mud_rules.specs.Inner.{route, members, meet};
 ghost use Rattle.mud_rules.specs.Steps.{unfit};
@@ -19,9 +19,8 @@ use std::alloc::{AllocError, Global};
 
 // The room that a text means.
 fn room_meant(world: &World, player: u32, text: &str) -> Result<u32, Refusal>
-    ensures decision { result
+    ensures { result
         ≡ of_kind (is_room world.now) (found_one Refusal.NoSuch (room_match world.now player text.now)) }
-    ensures room { IfOk result (λ room. IsTrue (is_room world.now room)) }
 {
     match found(room_match(world, player, text)) {
         Ok(room) if !world.is_room(room) => Err(Refusal::WrongKind),
@@ -30,8 +29,7 @@ fn room_meant(world: &World, player: u32, text: &str) -> Result<u32, Refusal>
 }
 
 pub(crate) fn route(world: &World, player: u32, text: &str) -> Result<Journey, Refusal>
-    ensures decision { result ≡ route world.now player text.now }
-    ensures lawful { IfOk result (IsJourney world.now) }
+    ensures { result ≡ route world.now player text.now }
 {
     let to = room_meant(world, player, text)?;
     Ok(Journey::Route { to })
@@ -136,8 +134,7 @@ pub(crate) fn meet(
     player: u32,
     text: &str,
 ) -> Result<Result<Journey, Refusal>, AllocError>
-    ensures decision { IfOk result (λ journey. journey ≡ meet world.now player text.now) }
-    ensures lawful { IfOk result (λ journey. IfOk journey (IsJourney world.now)) }
+    ensures { IfOk result (λ journey. journey ≡ meet world.now player text.now) }
 {
     let found = players_meant(alloc, world, player, text)?;
     meeting(alloc, &found)

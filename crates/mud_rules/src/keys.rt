@@ -2,7 +2,6 @@
 
 ghost use Rattle.std.specs.Prelude.{◌≡◌, ◌≤◌, Some, Result, IfOk, if◌then◌else◌};
 ghost use Rattle.mud_world.specs.State.{exists};
-ghost use Rattle.mud_rules.specs.Outcome.{IsLawful};
 ghost use Rattle.mud_rules.specs.Commands.{key_meant};
 ghost use Rattle.mud_rules.specs.Inner.{lock, near_named};
 
@@ -73,8 +72,7 @@ pub(crate) fn lock(
     object: u32,
     text: &str,
 ) -> Result<Verdict, AllocError>
-    ensures decision { IfOk result (λ v. v ≡ lock world.now player object text.now) }
-    ensures lawful { IfOk result (IsLawful world.now (Some player)) }
+    ensures { IfOk result (λ v. v ≡ lock world.now player object text.now) }
 {
     match key_meant(alloc, world, player, text)? {
         Some(key) => Ok(does(world, player, None, Deed::Lock { object, key })),

@@ -3,7 +3,7 @@
 ghost use Rattle.std.specs.Prelude.{◌≡◌, Some, None};
 ghost use Rattle.mud_world.specs.Conditions.{shares_room};
 ghost use Rattle.mud_world.specs.declared.change.Deed.TheVariants as deed;
-ghost use Rattle.mud_rules.specs.Outcome.{found as found_one, on_found, does, IsLawful};
+ghost use Rattle.mud_rules.specs.Outcome.{found as found_one, on_found, does};
 ghost use Rattle.mud_rules.specs.Commands.{give};
 ghost use Rattle.mud_rules.specs.Inner.{drop_down, put};
 
@@ -23,8 +23,7 @@ pub(crate) fn together(world: &World, one: u32, other: u32) -> bool
 }
 
 pub(crate) fn drop_down(world: &World, player: u32, thing: u32) -> Verdict
-    ensures decision { result ≡ drop_down world.now player thing }
-    ensures lawful { IsLawful world.now (Some player) result }
+    ensures { result ≡ drop_down world.now player thing }
 {
     let own = refused_if(!world.holds(player, thing), Refusal::NotHere);
     let to = world.place(player).unwrap_or(0);
@@ -32,8 +31,7 @@ pub(crate) fn drop_down(world: &World, player: u32, thing: u32) -> Verdict
 }
 
 pub(crate) fn put(world: &World, player: u32, objects: (u32, u32)) -> Verdict
-    ensures decision { result ≡ put world.now player objects }
-    ensures lawful { IsLawful world.now (Some player) result }
+    ensures { result ≡ put world.now player objects }
 {
     let (thing, to) = objects;
     let own = kind_then_here(!world.is_thing(to), !world.in_reach(player, to));
@@ -41,8 +39,7 @@ pub(crate) fn put(world: &World, player: u32, objects: (u32, u32)) -> Verdict
 }
 
 pub(crate) fn give(world: &World, player: u32, objects: (u32, u32)) -> Verdict
-    ensures decision { result ≡ give world.now player objects }
-    ensures lawful { IsLawful world.now (Some player) result }
+    ensures { result ≡ give world.now player objects }
 {
     let (thing, to) = objects;
     let away = !world.holds(player, thing) || !together(world, player, to);
@@ -52,9 +49,8 @@ pub(crate) fn give(world: &World, player: u32, objects: (u32, u32)) -> Verdict
 
 // A walk by the exit that was found, where the line is no command.
 pub(crate) fn walk(world: &World, player: u32, found: Result<u32, Match>) -> Verdict
-    ensures decision { result
+    ensures { result
         ≡ on_found (found_one Refusal.NotUnderstood found) (λ x. does world.now player None (deed.Walk x)) }
-    ensures lawful { IsLawful world.now (Some player) result }
 {
     match found {
         Ok(exit) => does(world, player, None, Deed::Walk { exit }),

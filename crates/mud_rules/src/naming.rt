@@ -1,8 +1,7 @@
 //! Names in lines: making, renaming, connecting.
 
-ghost use Rattle.std.specs.Prelude.{◌≡◌, ℕ, Option, Some, IfOk};
+ghost use Rattle.std.specs.Prelude.{◌≡◌, Option, Some, IfOk};
 ghost use Rattle.mud_key.specs.Reading.{names_in, name_in};
-ghost use Rattle.mud_rules.specs.Outcome.{IsLawful};
 ghost use Rattle.mud_rules.specs.Inner.{create, rename, connecting, connect};
 
 use crate::Verdict;
@@ -40,8 +39,7 @@ pub(crate) fn create(
     player: u32,
     text: &str,
 ) -> Result<Verdict, AllocError>
-    ensures decision { IfOk result (λ v. v ≡ create world.now player text.now) }
-    ensures lawful { IfOk result (IsLawful world.now (Some player)) }
+    ensures { IfOk result (λ v. v ≡ create world.now player text.now) }
 {
     match names_in(alloc, text)? {
         Some(names) => Ok(does(world, player, None, Deed::Make(names))),
@@ -57,8 +55,7 @@ pub(crate) fn rename(
     object: u32,
     text: &str,
 ) -> Result<Verdict, AllocError>
-    ensures decision { IfOk result (λ v. v ≡ rename world.now player object text.now) }
-    ensures lawful { IfOk result (IsLawful world.now (Some player)) }
+    ensures { IfOk result (λ v. v ≡ rename world.now player object text.now) }
 {
     match names_in(alloc, text)? {
         Some(names) => Ok(does(world, player, None, Deed::Rename { object, names })),
@@ -70,8 +67,7 @@ pub(crate) fn rename(
 }
 
 fn connect_named(world: &World, name: Name) -> Verdict
-    ensures decision { result ≡ connecting world.now name }
-    ensures lawful { (player : Option ℕ) → IsLawful world.now player result }
+    ensures { result ≡ connecting world.now name }
 {
     match world.player_named(name.as_str()) {
         Some(player) => Verdict::Become(player),
@@ -87,8 +83,7 @@ fn connect_named(world: &World, name: Name) -> Verdict
 }
 
 pub(crate) fn connect(alloc: Global, world: &World, text: &str) -> Result<Verdict, AllocError>
-    ensures decision { IfOk result (λ v. v ≡ connect world.now text.now) }
-    ensures lawful { (player : Option ℕ) → IfOk result (IsLawful world.now player) }
+    ensures { IfOk result (λ v. v ≡ connect world.now text.now) }
 {
     match name_in(alloc, text)? {
         Some(name) => Ok(connect_named(world, name)),

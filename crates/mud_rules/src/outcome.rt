@@ -1,11 +1,9 @@
 //! How the refusals of a line come together.
 
-ghost use Rattle.std.specs.Prelude.{◌≡◌, ℕ, nat_lt, false, Option, Some, IfOk, unwrap_or, if◌then◌else◌};
-ghost use Rattle.mud_world.specs.State.{State};
-ghost use Rattle.mud_world.specs.Legal.{refusal, is_arrival};
+ghost use Rattle.std.specs.Prelude.{◌≡◌, nat_lt, Option, Some, unwrap_or, if◌then◌else◌};
+ghost use Rattle.mud_world.specs.Legal.{refusal};
 ghost use Rattle.mud_world.specs.Refusals.{number, refused_if};
 ghost use Rattle.mud_rules.specs.Outcome.{outcome, does, found, on_found, both, shaped};
-ghost use Rattle.mud_rules.specs.Outcome.{IsActor, IsLawful, IsQuestion, IsJourney};
 ghost use Rattle.mud_rules.specs.Steps.{no_player, no_room, not_his};
 ghost use Rattle.mud_rules.specs.Commands.{kind_then_here};
 
@@ -24,9 +22,7 @@ fn refusal(world: &World, change: &Change) -> Option<Refusal>
 
 // The change, or the least refusal: the command's own, or that of the change.
 pub(crate) fn outcome(world: &World, own: Option<Refusal>, change: Change) -> Verdict
-    ensures decision { result ≡ outcome world.now own change }
-    ensures lawful { (player : Option ℕ) → IsActor world.now player change
-        → IsLawful world.now player result }
+    ensures { result ≡ outcome world.now own change }
 {
     match lesser(own, refusal(world, &change)) {
         Some(refusal) => Verdict::Refused(refusal),
@@ -36,9 +32,7 @@ pub(crate) fn outcome(world: &World, own: Option<Refusal>, change: Change) -> Ve
 
 // The same for what a player does.
 pub(crate) fn does(world: &World, player: u32, own: Option<Refusal>, deed: Deed) -> Verdict
-    requires { is_arrival deed ≡ false }
-    ensures decision { result ≡ does world.now player own deed }
-    ensures lawful { IsLawful world.now (Some player) result }
+    ensures { result ≡ does world.now player own deed }
 {
     outcome(
         world,
@@ -97,8 +91,7 @@ pub(crate) fn both(
 
 // A question of the right shape.
 pub(crate) fn shaped(fits: bool, query: Query) -> Verdict
-    ensures decision { result ≡ shaped fits (Verdict.Ask query) }
-    ensures lawful { (w : State) (player : Option ℕ) → IsQuestion w query → IsLawful w player result }
+    ensures { result ≡ shaped fits (Verdict.Ask query) }
 {
     if fits {
         Verdict::Ask(query)
@@ -109,9 +102,7 @@ pub(crate) fn shaped(fits: bool, query: Query) -> Verdict
 
 // A journey that is asked for, or its refusal.
 pub(crate) fn asked_journey(found: Result<Journey, Refusal>) -> Verdict
-    ensures decision { result ≡ on_found found (λ journey. Verdict.Ask (Query.Journey journey)) }
-    ensures lawful { (w : State) (player : Option ℕ) → IfOk found (IsJourney w)
-        → IsLawful w player result }
+    ensures { result ≡ on_found found (λ journey. Verdict.Ask (Query.Journey journey)) }
 {
     match found {
         Ok(journey) => Verdict::Ask(Query::Journey(journey)),
@@ -121,9 +112,7 @@ pub(crate) fn asked_journey(found: Result<Journey, Refusal>) -> Verdict
 
 // A journey whose proof is asked for, or its refusal.
 pub(crate) fn asked_proof(found: Result<Journey, Refusal>) -> Verdict
-    ensures decision { result ≡ on_found found (λ journey. Verdict.Ask (Query.Proof journey)) }
-    ensures lawful { (w : State) (player : Option ℕ) → IfOk found (IsJourney w)
-        → IsLawful w player result }
+    ensures { result ≡ on_found found (λ journey. Verdict.Ask (Query.Proof journey)) }
 {
     match found {
         Ok(journey) => Verdict::Ask(Query::Proof(journey)),

@@ -1,9 +1,9 @@
 //! The rows of the table.
 
-ghost use Rattle.std.specs.Prelude.{◌≡◌, ℕ, Option, Some, IfOk};
+ghost use Rattle.std.specs.Prelude.{◌≡◌, Some, IfOk};
 ghost use Rattle.mud_words.specs.Line.{line_of};
 ghost use Rattle.mud_words.specs.Parse.{parsed as parsed_line};
-ghost use Rattle.mud_rules.specs.Outcome.{IsLawful, IsJourney, on_found};
+ghost use Rattle.mud_rules.specs.Outcome.{on_found};
 ghost use Rattle.mud_rules.specs.Inner.{dig_room};
 ghost use Rattle.mud_rules.specs.Shapes.{text_behind};
 ghost use Rattle.mud_rules.specs.Table.{command, connect_line, journey_of, verb_named};
@@ -30,8 +30,7 @@ pub(crate) fn connect_line(
     world: &World,
     parsed: &Parsed,
 ) -> Result<Verdict, AllocError>
-    ensures decision { IfOk result (λ v. v ≡ connect_line world.now (line_of parsed.now)) }
-    ensures lawful { (player : Option ℕ) → IfOk result (IsLawful world.now player) }
+    ensures { IfOk result (λ v. v ≡ connect_line world.now (line_of parsed.now)) }
 {
     let name = first_of(parsed);
     if name.is_empty() {
@@ -47,9 +46,8 @@ pub(crate) fn look_line(
     player: u32,
     parsed: &Parsed,
 ) -> Result<Verdict, AllocError>
-    ensures decision { IfOk result (λ v. v
+    ensures { IfOk result (λ v. v
         ≡ command world.now player (line_of parsed.now) Verb.Look) }
-    ensures lawful { IfOk result (IsLawful world.now (Some player)) }
 {
     if parsed.args.is_empty() {
         return Ok(Verdict::Ask(Query::View(View::Look)));
@@ -65,9 +63,8 @@ fn dig_room_line(
     player: u32,
     parsed: &Parsed,
 ) -> Result<Verdict, AllocError>
-    ensures decision { IfOk result (λ v. v
+    ensures { IfOk result (λ v. v
         ≡ on_found (text_behind (line_of parsed.now)) (dig_room world.now player)) }
-    ensures lawful { IfOk result (IsLawful world.now (Some player)) }
 {
     on_found!(text_behind(alloc, parsed)?, text => dig_room(alloc, world, player, &text))
 }
@@ -78,9 +75,8 @@ pub(crate) fn dig_line(
     player: u32,
     parsed: &Parsed,
 ) -> Result<Verdict, AllocError>
-    ensures decision { IfOk result (λ v. v
+    ensures { IfOk result (λ v. v
         ≡ command world.now player (line_of parsed.now) Verb.Dig) }
-    ensures lawful { IfOk result (IsLawful world.now (Some player)) }
 {
     if parsed.prep.is_none() {
         dig_room_line(alloc, world, player, parsed)
@@ -97,9 +93,8 @@ pub(crate) fn create_line(
     player: u32,
     parsed: &Parsed,
 ) -> Result<Verdict, AllocError>
-    ensures decision { IfOk result (λ v. v
+    ensures { IfOk result (λ v. v
         ≡ command world.now player (line_of parsed.now) Verb.Create) }
-    ensures lawful { IfOk result (IsLawful world.now (Some player)) }
 {
     on_found!(text_behind(alloc, parsed)?, text => create(alloc, world, player, &text))
 }
@@ -112,8 +107,7 @@ pub(crate) fn pair_line(
     parsed: &Parsed,
     verb: Verb,
 ) -> Result<Verdict, AllocError>
-    ensures decision { IfOk result (λ v. v ≡ pair_line world.now player (line_of parsed.now) verb) }
-    ensures lawful { IfOk result (IsLawful world.now (Some player)) }
+    ensures { IfOk result (λ v. v ≡ pair_line world.now player (line_of parsed.now) verb) }
 {
     let text = parsed.indirect.as_str();
     match verb {
@@ -139,16 +133,14 @@ pub(crate) fn object_line(
     parsed: &Parsed,
     verb: Verb,
 ) -> Result<Verdict, AllocError>
-    ensures decision { IfOk result (λ v. v ≡ object_line world.now player (line_of parsed.now) verb) }
-    ensures lawful { IfOk result (IsLawful world.now (Some player)) }
+    ensures { IfOk result (λ v. v ≡ object_line world.now player (line_of parsed.now) verb) }
 {
     on_found!(object_behind(alloc, world, player, parsed)?, x => Ok(of_object(world, player, verb, x)))
 }
 
 // What is done with the object behind a verb.
 fn of_object(world: &World, player: u32, verb: Verb, object: u32) -> Verdict
-    ensures decision { result ≡ of_object world.now player verb object }
-    ensures lawful { IsLawful world.now (Some player) result }
+    ensures { result ≡ of_object world.now player verb object }
 {
     match verb {
         Verb::Key => Verdict::Ask(Query::View(View::KeyOf(object))),
@@ -170,8 +162,7 @@ fn of_object(world: &World, player: u32, verb: Verb, object: u32) -> Verdict
 }
 
 pub(crate) fn route_line(world: &World, player: u32, parsed: &Parsed) -> Result<Journey, Refusal>
-    ensures decision { result ≡ journey_of world.now player (line_of parsed.now) (Some Verb.Route) }
-    ensures lawful { IfOk result (IsJourney world.now) }
+    ensures { result ≡ journey_of world.now player (line_of parsed.now) (Some Verb.Route) }
 {
     if is_aimed(To, parsed) {
         route(world, player, &parsed.indirect)
@@ -186,9 +177,8 @@ pub(crate) fn meet_line(
     player: u32,
     parsed: &Parsed,
 ) -> Result<Result<Journey, Refusal>, AllocError>
-    ensures decision { IfOk result (λ journey. journey
+    ensures { IfOk result (λ journey. journey
         ≡ journey_of world.now player (line_of parsed.now) (Some Verb.Meet)) }
-    ensures lawful { IfOk result (λ journey. IfOk journey (IsJourney world.now)) }
 {
     let text = all_of(alloc, parsed)?;
     if text.is_empty() {
@@ -205,9 +195,8 @@ fn journey_line(
     player: u32,
     parsed: &Parsed,
 ) -> Result<Result<Journey, Refusal>, AllocError>
-    ensures decision { IfOk result (λ journey. journey
+    ensures { IfOk result (λ journey. journey
         ≡ journey_of world.now player (line_of parsed.now) (verb_named (line_of parsed.now).verb)) }
-    ensures lawful { IfOk result (λ journey. IfOk journey (IsJourney world.now)) }
 {
     match Verb::named(&parsed.verb) {
         Some(Verb::Route) => Ok(route_line(world, player, parsed)),
@@ -223,10 +212,9 @@ pub(crate) fn proof_line(
     player: u32,
     parsed: &Parsed,
 ) -> Result<Result<Journey, Refusal>, AllocError>
-    ensures decision { IfOk result (λ journey. journey
+    ensures { IfOk result (λ journey. journey
         ≡ journey_of world.now player (parsed_line (line_of parsed.now).rest)
         (verb_named (parsed_line (line_of parsed.now).rest).verb)) }
-    ensures lawful { IfOk result (λ journey. IfOk journey (IsJourney world.now)) }
 {
     let line = parse(alloc, &parsed.rest)?;
     journey_line(alloc, world, player, &line)

@@ -1,7 +1,7 @@
 //! Talking.
 
 ghost use Rattle.std.specs.Prelude.{◌≡◌, Some, None, IfOk};
-ghost use Rattle.mud_rules.specs.Outcome.{IsLawful, does};
+ghost use Rattle.mud_rules.specs.Outcome.{does};
 
 use crate::Verdict;
 use crate::outcome::{does, no_player, unread};
@@ -15,8 +15,7 @@ pub(crate) fn say(
     player: u32,
     text: &str,
 ) -> Result<Verdict, AllocError>
-    ensures decision { IfOk result (λ v. v ≡ does world.now player None (Deed.Say text.now)) }
-    ensures lawful { IfOk result (IsLawful world.now (Some player)) }
+    ensures { IfOk result (λ v. v ≡ does world.now player None (Deed.Say text.now)) }
 {
     match Speech::read(alloc, text)? {
         Some(speech) => Ok(does(world, player, None, Deed::Say(speech))),
@@ -31,8 +30,7 @@ pub(crate) fn emote(
     player: u32,
     text: &str,
 ) -> Result<Verdict, AllocError>
-    ensures decision { IfOk result (λ v. v ≡ does world.now player None (Deed.Emote text.now)) }
-    ensures lawful { IfOk result (IsLawful world.now (Some player)) }
+    ensures { IfOk result (λ v. v ≡ does world.now player None (Deed.Emote text.now)) }
 {
     match Speech::read(alloc, text)? {
         Some(speech) => Ok(does(world, player, None, Deed::Emote(speech))),

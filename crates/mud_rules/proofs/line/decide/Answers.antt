@@ -1,4 +1,14 @@
+use Rattle.std.proofs.Common.{sym, subst}
+use Rattle.std.proofs.lemmas.Result.{IfOk-weaker}
+use Rattle.mud_words.specs.Line.{line_of}
+use Rattle.mud_rules.specs.Outcome.{IsLawful}
+use Rattle.mud_rules.proofs.Decided.{are_lawful}
 use Rattle.mud_rules.proofs.line.decide.Goals as goal
 
-pub returns-in-None-default-clause-lawful : goal.returns-in-None-default-clause-lawful
-returns-in-None-default-clause-lawful c = c.guest.ensures.lawful c.args.player
+pub returns-clause-lawful : goal.returns-clause-lawful
+returns-clause-lawful c =
+    let w = c.args.world.now in
+    IfOk-weaker c.decision.result _ (IsLawful w c.args.player)
+    (λ v is. subst (IsLawful w c.args.player) (sym is)
+    (are_lawful w c.next_number-next.ensures.sound c.args.player (line_of c.args.parsed.now)))
+    c.decision.ensures

@@ -5,14 +5,14 @@ use Rattle.mud_rules.specs.declared.verdict.Verdict.TheVariants.{Change as Chang
 use Rattle.mud_rules.proofs.Ordered.{outcome_is}
 use Rattle.mud_rules.proofs.outcome.outcome.Goals as goal
 
-pub returns-in-Some-clause-decision : goal.returns-in-Some-clause-decision
-returns-in-Some-clause-decision c =
+pub returns-in-Some : goal.returns-in-Some
+returns-in-Some c =
     ap (λ r. option_map_or Refused r (Changes c.args.change))
     (sym c.in-Some.is ∙ c.lesser.ensures ∙ ap (lesser c.args.own) c.refusal.ensures)
     ∙ outcome_is c.args.world.now c.args.own c.args.change
 
-pub returns-in-None-clause-decision : goal.returns-in-None-clause-decision
-returns-in-None-clause-decision c =
+pub returns-in-None : goal.returns-in-None
+returns-in-None c =
     ap (λ r. option_map_or Refused r (Changes c.args.change))
     (sym c.in-None.is ∙ c.lesser.ensures ∙ ap (lesser c.args.own) c.refusal.ensures)
     ∙ outcome_is c.args.world.now c.args.own c.args.change

@@ -12,4 +12,4 @@ pub mod Parts
 pub mod Sides
 pub mod Decided
 pub mod Guests
-pub mod Asking
+pub mod Questions

@@ -5,13 +5,10 @@ use Rattle.std.specs.Borrow.{Bor}
 use Rattle.std.specs.Option.{option_map_or}
 use Rattle.std.specs.List.{list_any}
 use Rattle.std.specs.Str.{str_eq_ignore_ascii_case}
-use Rattle.mud_words.specs.declared.Prep.TheVariants.{With, To, In, Is}
-use Rattle.mud_words.specs.Line.{Line}
-use Rattle.mud_world.specs.declared.change.Deed.TheVariants.{Move, Walk, Unlock, Recycle}
 use Rattle.mud_world.specs.declared.change.Target.{Target}
 use Rattle.mud_world.specs.declared.change.Target.TheVariants.{New, Old}
 use Rattle.mud_world.specs.declared.refusal.Refusal.{Refusal}
-use Rattle.mud_world.specs.declared.refusal.Refusal.TheVariants.{NotUnderstood, NoSuch as NoObject, WrongKind, Denied}
+use Rattle.mud_world.specs.declared.refusal.Refusal.TheVariants.{NoSuch as NoObject, WrongKind, Denied}
 use Rattle.mud_world.specs.declared.refusal.Refusal.TheVariants.{PartyBad}
 use Rattle.mud_world.specs.Refusals.{refused_if}
 use Rattle.mud_world.specs.State.{State, has, exists, is_room, is_player, place_of}
@@ -23,17 +20,8 @@ use Rattle.mud_rules.specs.declared.matching.Match.TheVariants.{Nothing, NoSuch,
 use Rattle.mud_rules.specs.declared.matching.Sort.{Sort}
 use Rattle.mud_rules.specs.declared.matching.Sort.TheVariants.{Rooms, Players}
 use Rattle.mud_rules.specs.declared.verb.Verb.{Verb}
-use Rattle.mud_rules.specs.declared.verb.Verb.TheVariants as verb
-use Rattle.mud_rules.specs.declared.verdict.View.TheVariants.{KeyOf}
-use Rattle.mud_rules.specs.declared.verdict.Query.TheVariants as query
-use Rattle.mud_rules.specs.declared.verdict.Verdict.{Verdict}
-use Rattle.mud_rules.specs.declared.verdict.Verdict.TheVariants.{Ask, Refused}
 use Rattle.mud_rules.specs.Matching.{is_empty, is_like, sole, object_number}
 use Rattle.mud_rules.specs.Party.{is_party}
-use Rattle.mud_rules.specs.Outcome.{does, on_found}
-use Rattle.mud_rules.specs.Commands.{give}
-use Rattle.mud_rules.specs.Inner.{lock, cost, rename, drop_down, put}
-use Rattle.mud_rules.specs.Shapes.{all_of, object_named, object_before, objects_round}
 
 -- ---- matching
 
@@ -102,28 +90,3 @@ unfit party = refused_if (not (is_party party)) PartyBad
 -- a row of the code's table of verbs
 abbrev pub row_of : Bor (List ℕ) × Verb → List ℕ × Verb
 row_of row = (row.0.now, row.1)
-
--- ---- the table
-
--- what is done with the object behind a verb
-abbrev pub of_object : State → ℕ → Verb → ℕ → Verdict
-of_object w p verb.Key x = Ask (query.View (KeyOf x))
-of_object w p verb.Go x = does w p None (Walk x)
-of_object w p verb.Take x = does w p None (Move x p)
-of_object w p verb.Drop x = drop_down w p x
-of_object w p verb.Unlock x = does w p None (Unlock x)
-of_object w p verb.Recycle x = does w p None (Recycle x)
-of_object w p other x = Refused NotUnderstood
-
--- a verb with an object behind it
-abbrev pub object_line : State → ℕ → Line → Verb → Verdict
-object_line w p l v = on_found (object_named w p (all_of l)) (of_object w p v)
-
--- a verb with two objects, or an object and a text, round a preposition; any other verb has an object behind it
-abbrev pub pair_line : State → ℕ → Line → Verb → Verdict
-pair_line w p l verb.Put = on_found (objects_round In w p l) (put w p)
-pair_line w p l verb.Give = on_found (objects_round To w p l) (give w p)
-pair_line w p l verb.Lock = on_found (object_before With w p l) (λ x. lock w p x l.indirect)
-pair_line w p l verb.Cost = on_found (object_before Is w p l) (λ x. cost w p x l.indirect)
-pair_line w p l verb.Rename = on_found (object_before To w p l) (λ x. rename w p x l.indirect)
-pair_line w p l other = object_line w p l other

@@ -5,85 +5,70 @@ ghost use Rattle.std.specs.Result.{result_map_both};
 ghost use Rattle.mud_words.specs.Line.{line_of};
 ghost use Rattle.mud_rules.specs.Shapes.{all_of, text_behind, object_named, object_before, objects_round};
 
+use crate::actor::Actor;
 use crate::matching::local_match;
 use crate::outcome::{both, found};
 use crate::shapes::{all_of, is_pair};
 use mud_words::{Parsed, Prep};
-use mud_world::{Refusal, World};
-use std::alloc::{AllocError, Global};
+use mud_world::Refusal;
+use std::alloc::AllocError;
 
-// The text behind the verb.
-pub(crate) fn text_behind(
-    alloc: Global,
-    parsed: &Parsed,
-) -> Result<Result<String, Refusal>, AllocError>
-    ensures { IfOk result (λ text. result_map_both string_bytes (λ f. f) text
-        ≡ text_behind (line_of parsed.now)) }
-{
-    let text = all_of(alloc, parsed)?;
-    if text.is_empty() {
-        Ok(Err(Refusal::NotUnderstood))
-    } else {
-        Ok(Ok(text))
+impl Actor<'_> {
+    // The text behind the verb.
+    pub(crate) fn text_behind(&self, parsed: &Parsed) -> Result<Result<String, Refusal>, AllocError>
+        ensures { IfOk result (λ text. result_map_both string_bytes (λ f. f) text
+            ≡ text_behind (line_of parsed.now)) }
+    {
+        let text = all_of(self.alloc, parsed)?;
+        if text.is_empty() {
+            Ok(Err(Refusal::NotUnderstood))
+        } else {
+            Ok(Ok(text))
+        }
     }
-}
 
-// The object that a text means.
-pub(crate) fn object_named(world: &World, player: u32, text: &str) -> Result<u32, Refusal>
-    ensures { result ≡ object_named world.now player text.now }
-{
-    if text.is_empty() {
-        Err(Refusal::NotUnderstood)
-    } else {
-        found(local_match(world, player, text))
+    // The object that a text means.
+    pub(crate) fn object_named(&self, text: &str) -> Result<u32, Refusal>
+        ensures { result ≡ object_named self.now.world.now self.now.player text.now }
+    {
+        if text.is_empty() {
+            Err(Refusal::NotUnderstood)
+        } else {
+            found(local_match(self.world, self.player, text))
+        }
     }
-}
 
-// The object that the text behind the verb means.
-pub(crate) fn object_behind(
-    alloc: Global,
-    world: &World,
-    player: u32,
-    parsed: &Parsed,
-) -> Result<Result<u32, Refusal>, AllocError>
-    ensures { IfOk result (λ object. object
-        ≡ object_named world.now player (all_of (line_of parsed.now))) }
-{
-    let text = all_of(alloc, parsed)?;
-    Ok(object_named(world, player, &text))
-}
-
-// The object before a preposition, of two texts with it between them.
-pub(crate) fn object_before(
-    prep: Prep,
-    world: &World,
-    player: u32,
-    parsed: &Parsed,
-) -> Result<u32, Refusal>
-    ensures { result ≡ object_before prep world.now player (line_of parsed.now) }
-{
-    if is_pair(prep, parsed) {
-        found(local_match(world, player, &parsed.direct))
-    } else {
-        Err(Refusal::NotUnderstood)
+    // The object that the text behind the verb means.
+    pub(crate) fn object_behind(&self, parsed: &Parsed) -> Result<Result<u32, Refusal>, AllocError>
+        ensures { IfOk result (λ object. object
+            ≡ object_named self.now.world.now self.now.player (all_of (line_of parsed.now))) }
+    {
+        let text = all_of(self.alloc, parsed)?;
+        Ok(self.object_named(&text))
     }
-}
 
-// The objects round a preposition.
-pub(crate) fn objects_round(
-    prep: Prep,
-    world: &World,
-    player: u32,
-    parsed: &Parsed,
-) -> Result<(u32, u32), Refusal>
-    ensures { result ≡ objects_round prep world.now player (line_of parsed.now) }
-{
-    if is_pair(prep, parsed) {
-        both(
-            found(local_match(world, player, &parsed.direct)),
-            found(local_match(world, player, &parsed.indirect)),
-        )
-    } else {
-        Err(Refusal::NotUnderstood)
+    // The object before a preposition, of two texts with it between them.
+    pub(crate) fn object_before(&self, prep: Prep, parsed: &Parsed) -> Result<u32, Refusal>
+        ensures { result ≡ object_before prep self.now.world.now self.now.player (line_of parsed.now) }
+    {
+        if is_pair(prep, parsed) {
+            found(local_match(self.world, self.player, &parsed.direct))
+        } else {
+            Err(Refusal::NotUnderstood)
+        }
+    }
+
+    // The objects round a preposition.
+    pub(crate) fn objects_round(&self, prep: Prep, parsed: &Parsed) -> Result<(u32, u32), Refusal>
+        ensures { result ≡ objects_round prep self.now.world.now self.now.player (line_of parsed.now) }
+    {
+        if is_pair(prep, parsed) {
+            both(
+                found(local_match(self.world, self.player, &parsed.direct)),
+                found(local_match(self.world, self.player, &parsed.indirect)),
+            )
+        } else {
+            Err(Refusal::NotUnderstood)
+        }
     }
 }

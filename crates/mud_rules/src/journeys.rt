@@ -10,57 +10,64 @@ ghost use Rattle.mud_rules.specs.Journeys.{player_meant, meeting, least_refusal}
 ghost use Rattle.mud_rules.specs.Inner.{route, members, meet};
 ghost use Rattle.mud_rules.specs.Steps.{unfit};
 
+use crate::actor::Actor;
 use crate::matching::{player_match, room_match};
 use crate::outcome::found;
 use crate::{Journey, Party};
 use mud_key::parts;
-use mud_world::{Refusal, World, lesser, refused_if};
+use mud_world::{Refusal, lesser, refused_if};
 use std::alloc::{AllocError, Global};
 
-// The room that a text means.
-fn room_meant(world: &World, player: u32, text: &str) -> Result<u32, Refusal>
-    ensures { result
-        ≡ of_kind (is_room world.now) (found_one Refusal.NoSuch (room_match world.now player text.now)) }
-{
-    match found(room_match(world, player, text)) {
-        Ok(room) if !world.is_room(room) => Err(Refusal::WrongKind),
-        other => other,
+impl Actor<'_> {
+    // The room that a text means.
+    fn room_meant(&self, text: &str) -> Result<u32, Refusal>
+        ensures { result ≡ of_kind (is_room self.now.world.now)
+            (found_one Refusal.NoSuch (room_match self.now.world.now self.now.player text.now)) }
+    {
+        match found(room_match(self.world, self.player, text)) {
+            Ok(room) if !self.world.is_room(room) => Err(Refusal::WrongKind),
+            other => other,
+        }
     }
-}
 
-pub(crate) fn route(world: &World, player: u32, text: &str) -> Result<Journey, Refusal>
-    ensures { result ≡ route world.now player text.now }
-{
-    let to = room_meant(world, player, text)?;
-    Ok(Journey::Route { to })
-}
-
-// The player that a text means.
-fn player_meant(world: &World, player: u32, text: &str) -> Result<u32, Refusal>
-    ensures { result ≡ player_meant world.now player text.now }
-{
-    match found(player_match(world, player, text)) {
-        Ok(member) if !world.is_player(member) => Err(Refusal::WrongKind),
-        other => other,
+    // The way to the room that a text means.
+    pub(crate) fn route_to(&self, text: &str) -> Result<Journey, Refusal>
+        ensures { result ≡ route self.now.world.now self.now.player text.now }
+    {
+        let to = self.room_meant(text)?;
+        Ok(Journey::Route { to })
     }
-}
 
-// The players that the parts of a text mean.
-fn players_meant(
-    alloc: Global,
-    world: &World,
-    player: u32,
-    text: &str,
-) -> Result<Vec<Result<u32, Refusal>>, AllocError>
-    ensures { IfOk result (λ found. found.items
-        ≡ map (player_meant world.now player) (parts_of text.now)) }
-{
-    let parts = parts(alloc, text)?;
-    let mut found = Vec::new(alloc);
-    for part in &parts {
-        found.push(player_meant(world, player, part))?;
+    // The player that a text means.
+    fn player_meant(&self, text: &str) -> Result<u32, Refusal>
+        ensures { result ≡ player_meant self.now.world.now self.now.player text.now }
+    {
+        match found(player_match(self.world, self.player, text)) {
+            Ok(member) if !self.world.is_player(member) => Err(Refusal::WrongKind),
+            other => other,
+        }
     }
-    Ok(found)
+
+    // The players that the parts of a text mean.
+    fn players_meant(&self, text: &str) -> Result<Vec<Result<u32, Refusal>>, AllocError>
+        ensures { IfOk result (λ found. found.items
+            ≡ map (player_meant self.now.world.now self.now.player) (parts_of text.now)) }
+    {
+        let parts = parts(self.alloc, text)?;
+        let mut found = Vec::new(self.alloc);
+        for part in &parts {
+            found.push(self.player_meant(part))?;
+        }
+        Ok(found)
+    }
+
+    // The meeting of those whom the parts of a text mean.
+    pub(crate) fn meeting_of(&self, text: &str) -> Result<Result<Journey, Refusal>, AllocError>
+        ensures { IfOk result (λ journey. journey ≡ meet self.now.world.now self.now.player text.now) }
+    {
+        let found = self.players_meant(text)?;
+        meeting(self.alloc, &found)
+    }
 }
 
 // Those who were found.
@@ -126,16 +133,4 @@ fn meeting(
         Some(refusal) => Ok(Err(refusal)),
         None => Ok(Ok(Journey::Meet(Party::of(party)))),
     }
-}
-
-pub(crate) fn meet(
-    alloc: Global,
-    world: &World,
-    player: u32,
-    text: &str,
-) -> Result<Result<Journey, Refusal>, AllocError>
-    ensures { IfOk result (λ journey. journey ≡ meet world.now player text.now) }
-{
-    let found = players_meant(alloc, world, player, text)?;
-    meeting(alloc, &found)
 }

@@ -36,24 +36,26 @@
 //! texts are such.
 #![tactic(auto)]
 
+mod actor;
 mod answers;
+mod asking;
 mod building;
 mod comparing;
+mod connecting;
 mod digging;
 mod given;
 mod hearing;
 mod journeys;
-mod keys;
 pub mod laws;
 mod line;
 mod listing;
+mod locking;
 mod matching;
 mod moving;
 mod naming;
 mod outcome;
 mod party;
 mod replies;
-mod rows;
 mod shapes;
 mod talking;
 mod verb;

@@ -5,16 +5,12 @@ ghost use Rattle.mud_words.specs.Line.{line_of};
 ghost use Rattle.mud_rules.specs.Outcome.{IsLawful};
 ghost use Rattle.mud_rules.specs.Table.{command, other_line, guest, decision, is_question, is_quit};
 
+use crate::actor::Actor;
 use crate::comparing::is_word;
+use crate::connecting::connect;
 use crate::matching::{Likeness, Match, sole_fit};
-use crate::moving::walk;
-use crate::outcome::{asked_journey, asked_proof, shaped};
-use crate::rows::{
-    connect_line, create_line, dig_line, look_line, meet_line, object_line, pair_line, proof_line,
-    route_line,
-};
+use crate::outcome::shaped;
 use crate::shapes::whole_of;
-use crate::talking::{emote, say};
 use crate::verb::Verb;
 use crate::{Query, Verdict, View};
 use mud_words::Parsed;
@@ -69,60 +65,68 @@ fn decision(
     ensures { IfOk result (λ v. v ≡ decision world.now player (line_of parsed.now)) }
 {
     let verb = Verb::named(&parsed.verb);
-    match (player, verb) {
-        (Some(player), Some(verb)) => command(alloc, world, player, parsed, verb),
-        (Some(player), None) => other_line(alloc, world, player, parsed),
-        (None, _) => guest(alloc, world, parsed, verb),
-    }
-}
-
-// A verb alone, or with a text, or with a journey; any other verb has an object.
-fn command(
-    alloc: Global,
-    world: &World,
-    player: u32,
-    parsed: &Parsed,
-    verb: Verb,
-) -> Result<Verdict, AllocError>
-    ensures { IfOk result (λ v. v ≡ command world.now player (line_of parsed.now) verb) }
-{
-    match verb {
-        Verb::Inventory => Ok(shaped(parsed.args.is_empty(), Query::View(View::Inventory))),
-        Verb::Version => Ok(shaped(parsed.args.is_empty(), Query::View(View::Version))),
-        Verb::History => Ok(shaped(parsed.args.is_empty(), Query::History)),
-        Verb::Quit => Ok(shaped(parsed.args.is_empty(), Query::View(View::Quit))),
-        Verb::Look => look_line(alloc, world, player, parsed),
-        Verb::Connect => connect_line(alloc, world, parsed),
-        Verb::Say => say(alloc, world, player, &parsed.rest),
-        Verb::Emote => emote(alloc, world, player, &parsed.rest),
-        Verb::Create => create_line(alloc, world, player, parsed),
-        Verb::Dig => dig_line(alloc, world, player, parsed),
-        Verb::Route => Ok(asked_journey(route_line(world, player, parsed))),
-        Verb::Meet => Ok(asked_journey(meet_line(alloc, world, player, parsed)?)),
-        Verb::Proof => Ok(asked_proof(proof_line(alloc, world, player, parsed)?)),
-        Verb::Put | Verb::Give | Verb::Lock | Verb::Cost | Verb::Rename => pair_line(
-            alloc, world, player, parsed, verb,
-        ),
-        Verb::Go | Verb::Take | Verb::Drop => object_line(alloc, world, player, parsed, verb),
-        Verb::Unlock | Verb::Key | Verb::Recycle => object_line(alloc, world, player, parsed, verb),
-    }
-}
-
-// Any other line: an exit of the player's room that has the whole line as a name.
-fn other_line(
-    alloc: Global,
-    world: &World,
-    player: u32,
-    parsed: &Parsed,
-) -> Result<Verdict, AllocError>
-    ensures { IfOk result (λ v. v ≡ other_line world.now player (line_of parsed.now)) }
-{
-    let whole = whole_of(alloc, parsed)?;
-    let found = match world.place(player) {
-        Some(room) => sole_fit(world, world.leaving(room), &whole, Likeness::Equal),
-        None => Err(Match::NoSuch),
+    let Some(player) = player else {
+        return guest(alloc, world, parsed, verb);
     };
-    Ok(walk(world, player, found))
+    let actor = Actor {
+        alloc,
+        world,
+        player,
+    };
+    match verb {
+        Some(verb) => actor.command(parsed, verb),
+        None => actor.other_line(parsed),
+    }
+}
+
+impl Actor<'_> {
+    fn command(&self, parsed: &Parsed, verb: Verb) -> Result<Verdict, AllocError>
+        ensures { IfOk result (λ v. v ≡ command self.now.world.now self.now.player (line_of parsed.now) verb) }
+    {
+        match verb {
+            Verb::Connect => connect(self.alloc, self.world, parsed),
+            Verb::Look => self.look(parsed),
+            Verb::Inventory => self.inventory(parsed),
+            Verb::Go => self.go(parsed),
+            Verb::Take => self.take(parsed),
+            Verb::Drop => self.drop(parsed),
+            Verb::Put => self.put(parsed),
+            Verb::Give => self.give(parsed),
+            Verb::Say => self.say(parsed),
+            Verb::Emote => self.emote(parsed),
+            Verb::Dig => self.dig(parsed),
+            Verb::Create => self.create(parsed),
+            Verb::Lock => self.lock(parsed),
+            Verb::Unlock => self.unlock(parsed),
+            Verb::Key => self.key(parsed),
+            Verb::Cost => self.cost(parsed),
+            Verb::Rename => self.rename(parsed),
+            Verb::Recycle => self.recycle(parsed),
+            Verb::Route => self.route(parsed),
+            Verb::Meet => self.meet(parsed),
+            Verb::Proof => self.proof(parsed),
+            Verb::Version => self.version(parsed),
+            Verb::History => self.history(parsed),
+            Verb::Quit => self.quit(parsed),
+        }
+    }
+
+    // Any other line: an exit of the player's room that has the whole line as a name.
+    fn other_line(&self, parsed: &Parsed) -> Result<Verdict, AllocError>
+        ensures { IfOk result (λ v. v ≡ other_line self.now.world.now self.now.player (line_of parsed.now)) }
+    {
+        let whole = whole_of(self.alloc, parsed)?;
+        let found = match self.world.place(self.player) {
+            Some(room) => sole_fit(
+                self.world,
+                self.world.leaving(room),
+                &whole,
+                Likeness::Equal,
+            ),
+            None => Err(Match::NoSuch),
+        };
+        Ok(self.walk(found))
+    }
 }
 
 fn guest(
@@ -134,7 +138,7 @@ fn guest(
     ensures { IfOk result (λ v. v ≡ guest world.now (line_of parsed.now) verb) }
 {
     match verb {
-        Some(Verb::Connect) => connect_line(alloc, world, parsed),
+        Some(Verb::Connect) => connect(alloc, world, parsed),
         Some(Verb::Quit) => Ok(shaped(parsed.args.is_empty(), Query::View(View::Quit))),
         _ => Ok(Verdict::Refused(Refusal::NotUnderstood)),
     }

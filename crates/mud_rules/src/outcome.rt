@@ -3,13 +3,12 @@
 ghost use Rattle.std.specs.Prelude.{◌≡◌, nat_lt, Option, Some, unwrap_or, if◌then◌else◌};
 ghost use Rattle.mud_world.specs.Legal.{refusal};
 ghost use Rattle.mud_world.specs.Refusals.{number, refused_if};
-ghost use Rattle.mud_rules.specs.Outcome.{outcome, does, found, on_found, both, shaped};
-ghost use Rattle.mud_rules.specs.Steps.{no_player, no_room, not_his};
+ghost use Rattle.mud_rules.specs.Outcome.{outcome, found, on_found, both, shaped};
 ghost use Rattle.mud_rules.specs.Commands.{kind_then_here};
 
 use crate::matching::Match;
 use crate::{Journey, Query, Verdict};
-use mud_world::{Change, Deed, Refusal, Target, World, lesser, refused_if};
+use mud_world::{Change, Refusal, World, lesser, refused_if};
 
 fn refusal(world: &World, change: &Change) -> Option<Refusal>
     ensures { result ≡ refusal world.now change.now }
@@ -28,20 +27,6 @@ pub(crate) fn outcome(world: &World, own: Option<Refusal>, change: Change) -> Ve
         Some(refusal) => Verdict::Refused(refusal),
         None => Verdict::Change(change),
     }
-}
-
-// The same for what a player does.
-pub(crate) fn does(world: &World, player: u32, own: Option<Refusal>, deed: Deed) -> Verdict
-    ensures { result ≡ does world.now player own deed }
-{
-    outcome(
-        world,
-        own,
-        Change {
-            actor: player,
-            deed,
-        },
-    )
 }
 
 // The refusals 4 and 5 by their conditions.
@@ -137,50 +122,4 @@ pub(crate) fn unread(bar: Option<Refusal>, own: Refusal) -> Verdict
     ensures { result ≡ Verdict.Refused (unwrap_or bar own) }
 {
     Verdict::Refused(bar.unwrap_or(own))
-}
-
-// What bars a player whatever he does.
-pub(crate) fn no_player(world: &World, player: u32) -> Option<Refusal>
-    ensures { result ≡ no_player world.now player }
-{
-    if !world.exists(player) {
-        Some(Refusal::NoSuch)
-    } else if !world.is_player(player) {
-        Some(Refusal::WrongKind)
-    } else {
-        None
-    }
-}
-
-// What bars a player from digging to an old room.
-pub(crate) fn no_room(world: &World, player: u32, target: &Target) -> Option<Refusal>
-    ensures { result ≡ no_room world.now player target.now }
-{
-    match target {
-        Target::New(_) => no_player(world, player),
-        Target::Old(room) => {
-            if !world.exists(player) || !world.exists(*room) {
-                Some(Refusal::NoSuch)
-            } else if !world.is_player(player) || !world.is_room(*room) {
-                Some(Refusal::WrongKind)
-            } else {
-                None
-            }
-        }
-    }
-}
-
-// What bars a player from a change of an object.
-pub(crate) fn not_his(world: &World, player: u32, object: u32, wrong_kind: bool) -> Option<Refusal>
-    ensures { result ≡ not_his world.now player object wrong_kind }
-{
-    if !world.exists(player) || !world.exists(object) {
-        Some(Refusal::NoSuch)
-    } else if !world.is_player(player) || wrong_kind {
-        Some(Refusal::WrongKind)
-    } else if !world.owns(player, object) {
-        Some(Refusal::Denied)
-    } else {
-        None
-    }
 }

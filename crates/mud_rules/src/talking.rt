@@ -1,39 +1,37 @@
-//! Talking.
+//! The commands that talk.
 
-ghost use Rattle.std.specs.Prelude.{◌≡◌, Some, None, IfOk};
-ghost use Rattle.mud_rules.specs.Outcome.{does};
+ghost use Rattle.std.specs.Prelude.{◌≡◌, IfOk};
+ghost use Rattle.mud_words.specs.Line.{line_of};
+ghost use Rattle.mud_rules.specs.Table.{command};
+ghost use Rattle.mud_rules.specs.declared.verb.Verb.{Verb};
 
 use crate::Verdict;
-use crate::outcome::{does, no_player, unread};
-use mud_world::{Deed, Refusal, Speech, World};
-use std::alloc::{AllocError, Global};
+use crate::actor::Actor;
+use crate::outcome::unread;
+use mud_words::Parsed;
+use mud_world::{Deed, Refusal, Speech};
+use std::alloc::AllocError;
 
-#[tactic(auto, using(crate::proofs::Barred::saying_barred))]
-pub(crate) fn say(
-    alloc: Global,
-    world: &World,
-    player: u32,
-    text: &str,
-) -> Result<Verdict, AllocError>
-    ensures { IfOk result (λ v. v ≡ does world.now player None (Deed.Say text.now)) }
-{
-    match Speech::read(alloc, text)? {
-        Some(speech) => Ok(does(world, player, None, Deed::Say(speech))),
-        None => Ok(unread(no_player(world, player), Refusal::BadName)),
+impl Actor<'_> {
+    #[tactic(auto, using(crate::proofs::Barred::saying_barred))]
+    pub(crate) fn say(&self, parsed: &Parsed) -> Result<Verdict, AllocError>
+        ensures { IfOk result (λ v. v
+            ≡ command self.now.world.now self.now.player (line_of parsed.now) Verb.Say) }
+    {
+        match Speech::read(self.alloc, &parsed.rest)? {
+            Some(speech) => Ok(self.does(None, Deed::Say(speech))),
+            None => Ok(unread(self.no_player(), Refusal::BadName)),
+        }
     }
-}
 
-#[tactic(auto, using(crate::proofs::Barred::emoting_barred))]
-pub(crate) fn emote(
-    alloc: Global,
-    world: &World,
-    player: u32,
-    text: &str,
-) -> Result<Verdict, AllocError>
-    ensures { IfOk result (λ v. v ≡ does world.now player None (Deed.Emote text.now)) }
-{
-    match Speech::read(alloc, text)? {
-        Some(speech) => Ok(does(world, player, None, Deed::Emote(speech))),
-        None => Ok(unread(no_player(world, player), Refusal::BadName)),
+    #[tactic(auto, using(crate::proofs::Barred::emoting_barred))]
+    pub(crate) fn emote(&self, parsed: &Parsed) -> Result<Verdict, AllocError>
+        ensures { IfOk result (λ v. v
+            ≡ command self.now.world.now self.now.player (line_of parsed.now) Verb.Emote) }
+    {
+        match Speech::read(self.alloc, &parsed.rest)? {
+            Some(speech) => Ok(self.does(None, Deed::Emote(speech))),
+            None => Ok(unread(self.no_player(), Refusal::BadName)),
+        }
     }
 }

@@ -1,6 +1,6 @@
 use Rattle.std.proofs.Common.{sym}
 use Rattle.mud_rules.proofs.Bounds.{number_of_object}
-use Rattle.mud_rules.proofs.keys.existing.Goals as goal
+use Rattle.mud_rules.proofs.locking.existing.Goals as goal
 
 pub returns-then-exists-clause-number : goal.returns-then-exists-clause-number
 returns-then-exists-clause-number c =

@@ -86,7 +86,8 @@ impl Actor<'_> {
     // The journey that a line asks for.
     fn journey_meant(&self, parsed: &Parsed) -> Result<Result<Journey, Refusal>, AllocError>
         ensures { IfOk result (λ journey. journey
-            ≡ journey_of self.now.world.now self.now.player (line_of parsed.now) (verb_named (line_of parsed.now).verb)) }
+            ≡ journey_of self.now.world.now self.now.player (line_of parsed.now)
+            (verb_named (line_of parsed.now).verb)) }
     {
         match Verb::named(&parsed.verb) {
             Some(Verb::Route) => Ok(self.route_meant(parsed)),

@@ -39,7 +39,7 @@ pub(crate) enum Verb {
 }
 
 // The words that are verbs of questions.
-const QUESTIONS: [(&str, Verb); 12] = [
+const QUESTIONS: &[(&str, Verb)] = &[
     ("look", Verb::Look),
     ("l", Verb::Look),
     ("inventory", Verb::Inventory),
@@ -55,7 +55,7 @@ const QUESTIONS: [(&str, Verb); 12] = [
 ];
 
 // The other words that are verbs.
-const OTHERS: [(&str, Verb); 16] = [
+const OTHERS: &[(&str, Verb)] = &[
     ("connect", Verb::Connect),
     ("go", Verb::Go),
     ("take", Verb::Take),
@@ -80,14 +80,14 @@ impl Verb {
     pub(crate) fn named(text: &str) -> Option<Verb>
         ensures { result ≡ verb_named text.now }
     {
-        verb_in(&QUESTIONS, text).or(verb_in(&OTHERS, text))
+        verb_in(QUESTIONS, text).or(verb_in(OTHERS, text))
     }
 
     /// Whether a word names the verb of a question.
     pub(crate) fn asks(text: &str) -> bool
         ensures { result ≡ is_some (lookup (str_eq_ignore_ascii_case text.now) question_verbs) }
     {
-        verb_in(&QUESTIONS, text).is_some()
+        verb_in(QUESTIONS, text).is_some()
     }
 }
 

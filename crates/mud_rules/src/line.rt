@@ -17,9 +17,8 @@ use mud_words::Parsed;
 use mud_world::{Refusal, World};
 use std::alloc::{AllocError, Global};
 
-/// Whether a line has the verb of a question, whatever its other words are: `look`, `l`,
-/// `inventory`, `inv`, `i`, `@key`, `route`, `meet`, `proof`, `@version`, `@history` or `quit`
-/// (this project's profile).
+/// Whether a line has the verb of a question, whatever its other words are (docs/COMMANDS.md,
+/// "Questions"; this project's profile).
 pub fn is_question(parsed: &Parsed) -> bool
     ensures { result ≡ is_question (line_of parsed.now) }
 {

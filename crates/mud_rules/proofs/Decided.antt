@@ -1,4 +1,4 @@
--- What a line comes to is legal, and its names, keys and texts are such.
+-- What a line comes to is lawful, and the names, keys and texts of a change are such.
 use Rattle.std.proofs.Common.{◌≡◌, ℕ, ◌≤◌, inl, inr, Bool, true, false, List, [], Option, None, Some, Result, Ok}
 use Rattle.std.proofs.Common.{Err}
 use Rattle.std.proofs.Common.{refl, sym, ◌∙◌, subst}
@@ -96,13 +96,13 @@ fine-legal w player own e acts parts =
         (record { legal = legal; parts = parts legal }, acts)
     go (Some f) is = tt
 
-by_player : (p : ℕ) (w : State) (d : Deed) → is_arrival d ≡ false → IsActor w (Some p) (record { actor = p; deed = d })
-by_player p w d acts = record { old = λ e. refl; new = λ e. absurd (true≢false (sym e ∙ acts)) }
+by_player : (w : State) (p : ℕ) (d : Deed) → is_arrival d ≡ false → IsActor w (Some p) (record { actor = p; deed = d })
+by_player w p d acts = record { old = λ e. refl; new = λ e. absurd (true≢false (sym e ∙ acts)) }
 
 fine-does : (w : State) (p : ℕ) (own : Option Refusal) (d : Deed) → is_arrival d ≡ false → HasParts d
     → IsFine w (Some p) (does w p own d)
 fine-does w p own d acts parts =
-    fine-legal w (Some p) own (record { actor = p; deed = d }) (by_player p w d acts) (λ legal. parts)
+    fine-legal w (Some p) own (record { actor = p; deed = d }) (by_player w p d acts) (λ legal. parts)
 
 never-none : {B : Type 0} (f : Refusal) (o : Option Refusal) → lesser (Some f) o ≡ None → B
 never-none f None e = no-some f e
@@ -356,7 +356,7 @@ fine-proof w player (Err f) is = tt
 
 -- ---- the table
 
--- the last clause is of those who do something with what is found near them
+-- the last clause is for all commands that do something with what they find
 fine-command : (w : State) → IsSound w → (p : ℕ) (l : Line) (v : Verb) → IsFine w (Some p) (command w p l v)
 fine-command w sound p l verb.Connect = fine-connect_line w sound (Some p) l
 fine-command w sound p l verb.Look =
@@ -366,10 +366,10 @@ fine-command w sound p l verb.Look =
     (fine-found w (Some p) object (λ x. verdict.Ask (query.View (LookAt x))) (λ x. tt))
 fine-command w sound p l verb.Inventory = fine-shaped w (Some p) (is_empty l.args) _ tt
 fine-command w sound p l verb.Say =
-    fine-legal w (Some p) None (record { actor = p; deed = deed.Say l.rest }) (by_player p w (deed.Say l.rest) refl)
+    fine-legal w (Some p) None (record { actor = p; deed = deed.Say l.rest }) (by_player w p (deed.Say l.rest) refl)
     (says-speech w p l.rest)
 fine-command w sound p l verb.Emote =
-    fine-legal w (Some p) None (record { actor = p; deed = deed.Emote l.rest }) (by_player p w (deed.Emote l.rest) refl)
+    fine-legal w (Some p) None (record { actor = p; deed = deed.Emote l.rest }) (by_player w p (deed.Emote l.rest) refl)
     (emotes-speech w p l.rest)
 fine-command w sound p l verb.Dig = fine-dig w p l
 fine-command w sound p l verb.Create =

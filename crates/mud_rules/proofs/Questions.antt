@@ -93,6 +93,7 @@ asks verb.History = true
 asks verb.Quit = true
 asks other = false
 
+-- the last clause is for all commands that do something with what they find
 asks-command : (w : State) (p : ℕ) (l : Line) (v : Verb) → AsksIf (asks v) (command w p l v)
 asks-command w p l verb.Connect = asks-connect_line false w l
 asks-command w p l verb.Look =

@@ -3,6 +3,7 @@ use Rattle.std.specs.Prelude.{◌≡◌, ◌⊎◌, ℕ, List, [], ◌∷◌, �
 use Rattle.std.specs.Prelude.{Option, Some, None, slice_get, slice_set}
 use Rattle.std.specs.Fmt.{decimal}
 use Rattle.std.specs.List.Sorted.{IsPermutation}
+use Rattle.mud_words.specs.Parse.{parsed}
 use Rattle.mud_chron.specs.Entry.{Accepted as Entry}
 use Rattle.mud_hall.specs.declared.fault.Fault.{Fault}
 use Rattle.mud_hall.specs.declared.fault.Fault.TheVariants.{OutOfMemory}
@@ -19,12 +20,12 @@ use Rattle.mud_explain.specs.Told.{fault_line, reply_line, answer_lines, seen_li
 -- an answer, or none for want of memory
 abbrev pub TellsAnswer : View → List ℕ → List ℕ → Type 0
 TellsAnswer d line told =
-    ((a : Answered) × Answers d.state line a × (told ≡ answer_lines a)) ⊎ (told ≡ fault_line OutOfMemory)
+    ((a : Answered) × Answers d.state (parsed line) a × (told ≡ answer_lines a)) ⊎ (told ≡ fault_line OutOfMemory)
 
 -- what a desk does by itself in a hall of this capacity, and what is told of it
 abbrev pub Turns : ℕ → Turn → View → View → List ℕ → Type 0
 Turns capacity (Act line) old new told =
-    (reply : Reply) × Acts capacity old.state line.now reply new.state × (told ≡ reply_line reply)
+    (reply : Reply) × Acts capacity old.state (parsed line.now) reply new.state × (told ≡ reply_line reply)
 Turns capacity (Ask line) old new told = (new.state ≡ old.state) × TellsAnswer old line.now told
 Turns capacity See old new told =
     TakesIn old.state new.state × ((told ≡ seen_line (length new.state.seen)) ⊎ (told ≡ fault_line OutOfMemory))

@@ -6,19 +6,17 @@ use Rattle.mud_rules.specs.declared.verdict.Verdict.TheVariants as verdict
 use Rattle.mud_rules.specs.Replies.{refusal_text, welcome_text}
 use Rattle.mud_hall.specs.declared.fault.Fault.TheVariants.{OutOfMemory, HistoryFull, Unpublished, DesksFull}
 use Rattle.mud_hall.specs.Desk.{DeskState, as_player}
+use Rattle.mud_words.specs.Line.{Line}
 use Rattle.mud_hall.specs.Replies.{Reply, Accepted, Became, Refused, Question, Failed}
 use Rattle.mud_hall.specs.Replies.{verdict_on, Stores, Comes, Replies}
 
 -- where memory is refused the desk stays, whatever the line comes to
-pub comes_memory : (capacity : ℕ) (s : DeskState) (line : List ℕ) (new : DeskState) → new ≡ s
-    → Replies capacity s line (Failed OutOfMemory) new
-comes_memory capacity s line new same = go (verdict_on s.seen s.player line)
-  where
-    go : (v : Verdict) → Comes capacity s v (Failed OutOfMemory) new
-    go (verdict.Change e) = same
-    go (verdict.Become p) = same
-    go (verdict.Refused f) = same
-    go (verdict.Ask q) = same
+pub comes_memory : (capacity : ℕ) (s : DeskState) (v : Verdict) (new : DeskState) → new ≡ s
+    → Comes capacity s v (Failed OutOfMemory) new
+comes_memory capacity s (verdict.Change e) new same = same
+comes_memory capacity s (verdict.Become p) new same = same
+comes_memory capacity s (verdict.Refused f) new same = same
+comes_memory capacity s (verdict.Ask q) new same = same
 
 -- the desk stays where memory is refused
 pub stays_in_memory : (capacity : ℕ) (s : DeskState) (v : Verdict) (new : DeskState)
@@ -65,12 +63,12 @@ plainly capacity s (verdict.Ask q) (Refused v f text) new c = inr c
 plainly capacity s (verdict.Ask q) (Question v) new c = inr c
 
 -- what is accepted is a change
-pub record WasChange (capacity : ℕ) (s : DeskState) (line : List ℕ) (reply : Reply) (new : DeskState) : Type 0 where
+pub record WasChange (capacity : ℕ) (s : DeskState) (line : Line) (reply : Reply) (new : DeskState) : Type 0 where
   pub change : Change
   pub decides : verdict_on s.seen s.player line ≡ verdict.Change change
   pub stores : Stores capacity s change reply new
 
-pub accepted_is : (capacity : ℕ) (s : DeskState) (line : List ℕ) (n : ℕ) (text : List ℕ) (new : DeskState)
+pub accepted_is : (capacity : ℕ) (s : DeskState) (line : Line) (n : ℕ) (text : List ℕ) (new : DeskState)
     → Replies capacity s line (Accepted n text) new → WasChange capacity s line (Accepted n text) new
 accepted_is capacity s line n text new r = go (verdict_on s.seen s.player line) refl r
   where

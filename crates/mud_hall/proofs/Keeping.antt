@@ -182,7 +182,7 @@ accepts capacity old new s n was is e kept turns mine number made room grown =
 -- what is stored is the change that was accepted
 stored : (capacity : ℕ) (old new : Hall) (s v : ℕ) (text line : List ℕ) (was ready is : DeskState)
     → IsKept capacity old → Turns old s was is new
-    → ready.number ≡ was.number → WasChange capacity ready line (Accepted v text) is
+    → ready.number ≡ was.number → WasChange capacity ready (parsed line) (Accepted v text) is
     → Grows (Act line (Accepted v text)) old.history is new.history → Keeps capacity old new
 stored capacity old new s v text line was ready is kept turns number c grows =
     let e = c.change in
@@ -204,17 +204,17 @@ stored capacity old new s v text line was ready is kept turns number c grows =
 replies : (capacity : ℕ) (old new : Hall) (s : ℕ) (line : List ℕ) (was ready is : DeskState) (reply : Reply)
     → IsKept capacity old
     → Turns old s was is new → ready.number ≡ was.number → Grows (Act line reply) old.history is new.history
-    → Replies capacity ready line reply is → Keeps capacity old new
+    → Replies capacity ready (parsed line) reply is → Keeps capacity old new
 replies capacity old new s line was ready is reply kept turns number grows r =
     let mine : is.number ≡ was.number =
-    same_number capacity ready (verdict_on ready.seen ready.player line) reply is r ∙ number in
+    same_number capacity ready (verdict_on ready.seen ready.player (parsed line)) reply is r ∙ number in
     go reply grows r mine
   where
-    go : (reply : Reply) → Grows (Act line reply) old.history is new.history → Replies capacity ready line reply is
+    go : (reply : Reply) → Grows (Act line reply) old.history is new.history → Replies capacity ready (parsed line) reply is
         → is.number ≡ was.number → Keeps capacity old new
     go (Accepted v text) grows r mine =
         stored capacity old new s v text line was ready is kept turns number
-        (accepted_is capacity ready line v text is r) grows
+        (accepted_is capacity ready (parsed line) v text is r) grows
     go (Became v text) grows r mine = rests capacity old new s was is kept turns mine grows
     go (Refused v f text) grows r mine = rests capacity old new s was is kept turns mine grows
     go (Question v) grows r mine = rests capacity old new s was is kept turns mine grows

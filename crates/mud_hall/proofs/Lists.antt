@@ -1,5 +1,5 @@
 -- Facts about each of the first elements of a list, and the versions of one desk's entries.
-use Rattle.std.proofs.Common.{◌≡◌, ℕ, zero, suc, ◌+◌, ◌-◌, ◌<◌, List, [], ◌∷◌, ◌++◌, length, take, drop, get_or}
+use Rattle.std.proofs.Common.{◌≡◌, ℕ, zero, suc, ◌+◌, ◌<◌, List, [], ◌∷◌, ◌++◌, length, take, drop, get_or}
 use Rattle.std.proofs.Common.{Some, slice_get}
 use Rattle.std.proofs.Common.{set, refl, sym, ap, ◌∙◌, subst, arith, add-one, append_assoc, length-drop}
 use Rattle.std.proofs.lemmas.List.{append-nil, get_or-drop}

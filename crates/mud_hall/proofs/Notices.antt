@@ -6,12 +6,10 @@ use Rattle.std.proofs.lemmas.List.{append-nil, take-append-le, take-append-drop,
 use mathlib.Core.List.{IsPrefix}
 use Rattle.std.specs.Prelude.{MatchBool}
 use Rattle.mud_world.specs.State.{State}
-use Rattle.mud_world.specs.declared.change.Change.{Change}
 use Rattle.mud_chron.specs.Entry.{Accepted}
 use Rattle.mud_row.specs.Known.{Standing}
-use Rattle.mud_rules.specs.Hearing.{heard_line}
 use Rattle.mud_hall.specs.Told.{world_after, notice, notices}
-use Rattle.mud_hall.specs.Inner.{notice_of, notice_in, took_in, state_of}
+use Rattle.mud_hall.specs.Inner.{notice_in, took_in, state_of}
 use Rattle.mud_hall.specs.Desk.{DeskState, TakesIn}
 
 pub notices-append : (p : Option ℕ) (h es fs : List Accepted)
@@ -50,6 +48,20 @@ stepped false at len new m lt = absurd (omega (arith, m.0))
 pub state_eq : (s t : DeskState) → s.number ≡ t.number → s.player ≡ t.player → s.seen ≡ t.seen → s.calls ≡ t.calls
     → s.told ≡ t.told → s ≡ t
 state_eq s t n p l c o = λ i. record { number = n i; player = p i; seen = l i; calls = c i; told = o i }
+
+-- what was taken in twice was taken in at once
+pub takes_more : (one two three : DeskState) → TakesIn one two → TakesIn two three → TakesIn one three
+takes_more one two three first second =
+    let es : List Accepted = first.entries in
+    let fs : List Accepted = second.entries in
+    let twice : took_in (took_in one es) fs ≡ took_in one (es ++ fs) =
+    state_eq (took_in (took_in one es) fs) (took_in one (es ++ fs)) refl refl (append_assoc one.seen es fs) refl
+    (append_assoc one.told (notices one.player one.seen es) (notices one.player (one.seen ++ es) fs)
+    ∙ ap (λ (w : List (List ℕ)). one.told ++ w) (sym (notices-append one.player one.seen es fs))) in
+    record {
+      entries = es ++ fs;
+      is = second.is ∙ ap (λ (s : DeskState). took_in s fs) first.is ∙ twice;
+    }
 
 -- an entry that is taken in with its notice leaves what the desk is told
 pub told_same : (stored marked : List (List ℕ)) (p : Option ℕ) (es : List Accepted) (i new : ℕ) (e : Accepted)
@@ -93,12 +105,6 @@ grows was new s number p calls stored more at within is =
 pub notices-none : (h es : List Accepted) → notices None h es ≡ []
 notices-none h [] = refl
 notices-none h (e ∷ es) = notices-none (h ++ e ∷ []) es
-
--- the notice of a line that was heard
-pub noticed : (player : Option ℕ) (p n : ℕ) (w : State) (e : Accepted) (c : Change) (o : Option (List ℕ))
-    → player ≡ Some p → c ≡ e.change → o ≡ heard_line w c p → notice_of n o ≡ notice_in player n w e
-noticed player p n w e c o player_is change heard =
-    ap (notice_of n) (heard ∙ ap (λ x. heard_line w x p) change) ∙ ap (λ q. notice_in q n w e) (sym player_is)
 
 -- what is marked is the notice of the entry
 pub marked : (peeked was : Standing) (p : Option ℕ) (e : Accepted) (n : ℕ) (w : State) (line : List (List ℕ))

@@ -304,19 +304,19 @@ meet-is heap =
 
 -- ---- what the lines come to
 
-wizard-comes : verdict_on [] None (codes "connect wizard") ≡ verdict.Become 1
+wizard-comes : verdict_on [] None (parsed (codes "connect wizard")) ≡ verdict.Become 1
 unfolding digits words phrase_at counted parsed verb_named decision name_in names_in
 wizard-comes = refl
 
-asks-route : verdict_on [] (Some 1) (codes "route to #0") ≡ verdict.Ask (query.Journey (Route 0))
+asks-route : verdict_on [] (Some 1) (parsed (codes "route to #0")) ≡ verdict.Ask (query.Journey (Route 0))
 unfolding digits words phrase_at counted parsed verb_named decision name_in names_in
 asks-route = refl
 
-ann-comes : verdict_on [] None (codes "connect Ann") ≡ verdict.Change ann.change
+ann-comes : verdict_on [] None (parsed (codes "connect Ann")) ≡ verdict.Change ann.change
 unfolding digits words phrase_at counted parsed verb_named decision name_in names_in outcome refusal
 ann-comes = refl
 
-asks-meeting : verdict_on (ann ∷ []) (Some 1) (codes "meet #1, #2") ≡ verdict.Ask (query.Journey (Meet (1 ∷ 2 ∷ [])))
+asks-meeting : verdict_on (ann ∷ []) (Some 1) (parsed (codes "meet #1, #2")) ≡ verdict.Ask (query.Journey (Meet (1 ∷ 2 ∷ [])))
 unfolding digits words phrase_at counted parsed verb_named decision name_in names_in meeting refusal
 asks-meeting = refl
 
@@ -357,7 +357,7 @@ hall8 = seats hall7 (ann ∷ []) 1 (with_told hearing [])
 
 -- ---- what is called
 
-sits : Acts 16 (new_desk 1 []) (codes "connect wizard") (Became 0 (codes "welcome #1")) wizard
+sits : Acts 16 (new_desk 1 []) (parsed (codes "connect wizard")) (Became 0 (codes "welcome #1")) wizard
 unfolding digits
 sits = record {
   ready = new_desk 1 [];
@@ -366,7 +366,7 @@ sits = record {
       (sym wizard-comes) (refl, refl);
 }
 
-comes : Acts 16 (new_desk 2 []) (codes "connect Ann") (Accepted 1 (codes "welcome #2")) newcomer
+comes : Acts 16 (new_desk 2 []) (parsed (codes "connect Ann")) (Accepted 1 (codes "welcome #2")) newcomer
 unfolding digits
 comes = record {
   ready = new_desk 2 [];
@@ -375,7 +375,7 @@ comes = record {
       (sym ann-comes) (omega arith, refl, refl, refl);
 }
 
-answers-route : (heap : Global) → Answers wizard (codes "route to #0") (answered (route-answer heap))
+answers-route : (heap : Global) → Answers wizard (parsed (codes "route to #0")) (answered (route-answer heap))
 answers-route heap = record {
   version = refl;
   shows = subst (λ (v : Verdict). Shows [] (Some 1) v (answered (route-answer heap))) (sym asks-route)
@@ -383,7 +383,7 @@ answers-route heap = record {
 }
 
 answers-meeting : (heap : Global)
-    → Answers (with_told hearing []) (codes "meet #1, #2") (answered (meet-answer heap))
+    → Answers (with_told hearing []) (parsed (codes "meet #1, #2")) (answered (meet-answer heap))
 answers-meeting heap = record {
   version = refl;
   shows = subst (λ (v : Verdict). Shows (ann ∷ []) (Some 1) v (answered (meet-answer heap))) (sym asks-meeting)

@@ -1,6 +1,7 @@
 -- What a line that asks is answered.
 use Rattle.std.specs.Prelude.{◌≡◌, ℕ, List, ◌++◌, length, codes, string_bytes, Option, Some, None}
 use Rattle.std.specs.Option.{IsSome, IsSomeAnd}
+use Rattle.mud_words.specs.Line.{Line}
 use Rattle.mud_world.specs.State.{State}
 use Rattle.mud_world.specs.declared.refusal.Refusal.TheVariants.{NotUnderstood}
 use Rattle.mud_rules.specs.declared.verdict.Journey.{Journey}
@@ -64,7 +65,7 @@ Shows h player (verdict.Refused f) a = (a.text ≡ refusal_text f) × (a.cert �
 Shows h player other a = (a.text ≡ refusal_text NotUnderstood) × (a.cert ≡ None)
 
 -- the desk answers the line by exactly what it has seen
-pub record Answers (s : DeskState) (line : List ℕ) (a : Answered) : Type 0 where
+pub record Answers (s : DeskState) (line : Line) (a : Answered) : Type 0 where
   pub version : a.version ≡ length s.seen
   pub shows : Shows s.seen s.player (verdict_on s.seen s.player line) a
 

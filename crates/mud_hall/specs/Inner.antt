@@ -1,13 +1,18 @@
 -- Names of parts of public definitions. Private clauses and proofs alone cite this file.
-use Rattle.std.specs.Prelude.{◌≡◌, ℕ, List, ◌++◌, Option, codes, IsSomeAnd, IfSome, IsTrue, take, drop}
+use Rattle.std.specs.Prelude.{◌≡◌, ℕ, List, ◌++◌, length, Option, Some, None, codes, IsSomeAnd, IfSome, IsTrue, take, drop}
 use Rattle.std.specs.Option.{option_map, option_and_then, option_to_list}
 use Rattle.mud_world.specs.State.{State, is_player}
 use Rattle.mud_rules.specs.Hearing.{heard_line}
+use Rattle.mud_rules.specs.declared.verdict.Verdict.{Verdict}
+use Rattle.mud_rules.specs.declared.verdict.Verdict.TheVariants.{Ask}
+use Rattle.mud_rules.specs.declared.verdict.Query.TheVariants.{History}
+use Rattle.mud_guide.specs.declared.answer.Answer.{Answer}
 use Rattle.mud_chron.specs.Entry.{Accepted}
 use Rattle.mud_cert.specs.Certificate.{Certificate}
 use Rattle.mud_cert.specs.Text.{cert_text}
-use Rattle.mud_hall.specs.Told.{notice_text, notices}
+use Rattle.mud_hall.specs.Told.{world_after, notice_text, notices}
 use Rattle.mud_hall.specs.Desk.{DeskState}
+use Rattle.mud_hall.specs.Answers.{answered, Shows}
 use Rattle.mud_row.specs.Known.{Standing}
 
 -- the notice of change n, if its line is heard
@@ -39,3 +44,10 @@ state_of number player r calls stored = record {
   calls = calls;
   told = stored ++ notices player (take r.at r.list) (drop r.at r.list);
 }
+
+-- the answer in a world at its version, whatever entries led there; there is none to the question about those
+abbrev pub IsResponse : State → ℕ → Option ℕ → Verdict → Option Answer → Type 0
+IsResponse w v player verdict None = verdict ≡ Ask History
+IsResponse w v player verdict (Some a) =
+    (a.version ≡ v)
+    × ((h : List Accepted) → w ≡ world_after h → v ≡ length h → Shows h player verdict (answered a))

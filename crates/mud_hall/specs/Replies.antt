@@ -1,6 +1,6 @@
 -- What a line that acts is replied, and what it does to its desk.
 use Rattle.std.specs.Prelude.{◌≡◌, ℕ, ◌+◌, ◌<◌, List, length, Option, Result, Ok, Err, string_bytes}
-use Rattle.mud_words.specs.Parse.{parsed}
+use Rattle.mud_words.specs.Line.{Line}
 use Rattle.mud_world.specs.declared.change.Change.{Change}
 use Rattle.mud_world.specs.declared.refusal.Refusal.{Refusal}
 use Rattle.mud_rules.specs.declared.verdict.Verdict.{Verdict}
@@ -32,8 +32,8 @@ shown (Ok (returned.Question v)) = Question v
 shown (Err fault) = Failed fault
 
 -- what a line is decided to be for a player, after a history
-abbrev pub verdict_on : List Entry → Option ℕ → List ℕ → Verdict
-verdict_on h player line = decision (world_after h) player (parsed line)
+abbrev pub verdict_on : List Entry → Option ℕ → Line → Verdict
+verdict_on h player line = decision (world_after h) player line
 
 -- a change is the next entry of a history that can have `capacity` entries, or is not stored
 abbrev pub Stores : ℕ → DeskState → Change → Reply → DeskState → Type 0
@@ -55,11 +55,11 @@ Comes capacity s (verdict.Refused f) reply new = (reply ≡ Refused (length s.se
 Comes capacity s (verdict.Ask q) reply new = (reply ≡ Question (length s.seen)) × (new ≡ s)
 
 -- a desk replies to the line by all that it has seen
-abbrev pub Replies : ℕ → DeskState → List ℕ → Reply → DeskState → Type 0
+abbrev pub Replies : ℕ → DeskState → Line → Reply → DeskState → Type 0
 Replies capacity s line reply new = Comes capacity s (verdict_on s.seen s.player line) reply new
 
 -- the desk takes entries in, and then replies to the line
-pub record Acts (capacity : ℕ) (old : DeskState) (line : List ℕ) (reply : Reply) (new : DeskState) : Type 0 where
+pub record Acts (capacity : ℕ) (old : DeskState) (line : Line) (reply : Reply) (new : DeskState) : Type 0 where
   pub ready : DeskState
   pub takes_in : TakesIn old ready
   pub replies : Replies capacity ready line reply new

@@ -3,6 +3,7 @@ use Rattle.std.specs.Prelude.{◌≡◌, ℕ, ◌+◌, ◌≤◌, ◌⊎◌, nat
 use Rattle.std.specs.Prelude.{List, [], ◌∷◌, ◌++◌, length, Option, Some, None}
 use Rattle.std.specs.List.{AllByRecursion}
 use mathlib.Core.List.{IsPrefix}
+use Rattle.mud_words.specs.Parse.{parsed}
 use Rattle.mud_chron.specs.Entry.{Accepted as Entry, IsEntry}
 use Rattle.mud_chron.specs.Replay.{changes_of, AreLegal}
 use Rattle.mud_hall.specs.Desk.{DeskState, new_desk, as_guest, as_player, TakesIn, Learns, HandsOut, IsNew}
@@ -22,9 +23,9 @@ pub data Call : Type 0 where
 -- what a call does to its desk; an answer is by what the desk has seen, and there is none where memory is refused
 abbrev pub Performs : ℕ → DeskState → Call → DeskState → Type 0
 Performs capacity was See is = TakesIn was is
-Performs capacity was (Act line reply) is = Acts capacity was line reply is
+Performs capacity was (Act line reply) is = Acts capacity was (parsed line) reply is
 Performs capacity was (Ask line None) is = is ≡ was
-Performs capacity was (Ask line (Some a)) is = Answers was line a × (is ≡ was)
+Performs capacity was (Ask line (Some a)) is = Answers was (parsed line) a × (is ≡ was)
 Performs capacity was Guest is = is ≡ as_guest was
 Performs capacity was (Told lines) is = HandsOut was lines is
 

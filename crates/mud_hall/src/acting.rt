@@ -2,10 +2,11 @@
 
 ghost use Rattle.std.specs.Prelude.{◌≡◌, ◌≢◌, ◌++◌, ◌∷◌, [], ◌<◌, ◌≤◌, ◌+◌};
 ghost use Rattle.std.specs.Prelude.{length, Some, None, IfOk, IfErr, OnErr, OnOk, string_bytes};
+ghost use Rattle.mud_words.specs.Line.{line_of};
 ghost use Rattle.mud_rules.specs.Outcome.{IsLawful};
 ghost use Rattle.mud_hall.specs.Told.{world_after};
 ghost use Rattle.mud_hall.specs.Desk.{DeskState, as_player, untold};
-ghost use Rattle.mud_hall.specs.Replies.{Failed, shown, Acts, Replies, Stores};
+ghost use Rattle.mud_hall.specs.Replies.{Failed, shown, Acts, Comes, Stores, verdict_on};
 
 use crate::desk::Desk;
 use crate::fault::Fault;
@@ -14,28 +15,30 @@ use crate::reply::Reply;
 use mud_chron::Entry;
 use mud_row::{Row, RowFault};
 use mud_rules::{Verdict, refusal_text, reply_text, welcome_text};
+use mud_words::Parsed;
 use mud_world::Change;
 use std::alloc::{AllocError, Global};
 
 impl<J: HallName> Desk<J> {
-    // Takes in all entries, and replies to the line in the world that they lead to.
-    pub(crate) fn act(&mut self, alloc: Global, row: &Row, line: &str) -> Result<Reply, Fault>
+    // Takes in all entries, and replies to what a line says in the world that they lead to.
+    pub(crate) fn act(&mut self, alloc: Global, row: &Row, said: &Parsed) -> Result<Reply, Fault>
         requires { row.now ≡ J.cells }
-        ensures acts { Acts (length row.now) self.old.state line.now (shown result) self.new.state }
+        ensures acts { Acts (length row.now) self.old.state (line_of said.now) (shown result) self.new.state }
         ensures told { shown result ≢ Failed Fault.OutOfMemory → untold self.new ≡ [] }
     {
         self.take_in(alloc, row)?;
-        self.reply(alloc, row, line)
+        self.reply(alloc, row, said)
     }
 
-    // Replies to the line in the world of all that it knows.
-    fn reply(&mut self, alloc: Global, row: &Row, line: &str) -> Result<Reply, Fault>
+    // Replies to what a line says in the world of all that it knows.
+    fn reply(&mut self, alloc: Global, row: &Row, said: &Parsed) -> Result<Reply, Fault>
         requires row { row.now ≡ J.cells }
         requires all { self.old.at ≡ length self.old.state.seen }
-        ensures replies { Replies (length row.now) self.old.state line.now (shown result) self.new.state }
+        ensures comes { Comes (length row.now) self.old.state
+            (verdict_on self.old.state.seen self.old.state.player (line_of said.now)) (shown result) self.new.state }
         ensures told { shown result ≢ Failed Fault.OutOfMemory → untold self.new ≡ [] }
     {
-        match self.verdict(alloc, line)? {
+        match self.verdict(alloc, said)? {
             Verdict::Refused(refusal) => {
                 let text = String::from_str(alloc, refusal_text(refusal))?;
                 Ok(Reply::Refused {

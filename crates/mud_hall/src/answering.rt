@@ -2,20 +2,72 @@
 
 ghost use Rattle.std.specs.Prelude.{◌≡◌, ◌≤◌, None, IfOk, string_bytes, IfSome, IsTrue};
 ghost use Rattle.std.specs.Option.{IsSome};
-ghost use Rattle.mud_rules.specs.Outcome.{IsJourney};
+ghost use Rattle.mud_words.specs.Line.{line_of};
+ghost use Rattle.mud_world.specs.State.{is_player};
+ghost use Rattle.mud_rules.specs.Outcome.{IsJourney, IsQuestion};
 ghost use Rattle.mud_rules.specs.Replies.{refusal_text};
 ghost use Rattle.mud_rules.specs.Answers.{show_text};
-ghost use Rattle.mud_hall.specs.Answers.{IsGuided, IsProven};
-ghost use Rattle.mud_world.specs.State.{is_player};
+ghost use Rattle.mud_rules.specs.Table.{decision};
+ghost use Rattle.mud_hall.specs.Answers.{IsGuided, IsProven, CanAsk};
+ghost use Rattle.mud_hall.specs.Inner.{IsResponse};
 
+use crate::guide::Guide;
 use crate::texts::proof_answer;
-use mud_guide::{Answer, meet_alone, route_alone};
-use mud_rules::{Journey, Refusal, View, refusal_text, show};
+use mud_guide::Answer;
+use mud_rules::{Journey, Query, Refusal, Verdict, View, decide, refusal_text, show};
+use mud_words::Parsed;
 use mud_world::World;
 use std::alloc::{AllocError, Global};
 
-/// An answer without a certificate.
-pub(crate) fn plain(alloc: Global, version: u32, text: &str) -> Result<Answer, AllocError>
+/// The answer to what a line says, in a world and at its version; none where it asks for the history, which whoever
+/// has it tells.
+pub(crate) fn respond<S: Guide>(
+    by: &S,
+    alloc: Global,
+    world: &World,
+    version: u32,
+    player: Option<u32>,
+    said: &Parsed,
+) -> Result<Option<Answer>, AllocError>
+    requires ready { S.ready by.now }
+    requires version { version ≤ 65536 }
+    requires seated { IfSome player (λ p. IsTrue (is_player world.now p)) }
+    ensures { IfOk result (IsResponse world.now version player (decision world.now player (line_of said.now))) }
+{
+    match decide(alloc, world, player, said)? {
+        Verdict::Ask(query) => explain(by, alloc, world, version, player, &query),
+        Verdict::Refused(refusal) => Ok(Some(plain(alloc, version, refusal_text(refusal))?)),
+        Verdict::Change(_) => Ok(Some(not_understood(alloc, version)?)),
+        Verdict::Become(_) => Ok(Some(not_understood(alloc, version)?)),
+    }
+}
+
+// The answer to a question; none to the one about the history.
+fn explain<S: Guide>(
+    by: &S,
+    alloc: Global,
+    world: &World,
+    version: u32,
+    player: Option<u32>,
+    query: &Query,
+) -> Result<Option<Answer>, AllocError>
+    requires ready { S.ready by.now }
+    requires version { version ≤ 65536 }
+    requires seated { IfSome player (λ p. IsTrue (is_player world.now p)) }
+    requires question { IsQuestion world.now query.now }
+    requires player { CanAsk player query.now }
+    ensures { IfOk result (IsResponse world.now version player (Verdict.Ask query.now)) }
+{
+    match query {
+        Query::View(shown) => Ok(Some(view(alloc, world, version, player, shown)?)),
+        Query::Journey(journey) => Ok(Some(guide(by, alloc, world, version, player, journey)?)),
+        Query::Proof(journey) => Ok(Some(prove(by, alloc, world, version, player, journey)?)),
+        Query::History => Ok(None),
+    }
+}
+
+// An answer without a certificate.
+fn plain(alloc: Global, version: u32, text: &str) -> Result<Answer, AllocError>
     requires { version ≤ 65536 }
     ensures version { IfOk result (λ a. a.version ≡ version) }
     ensures text { IfOk result (λ a. string_bytes a.text ≡ text.now) }
@@ -28,8 +80,8 @@ pub(crate) fn plain(alloc: Global, version: u32, text: &str) -> Result<Answer, A
     })
 }
 
-/// The answer to a line that asks nothing.
-pub(crate) fn not_understood(alloc: Global, version: u32) -> Result<Answer, AllocError>
+// The answer to a line that asks nothing.
+fn not_understood(alloc: Global, version: u32) -> Result<Answer, AllocError>
     requires { version ≤ 65536 }
     ensures version { IfOk result (λ a. a.version ≡ version) }
     ensures text { IfOk result (λ a. string_bytes a.text ≡ refusal_text Refusal.NotUnderstood) }
@@ -38,8 +90,8 @@ pub(crate) fn not_understood(alloc: Global, version: u32) -> Result<Answer, Allo
     plain(alloc, version, refusal_text(Refusal::NotUnderstood))
 }
 
-/// The answer to a question about what a player, or a guest, sees.
-pub(crate) fn view(
+// The answer to a question about what a player, or a guest, sees.
+fn view(
     alloc: Global,
     world: &World,
     version: u32,
@@ -58,14 +110,16 @@ pub(crate) fn view(
     })
 }
 
-/// The guide's answer to a player's question about a journey.
-pub(crate) fn guide(
+// The guide's answer to a player's question about a journey.
+fn guide<S: Guide>(
+    by: &S,
     alloc: Global,
     world: &World,
     version: u32,
     player: Option<u32>,
     journey: &Journey,
 ) -> Result<Answer, AllocError>
+    requires ready { S.ready by.now }
     requires version { version ≤ 65536 }
     requires player { IsSome player }
     requires seated { IfSome player (λ p. IsTrue (is_player world.now p)) }
@@ -76,20 +130,19 @@ pub(crate) fn guide(
     let Some(player) = player else {
         unreachable!();
     };
-    match journey {
-        Journey::Route { to } => route_alone(alloc, world, version, player, *to),
-        Journey::Meet(party) => meet_alone(alloc, world, version, party.members()),
-    }
+    by.journey(alloc, world, version, player, journey)
 }
 
-/// That answer's certificate as a text.
-pub(crate) fn prove(
+// That answer's certificate as a text.
+fn prove<S: Guide>(
+    by: &S,
     alloc: Global,
     world: &World,
     version: u32,
     player: Option<u32>,
     journey: &Journey,
 ) -> Result<Answer, AllocError>
+    requires ready { S.ready by.now }
     requires version { version ≤ 65536 }
     requires player { IsSome player }
     requires seated { IfSome player (λ p. IsTrue (is_player world.now p)) }
@@ -97,7 +150,7 @@ pub(crate) fn prove(
     ensures version { IfOk result (λ a. a.version ≡ version) }
     ensures proven { IfOk result (IsProven world.now version player journey.now) }
 {
-    let answer = guide(alloc, world, version, player, journey)?;
+    let answer = guide(by, alloc, world, version, player, journey)?;
     let text = match &answer.cert {
         Some(cert) => proof_answer(alloc, cert)?,
         None => unreachable!(),

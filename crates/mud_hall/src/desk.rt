@@ -17,12 +17,13 @@ use std::alloc::{AllocError, Global};
 use std::marker::{Model, PhantomData};
 use std::mem;
 
-/// One caller's side of a hall: who he is, what he knows, what he did and what he was told.
+/// One caller's side of a hall: who he is, what he knows, what he did and what he was told. What he
+/// knows is in a box, so that a desk is small where it is moved.
 #[derive(Drop)]
 pub struct Desk<J: HallName> {
     pub(crate) number: u32,
     pub(crate) player: Option<u32>,
-    pub(crate) replica: Replica,
+    pub(crate) replica: Box<Replica>,
     pub(crate) calls: Vec<u32>,
     pub(crate) told: Vec<String>,
     of: PhantomData<J>,
@@ -45,22 +46,23 @@ impl<J: HallName> Model for Desk<J> {
       state = record {
         number = d.number;
         player = d.player;
-        seen = d.replica.list;
+        seen = d.replica.value.list;
         calls = d.calls.items;
         told = map string_bytes d.told.items
-            ++ notices d.player (take d.replica.at d.replica.list) (drop d.replica.at d.replica.list);
+            ++ notices d.player (take d.replica.value.at d.replica.value.list)
+            (drop d.replica.value.at d.replica.value.list);
       };
-      at = d.replica.at;
+      at = d.replica.value.at;
     } };
 
-    ghost invariant = { λ d. IsHeld J.cells J.loaded d.number d.player d.replica };
+    ghost invariant = { λ d. IsHeld J.cells J.loaded d.number d.player d.replica.value };
 }
 
 impl<J: HallName> Desk<J> {
     // A new guest's desk with this replica.
-    pub(crate) fn guest_at(alloc: Global, replica: Replica, number: u32) -> Desk<J>
-        requires row { replica.row ≡ J.cells }
-        requires loaded { IsPrefix J.loaded replica.list }
+    pub(crate) fn guest_at(alloc: Global, replica: Box<Replica>, number: u32) -> Desk<J>
+        requires row { replica.value.row ≡ J.cells }
+        requires loaded { IsPrefix J.loaded replica.value.list }
         requires number { (1 ≤ number) × (number ≤ 64) }
         ensures new { IsNew J.loaded result.state }
         ensures number { result.state.number ≡ number }
@@ -106,13 +108,14 @@ impl<J: HallName> Desk<J> {
             × (self.new.at ≡ self.old.at))) }
         ensures err { OnErr result (self.new.at ≡ self.old.at) }
     {
-        let Some(entry) = self.replica.peek(row) else {
+        let replica = &mut *self.replica;
+        let Some(entry) = replica.peek(row) else {
             return Ok(false);
         };
-        let version = self.replica.at() + 1;
-        let line = line_told(alloc, self.player, version, self.replica.world(), entry)?;
+        let version = replica.at() + 1;
+        let line = line_told(alloc, self.player, version, replica.world(), entry)?;
         self.told.reserve(1)?;
-        self.replica.step(row)?;
+        replica.step(row)?;
         if let Some(line) = line {
             self.told.push_reserved(line);
         }

@@ -1,8 +1,15 @@
 //! Many desks over one history.
 
 ghost use Rattle.std.specs.Prelude.{◌≡◌, ◌≢◌, ◌≤◌, ◌<◌, ◌⊎◌, [], length, max, IfOk, IfErr, OnErr, OnOk};
+ghost use Rattle.std.specs.Prelude.{Some, IsTrue};
+ghost use Rattle.std.specs.Thread.{IsSync};
+ghost use Rattle.mud_world.specs.State.{is_player};
+ghost use Rattle.mud_rules.specs.Outcome.{IsJourney};
+ghost use Rattle.mud_hall.specs.Answers.{IsGuided};
 ghost use Rattle.std.specs.List.{AllByRecursion};
 ghost use mathlib.Core.List.{IsPrefix};
+ghost use Rattle.mud_words.specs.Line.{line_of};
+ghost use Rattle.mud_words.specs.Parse.{parsed};
 ghost use Rattle.mud_chron.specs.Entry.{IsEntry};
 ghost use Rattle.mud_hall.specs.Desk.{IsNew, TakesIn, untold};
 ghost use Rattle.mud_hall.specs.Replies.{Failed, shown, Acts};
@@ -10,16 +17,19 @@ ghost use Rattle.mud_hall.specs.Answers.{answered, Answers};
 ghost use Rattle.mud_hall.specs.Opening.{Begun, IsLoadFault};
 ghost use Rattle.mud_hall.specs.Steps.{AreLoadable};
 
-use crate::crew::Crew;
 use crate::desk::Desk;
 use crate::fault::{Fault, LoadFault};
+use crate::guide::{Alone, Through, by_workers};
 use crate::kept::{Fresh, Kept};
 use crate::name::HallName;
 use crate::reply::Reply;
 use mud_chron::{ChronFault, Entry, replay};
 use mud_guide::Answer;
 use mud_row::{FillFault, Pass, Replica, Row};
+use mud_rules::Journey;
 use mud_search::Gate;
+use mud_words::{Parsed, parse};
+use mud_world::World;
 use std::alloc::{AllocError, Global};
 use std::marker::Model;
 use std::sync::{Mutex, Wait};
@@ -197,12 +207,13 @@ impl<J: HallName> Hall<J> {
     }
 
     // A copy of what the hall itself knows, once it knows all that is found.
-    fn copied<R: Wait>(&self, rt: &R) -> Result<Replica, AllocError>
-        ensures row { IfOk result (λ r. r.row ≡ J.cells) }
-        ensures loaded { IfOk result (λ r. IsPrefix J.loaded r.list) }
+    fn copied<R: Wait>(&self, rt: &R) -> Result<Box<Replica>, AllocError>
+        ensures row { IfOk result (λ r. r.value.row ≡ J.cells) }
+        ensures loaded { IfOk result (λ r. IsPrefix J.loaded r.value.list) }
     {
         let mut fresh = self.fresh.lock(rt);
-        fresh.copy(self.alloc, &self.row)
+        let replica = fresh.copy(self.alloc, &self.row)?;
+        Ok(Box::new(self.alloc, replica)?)
     }
 
     // Has what new desks copy follow the history, unless somebody else has it do so now.
@@ -216,11 +227,22 @@ impl<J: HallName> Hall<J> {
     /// is added to the history: `HistoryFull` where it takes no more, `Unpublished` where it did not
     /// take the entry. After a fault the history has no entry of this call.
     pub fn act<R: Wait>(&self, rt: &R, desk: &mut Desk<J>, line: &str) -> Result<Reply, Fault>
-        ensures acts { Acts (length J.cells) desk.old.state line.now (shown result) desk.new.state }
+        ensures acts { Acts (length J.cells) desk.old.state (parsed line.now) (shown result) desk.new.state }
         ensures told { shown result ≢ Failed Fault.OutOfMemory → untold desk.new ≡ [] }
     {
+        let said = parse(self.alloc, line)?;
+        self.act_on(rt, desk, &said)
+    }
+
+    /// Acts on what a line says, as [`Hall::act`] on the line.
+    pub fn act_on<R: Wait>(&self, rt: &R, desk: &mut Desk<J>, said: &Parsed) -> Result<Reply, Fault>
+        ensures acts { Acts (length J.cells) desk.old.state (line_of said.now) (shown result) desk.new.state }
+        ensures told { shown result ≢ Failed Fault.OutOfMemory → untold desk.new ≡ [] }
+    {
+        // before the lock: so who waits for it waits only for what comes after
+        desk.take_in(self.alloc, &self.row)?;
         let kept = self.kept.lock(rt);
-        let reply = desk.act(self.alloc, &self.row, line);
+        let reply = desk.act(self.alloc, &self.row, said);
         drop(kept);
         self.follow();
         reply
@@ -254,10 +276,21 @@ impl<J: HallName> Desk<J> {
     pub fn ask(&mut self, hall: &Hall<J>, line: &str) -> Result<Answer, Fault>
         ensures same { self.new.state ≡ self.old.state }
         ensures told { OnOk result (untold self.new ≡ []) }
-        ensures ok { IfOk result (λ a. Answers self.old.state line.now (answered a)) }
+        ensures ok { IfOk result (λ a. Answers self.old.state (parsed line.now) (answered a)) }
         ensures fault { IfErr result (λ f. f ≡ Fault.OutOfMemory) }
     {
-        let answer = self.answer(hall.alloc, &hall.row, line)?;
+        let said = parse(hall.alloc, line)?;
+        self.ask_on(hall, &said)
+    }
+
+    /// Answers what a line says, as [`Desk::ask`] the line.
+    pub fn ask_on(&mut self, hall: &Hall<J>, said: &Parsed) -> Result<Answer, Fault>
+        ensures same { self.new.state ≡ self.old.state }
+        ensures told { OnOk result (untold self.new ≡ []) }
+        ensures ok { IfOk result (λ a. Answers self.old.state (line_of said.now) (answered a)) }
+        ensures fault { IfErr result (λ f. f ≡ Fault.OutOfMemory) }
+    {
+        let answer = self.answer(&Alone, hall.alloc, &hall.row, said)?;
         Ok(answer)
     }
 
@@ -274,11 +307,39 @@ impl<J: HallName> Desk<J> {
     ) -> Result<Answer, Fault>
         ensures same { self.new.state ≡ self.old.state }
         ensures told { OnOk result (untold self.new ≡ []) }
-        ensures ok { IfOk result (λ a. Answers self.old.state line.now (answered a)) }
+        ensures ok { IfOk result (λ a. Answers self.old.state (parsed line.now) (answered a)) }
         ensures fault { IfErr result (λ f. f ≡ Fault.OutOfMemory) }
     {
-        let crew = Crew { rt, workers, gate };
-        let answer = self.answer_by(&crew, hall.alloc, &hall.row, line)?;
+        let said = parse(hall.alloc, line)?;
+        self.ask_on_with(rt, hall, &said, workers, gate)
+    }
+
+    /// Answers what a line says, as [`Desk::ask_with`] the line.
+    pub fn ask_on_with<R: Threads + Wait + Sync, G: Gate + Sync>(
+        &mut self,
+        rt: &R,
+        hall: &Hall<J>,
+        said: &Parsed,
+        workers: usize,
+        gate: &G,
+    ) -> Result<Answer, Fault>
+        ensures same { self.new.state ≡ self.old.state }
+        ensures told { OnOk result (untold self.new ≡ []) }
+        ensures ok { IfOk result (λ a. Answers self.old.state (line_of said.now) (answered a)) }
+        ensures fault { IfErr result (λ f. f ≡ Fault.OutOfMemory) }
+    {
+        let by = Through {
+            find: |alloc: Global, world: &World, version: u32, player: u32, journey: &Journey| -> Result<
+                Answer,
+                AllocError,
+            >
+                requires { IsSync R.row × IsSync G.row × (version ≤ 65536)
+                    × IsTrue (is_player world.now player) × IsJourney world.now journey.now }
+                ensures version { IfOk result (λ a. a.version ≡ version) }
+                ensures guided { IfOk result (IsGuided world.now version (Some player) journey.now) }
+            { by_workers(rt, workers, gate, alloc, world, version, player, journey) },
+        };
+        let answer = self.answer(&by, hall.alloc, &hall.row, said)?;
         Ok(answer)
     }
 }

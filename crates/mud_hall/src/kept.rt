@@ -71,9 +71,9 @@ impl<J: HallName> Kept<J> {
     }
 
     // The desk of the next number, with this replica.
-    pub(crate) fn desk(&mut self, alloc: Global, replica: Replica) -> Result<Desk<J>, Fault>
-        requires row { replica.row ≡ J.cells }
-        requires loaded { IsPrefix J.loaded replica.list }
+    pub(crate) fn desk(&mut self, alloc: Global, replica: Box<Replica>) -> Result<Desk<J>, Fault>
+        requires row { replica.value.row ≡ J.cells }
+        requires loaded { IsPrefix J.loaded replica.value.list }
         ensures new { IfOk result (λ d. IsNew J.loaded d.state) }
         ensures number { IfOk result (λ d. (d.state.number ≡ self.old + 1) × (self.new ≡ self.old + 1)) }
         ensures err { IfErr result (λ f. (self.new ≡ self.old) × (f ≡ Fault.DesksFull)) }

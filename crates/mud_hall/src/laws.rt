@@ -3,6 +3,7 @@
 ghost use Rattle.mud_hall.specs.Laws.{HistoryGoesOn, WalksGo, IsRight};
 ghost use Rattle.mud_hall.specs.Steps.{At, Step, Begins, IsRun, Hall, Ask, Makes};
 ghost use Rattle.mud_chron.specs.Entry.{Accepted as Entry};
+ghost use Rattle.mud_words.specs.Parse.{parsed};
 ghost use Rattle.std.specs.Prelude.{List, ℕ, Some, ◌≡◌};
 ghost use mathlib.Core.List.{IsPrefix};
 ghost use Rattle.mud_hall.specs.Replies.{verdict_on};
@@ -23,7 +24,7 @@ pub fn guide()
         → (s : ℕ) (line : List ℕ) (a : Answered) (next : Hall)
         → Makes capacity loaded hall (At s (Ask line (Some a))) next
         → (d : DeskState) → hall.desks s ≡ Some d
-        → IsPrefix d.seen hall.history × IsRight d.seen d.player (verdict_on d.seen d.player line) a }
+        → IsPrefix d.seen hall.history × IsRight d.seen d.player (verdict_on d.seen d.player (parsed line)) a }
 {
     again();
     no_returns();

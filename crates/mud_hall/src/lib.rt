@@ -13,12 +13,13 @@
 //! | `Hall::act` | takes all entries in, and replies to a line in that world: [`Reply`], [`Fault`] |
 //! | `Desk::see`, `see_to` | takes in all entries that are found, or those of the first so many |
 //! | `Desk::ask`, `ask_with` | the answer to a line by exactly what the desk has seen; the guide by several workers |
+//! | `Hall::act_on`, `Desk::ask_on`, `ask_on_with` | the same for what a line says, where it was parsed before |
 //! | `Desk::take_told` | the lines that tell what others did, each once |
 //! | `Desk::learn`, `guest` | knows what another desk knows; is a guest's desk again |
 //! | `Desk::number`, `seen`, `accepted` | its number, and how many entries it has seen and made |
 //! | `Hall::reader` | a [`Reader`], which reads the entries in order and makes none |
 //! | `Hall::close` | the one history that the desks made, [`Settled`], or all of it back: [`CloseFault`] |
-//! | `Solo::open`, `act`, `ask`, .. | the same for one caller, who begins as the wizard |
+//! | `Solo::open`, `act`, `ask`, `act_on`, .. | the same for one caller, who begins as the wizard |
 //!
 //! ```text
 //! let hall = NewHall::open(alloc, 65536)?.named::<J>();
@@ -43,10 +44,10 @@ mod acting;
 mod answering;
 mod asking;
 mod close;
-mod crew;
 mod desk;
 mod entries;
 mod fault;
+mod guide;
 mod hall;
 mod kept;
 pub mod laws;

@@ -1,23 +1,29 @@
 //! A desk of one user, with a world of its own.
 
-ghost use Rattle.std.specs.Prelude.{◌≡◌, ◌≢◌, ◌≤◌, [], length, IfOk, IfErr};
-ghost use Rattle.mud_rules.specs.Outcome.{IsQuestion, IsLawful};
+ghost use Rattle.std.specs.Prelude.{◌≡◌, ◌≢◌, ◌≤◌, ◌++◌, [], length, codes, string_bytes};
+ghost use Rattle.std.specs.Prelude.{Some, None, IfOk, IfErr, IsTrue};
+ghost use Rattle.std.specs.Thread.{IsSync};
+ghost use Rattle.mud_world.specs.State.{is_player};
+ghost use Rattle.mud_chron.specs.Inner.{written_text};
+ghost use Rattle.mud_words.specs.Line.{line_of};
+ghost use Rattle.mud_words.specs.Parse.{parsed};
+ghost use Rattle.mud_rules.specs.Outcome.{IsJourney, IsLawful};
 ghost use Rattle.mud_hall.specs.Told.{world_after};
 ghost use Rattle.mud_hall.specs.Desk.{as_player, with_told};
 ghost use Rattle.mud_hall.specs.Replies.{shown, verdict_on, Replies, Stores};
-ghost use Rattle.mud_hall.specs.Answers.{answered, Answers, IsShown};
+ghost use Rattle.mud_hall.specs.Answers.{answered, Answers, IsGuided};
 ghost use Rattle.mud_hall.specs.Alone.{Alone, alone};
 
 use crate::answering;
-use crate::crew::{Crew, guide_by, prove_by};
 use crate::fault::Fault;
+use crate::guide::{Guide, Through, by_workers};
 use crate::reply::Reply;
 use crate::texts::history_answer;
 use mud_chron::Entry;
 use mud_guide::Answer;
-use mud_rules::{Query, Verdict, decide, refusal_text, reply_text, welcome_text};
+use mud_rules::{Journey, Verdict, decide, refusal_text, reply_text, welcome_text};
 use mud_search::OpenGate;
-use mud_words::parse;
+use mud_words::{Parsed, parse};
 use mud_world::{Change, World};
 use std::alloc::{AllocError, Global};
 use std::marker::Model;
@@ -81,10 +87,20 @@ impl Solo {
     /// desk is as it was.
     pub fn act(&mut self, line: &str) -> Result<Reply, Fault>
         ensures capacity { self.new.capacity ≡ self.old.capacity }
-        ensures replies { Replies self.old.capacity self.old.state line.now (shown result) self.new.state }
+        ensures replies { Replies self.old.capacity self.old.state (parsed line.now) (shown result) self.new.state }
         ensures stored { IfErr result (λ f. f ≢ Fault.Unpublished) }
     {
-        match self.verdict(line)? {
+        let said = parse(self.alloc, line)?;
+        self.act_on(&said)
+    }
+
+    /// Acts on what a line says, as [`Solo::act`] on the line.
+    pub fn act_on(&mut self, said: &Parsed) -> Result<Reply, Fault>
+        ensures capacity { self.new.capacity ≡ self.old.capacity }
+        ensures replies { Replies self.old.capacity self.old.state (line_of said.now) (shown result) self.new.state }
+        ensures stored { IfErr result (λ f. f ≢ Fault.Unpublished) }
+    {
+        match self.verdict(said)? {
             Verdict::Refused(refusal) => {
                 let text = String::from_str(self.alloc, refusal_text(refusal))?;
                 Ok(Reply::Refused {
@@ -108,13 +124,13 @@ impl Solo {
         }
     }
 
-    // What a line is decided to be.
-    fn verdict(&self, line: &str) -> Result<Verdict, AllocError>
-        ensures decision { IfOk result (λ v. v ≡ verdict_on self.now.state.seen self.now.state.player line.now) }
+    // What is decided of what a line says.
+    fn verdict(&self, said: &Parsed) -> Result<Verdict, AllocError>
+        ensures decision { IfOk result (λ v. v
+            ≡ verdict_on self.now.state.seen self.now.state.player (line_of said.now)) }
         ensures lawful { IfOk result (IsLawful (world_after self.now.state.seen) self.now.state.player) }
     {
-        let parsed = parse(self.alloc, line)?;
-        decide(self.alloc, &self.world, Some(self.player), &parsed)
+        decide(self.alloc, &self.world, Some(self.player), said)
     }
 
     // How many changes were accepted.
@@ -160,42 +176,63 @@ impl Solo {
 
     /// Answers a line, as `Desk::ask_with` at an open gate.
     pub fn ask<R: Threads + Wait + Sync>(&self, rt: &R, line: &str) -> Result<Answer, AllocError>
-        ensures { IfOk result (λ a. Answers self.now.state line.now (answered a)) }
+        ensures { IfOk result (λ a. Answers self.now.state (parsed line.now) (answered a)) }
     {
-        match self.verdict(line)? {
-            Verdict::Ask(query) => self.explain(rt, &query),
-            Verdict::Refused(refusal) => {
-                answering::plain(self.alloc, self.version(), refusal_text(refusal))
-            }
-            Verdict::Change(_) => answering::not_understood(self.alloc, self.version()),
-            Verdict::Become(_) => answering::not_understood(self.alloc, self.version()),
+        let said = parse(self.alloc, line)?;
+        self.ask_on(rt, &said)
+    }
+
+    /// Answers what a line says, as [`Solo::ask`] the line.
+    pub fn ask_on<R: Threads + Wait + Sync>(
+        &self,
+        rt: &R,
+        said: &Parsed,
+    ) -> Result<Answer, AllocError>
+        ensures { IfOk result (λ a. Answers self.now.state (line_of said.now) (answered a)) }
+    {
+        let workers = self.workers as usize;
+        let by = Through {
+            find: |alloc: Global, world: &World, version: u32, player: u32, journey: &Journey| -> Result<
+                Answer,
+                AllocError,
+            >
+                requires { IsSync R.row × (version ≤ 65536)
+                    × IsTrue (is_player world.now player) × IsJourney world.now journey.now }
+                ensures version { IfOk result (λ a. a.version ≡ version) }
+                ensures guided { IfOk result (IsGuided world.now version (Some player) journey.now) }
+            {
+                by_workers(
+                    rt, workers, &OpenGate, alloc, world, version, player, journey,
+                )
+            },
+        };
+        self.respond(&by, said)
+    }
+
+    // Answers what a line says.
+    fn respond<S: Guide>(&self, by: &S, said: &Parsed) -> Result<Answer, AllocError>
+        requires { S.ready by.now }
+        ensures { IfOk result (λ a. Answers self.now.state (line_of said.now) (answered a)) }
+    {
+        let (version, player) = (self.version(), Some(self.player));
+        match answering::respond(by, self.alloc, &self.world, version, player, said)? {
+            Some(answer) => Ok(answer),
+            None => self.told_history(),
         }
     }
 
-    // The answer to a question.
-    fn explain<R: Threads + Wait + Sync>(&self, rt: &R, query: &Query) -> Result<Answer, AllocError>
-        requires { IsQuestion (world_after self.now.state.seen) query.now }
+    // The answer to the question about the history.
+    fn told_history(&self) -> Result<Answer, AllocError>
         ensures version { IfOk result (λ a. a.version ≡ length self.now.state.seen) }
-        ensures shown { IfOk result (λ a. IsShown self.now.state.seen self.now.state.player query.now (answered a)) }
+        ensures text { IfOk result
+            (λ a. string_bytes a.text ++ codes "\n" ≡ codes "history\n" ++ written_text self.now.state.seen) }
+        ensures cert { IfOk result (λ a. a.cert ≡ None) }
     {
-        let (version, player) = (self.version(), Some(self.player));
-        let (alloc, world) = (self.alloc, &self.world);
-        let workers = self.workers as usize;
-        let crew = Crew {
-            rt,
-            workers,
-            gate: &OpenGate,
-        };
-        match query {
-            Query::View(view) => answering::view(alloc, world, version, player, view),
-            Query::Journey(journey) => Ok(guide_by(&crew, alloc, world, version, player, journey)?),
-            Query::Proof(journey) => prove_by(&crew, alloc, world, version, player, journey),
-            Query::History => Ok(Answer {
-                version,
-                text: history_answer(alloc, &self.history)?,
-                cert: None,
-            }),
-        }
+        Ok(Answer {
+            version: self.version(),
+            text: history_answer(self.alloc, &self.history)?,
+            cert: None,
+        })
     }
 
     /// The lines that it was told: none, for nobody else is there. It takes no memory.

@@ -7,6 +7,7 @@ use Rattle.std.specs.Option.{option_map}
 use Rattle.std.proofs.lemmas.Bool.{true≢false}
 use Rattle.std.proofs.lemmas.List.{append-nil}
 use Rattle.mud_words.specs.Words.{is_blank}
+use Rattle.mud_words.specs.Line.{Line}
 use Rattle.mud_words.specs.Parse.{parsed}
 use Rattle.mud_nvt.specs.Units.{Given, Text}
 use Rattle.mud_world.specs.declared.change.Change.{Change}
@@ -46,8 +47,8 @@ stored capacity ready e (Refused v refusal text) new h = absurd h
 stored capacity ready e (Question v) new h = absurd h
 
 -- a line that is no question gets a reply of one that acts
-pub sayable : AreQuestions → (capacity : ℕ) (ready : DeskState) (line : List ℕ) (reply : Reply) (new : DeskState)
-    → is_question (parsed line) ≡ false
+pub sayable : AreQuestions → (capacity : ℕ) (ready : DeskState) (line : Line) (reply : Reply) (new : DeskState)
+    → is_question line ≡ false
     → Replies capacity ready line reply new → IsSaid reply
 sayable law capacity ready line reply new other h =
     let v : Verdict = verdict_on ready.seen ready.player line in
@@ -60,13 +61,13 @@ sayable law capacity ready line reply new other h =
     go (verdict.Become p) is (inr c) = subst IsSaid (sym c.0) tt
     go (verdict.Refused f) is (inr c) = subst IsSaid (sym c.0) tt
     go (verdict.Ask q) is (inr c) =
-        absurd (true≢false (sym (law (world_after ready.seen) ready.player (parsed line) q is) ∙ other))
+        absurd (true≢false (sym (law (world_after ready.seen) ready.player line q is) ∙ other))
 
 out_twice : (s0 s1 s2 : State) (a b : List ℕ) → s1 ≡ sends s0 a → s2 ≡ sends s1 b → s2 ≡ sends s0 (a ++ b)
 out_twice s0 s1 s2 a b p q = q ∙ ap (λ (s : State). sends s b) p ∙ sends_twice s0 a b
 
 -- memory was refused before the line came to anything
-pub unanswered : (T : TakingIn) (line : List ℕ) (s0 s1 s2 : State) (d0 d1 d2 : DoorState) → s0.has_ended ≡ false
+pub unanswered : (T : TakingIn) (line : Line) (s0 s1 s2 : State) (d0 d1 d2 : DoorState) → s0.has_ended ≡ false
     → Looked T s0 s1 d0.desk d1.desk → d2.desk ≡ d1.desk → s2 ≡ sends s1 (sent (codes "(out of memory)"))
     → Replied T line s0 s2 d0 d2
 unanswered T line s0 s1 s2 d0 d1 d2 goes looked same said =
@@ -82,8 +83,8 @@ unanswered T line s0 s1 s2 d0 d1 d2 goes looked same said =
     }
 
 -- a question was answered
-pub asked : (T : TakingIn) (line : List ℕ) (s0 s1 s2 : State) (d0 d1 d2 : DoorState) (last : Bool) (answer : Answered)
-    → is_question (parsed line) ≡ true → last ≡ is_quit (parsed line)
+pub asked : (T : TakingIn) (line : Line) (s0 s1 s2 : State) (d0 d1 d2 : DoorState) (last : Bool) (answer : Answered)
+    → is_question line ≡ true → last ≡ is_quit line
     → Looked T s0 s1 d0.desk d1.desk → d1.desk.told ≡ [] → d2.desk ≡ d1.desk → Answers d1.desk line answer
     → s2 ≡ record (sends s1 (sent (numbered answer.version answer.text))) { has_ended = last }
     → Replied T line s0 s2 d0 d2
@@ -111,8 +112,8 @@ asked T line s0 s1 s2 d0 d1 d2 last answer question quits looked all same answer
     }
 
 -- the desk acted
-pub acted : (T : TakingIn) (line : List ℕ) (s0 s1 s2 : State) (d0 d1 d2 : DoorState) (reply : Reply)
-    → s0.has_ended ≡ false → is_question (parsed line) ≡ false
+pub acted : (T : TakingIn) (line : Line) (s0 s1 s2 : State) (d0 d1 d2 : DoorState) (reply : Reply)
+    → s0.has_ended ≡ false → is_question line ≡ false
     → ((ready : DeskState) × T d0.desk ready × Replies d0.capacity ready line reply d1.desk)
     → (reply ≡ Failed Unpublished → IsShared T) → (reply ≢ Failed OutOfMemory → d1.untold ≡ [])
     → d2.desk ≡ with_told d1.desk d1.untold
@@ -210,16 +211,16 @@ pub blank_rested : (T : TakingIn) (line : List ℕ) (old new : State) (old_door 
 blank_rested T line old new old_door new_door goes blank is same =
     rested T (Text line) old new old_door new_door goes
     (λ turn rests. subst (λ (b : Bool). MatchBool b (Rests (talk_of old old_door) turn (talk_of new new_door))
-    (IsAnswered T (talk_of old old_door) line turn.notices turn.reply (talk_of new new_door))) (sym blank) rests)
+    (IsAnswered T (talk_of old old_door) (parsed line) turn.notices turn.reply (talk_of new new_door))) (sym blank) rests)
     (is ∙ ap (λ (b : Bool). sends old (if b then [] else sent (codes "(out of memory)"))) (sym blank)) same
 
 pub line_turned : (T : TakingIn) (line : List ℕ) (old new : State) (old_door new_door : DoorState)
     → is_blank line ≡ false → new_door.capacity ≡ old_door.capacity
-    → Replied T line old new old_door new_door → HasTurn T (Some (Text line)) old new old_door new_door
+    → Replied T (parsed line) old new old_door new_door → HasTurn T (Some (Text line)) old new old_door new_door
 line_turned T line old new old_door new_door blank capacity replied =
     let turn : Turn = record { unit = Some (Text line); notices = replied.lines; reply = replied.said } in
     let A = Rests (talk_of old old_door) turn (talk_of new new_door) in
-    let B = IsAnswered T (talk_of old old_door) line replied.lines replied.said (talk_of new new_door) in
+    let B = IsAnswered T (talk_of old old_door) (parsed line) replied.lines replied.said (talk_of new new_door) in
     record {
       turn = turn;
       of = refl;

@@ -40,7 +40,7 @@ looked capacity old unit lines new looks = record {
 }
 
 asked : (old : Talk) (line : List ℕ) (lines : List (List ℕ)) (said : Said) (new : Talk)
-    → IsAsked TakesIn old line lines said new
+    → IsAsked TakesIn old (parsed line) lines said new
     → IsCalls old.capacity old.desk (Some (Text line)) lines (Some said) new.desk
 asked old line lines said new asks = record {
   calls = See ∷ Told lines ∷ Ask line (Some asks.answer) ∷ [];
@@ -51,7 +51,7 @@ asked old line lines said new asks = record {
 }
 
 acted : (old : Talk) (line : List ℕ) (lines : List (List ℕ)) (said : Said) (new : Talk)
-    → IsActed TakesIn old line lines said new
+    → IsActed TakesIn old (parsed line) lines said new
     → IsCalls old.capacity old.desk (Some (Text line)) lines (Some said) new.desk
 acted old line lines said new acts = record {
   calls = Act line acts.reply ∷ Told lines ∷ [];
@@ -65,12 +65,13 @@ acted old line lines said new acts = record {
 }
 
 answered : (old : Talk) (line : List ℕ) (lines : List (List ℕ)) (said : Option Said) (new : Talk)
-    → IsAnswered TakesIn old line lines said new
+    → IsAnswered TakesIn old (parsed line) lines said new
     → IsCalls old.capacity old.desk (Some (Text line)) lines said new.desk
 answered old line lines None new looks = looked old.capacity old.desk (Some (Text line)) lines new.desk looks
 answered old line lines (Some said) new is = go (is_question (parsed line)) is
   where
-    go : (b : Bool) → MatchBool b (IsAsked TakesIn old line lines said new) (IsActed TakesIn old line lines said new)
+    go : (b : Bool)
+        → MatchBool b (IsAsked TakesIn old (parsed line) lines said new) (IsActed TakesIn old (parsed line) lines said new)
         → IsCalls old.capacity old.desk (Some (Text line)) lines (Some said) new.desk
     go true asks = asked old line lines said new asks
     go false acts = acted old line lines said new acts
@@ -97,7 +98,7 @@ turned old turn new (Some Ayt) does = rested old turn new (Some Ayt) does
 turned old turn new (Some (Answer bytes)) does = rested old turn new (Some (Answer bytes)) does
 turned old turn new (Some (Text line)) does = go (is_blank line) does
   where
-    go : (b : Bool) → MatchBool b (Rests old turn new) (IsAnswered TakesIn old line turn.notices turn.reply new)
+    go : (b : Bool) → MatchBool b (Rests old turn new) (IsAnswered TakesIn old (parsed line) turn.notices turn.reply new)
         → Of old turn new (Some (Text line))
     go true rests = rested old turn new (Some (Text line)) rests
     go false is = answered old line turn.notices turn.reply new is

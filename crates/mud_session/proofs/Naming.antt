@@ -6,6 +6,7 @@ use Rattle.std.specs.List.{flat_map}
 use Rattle.std.proofs.lemmas.List.{append-nil}
 use Rattle.std.proofs.lemmas.List.Concat.{flat_map-append}
 use Rattle.std.proofs.lemmas.List.Elements.{All-nil, All-cons, All-head, All-tail, All-append, All-weaker}
+use Rattle.mud_words.specs.Line.{Line}
 use Rattle.mud_words.specs.Parse.{parsed}
 use Rattle.mud_words.specs.Words.{is_blank}
 use Rattle.mud_nvt.specs.declared.codes.TheConstants.{IAC}
@@ -177,7 +178,7 @@ stored capacity ready e (Became v text) new h = absurd h
 stored capacity ready e (Refused v refusal text) new h = absurd h
 stored capacity ready e (Question v) new h = absurd h
 
-replied : (capacity : ℕ) (ready : DeskState) (line : List ℕ) (reply : Reply) (new : DeskState)
+replied : (capacity : ℕ) (ready : DeskState) (line : Line) (reply : Reply) (new : DeskState)
     → Replies capacity ready line reply new → NamesSaid (length new.seen) (reply_line reply)
 replied capacity ready line reply new h =
     let v : Verdict = verdict_on ready.seen ready.player line in
@@ -203,7 +204,7 @@ replied capacity ready line reply new h =
         (inr (inr (inl (f, refl)))))
     go (verdict.Ask q) (inr c) = by (Question (length ready.seen)) c.0 tt
 
-acted : (old new : Talk) (line : List ℕ) (lines : List (List ℕ)) (said : Said) → IsActed TakesIn old line lines said new
+acted : (old new : Talk) (line : Line) (lines : List (List ℕ)) (said : Said) → IsActed TakesIn old line lines said new
     → NamesUpTo (length new.desk.seen) (sent said.text)
 acted old new line lines said acts =
     let names : NamesSaid (length acts.acted.seen) (reply_line acts.reply) =
@@ -212,7 +213,7 @@ acted old new line lines said acts =
     subst (NamesSaid (length acts.acted.seen)) acts.text names in
     subst (λ (n : ℕ). NamesUpTo n (sent said.text)) (sym (ap (λ (d : DeskState). length d.seen) acts.tells.is)) here
 
-asked : (old new : Talk) (line : List ℕ) (lines : List (List ℕ)) (said : Said) → IsAsked TakesIn old line lines said new
+asked : (old new : Talk) (line : Line) (lines : List (List ℕ)) (said : Said) → IsAsked TakesIn old line lines said new
     → NamesUpTo (length new.desk.seen) (sent said.text)
 asked old new line lines said asks =
     names-numbered (length new.desk.seen) asks.answer.version asks.answer.text said.text asks.text
@@ -285,14 +286,15 @@ silent new line true = names-nil (length new.desk.seen)
 silent new line false = names-plain (length new.desk.seen) (codes "(out of memory)") (1, omega arith, refl)
 
 answered : (old new : Talk) (line : List ℕ) (lines : List (List ℕ)) (reply : Option Said)
-    → IsAnswered TakesIn old line lines reply new → Answers new (Some (Text line)) reply
+    → IsAnswered TakesIn old (parsed line) lines reply new → Answers new (Some (Text line)) reply
 answered old new line lines None looks = silent new line (is_blank line)
 answered old new line lines (Some said) is = go (is_question (parsed line)) is
   where
-    go : (b : Bool) → MatchBool b (IsAsked TakesIn old line lines said new) (IsActed TakesIn old line lines said new)
+    go : (b : Bool)
+        → MatchBool b (IsAsked TakesIn old (parsed line) lines said new) (IsActed TakesIn old (parsed line) lines said new)
         → NamesUpTo (length new.desk.seen) (sent said.text)
-    go true asks = asked old new line lines said asks
-    go false acts = acted old new line lines said acts
+    go true asks = asked old new (parsed line) lines said asks
+    go false acts = acted old new (parsed line) lines said acts
 
 turned : (old new : Talk) (turn : Turn) (unit : Option Given) → Signals unit → Does TakesIn old turn new unit
     → Answers new unit turn.reply
@@ -306,7 +308,7 @@ turned old new turn (Some (Answer bytes)) (verb, option, is) does =
     (names-one (length new.desk.seen) (Signal verb option) tt)
 turned old new turn (Some (Text line)) signals does = go (is_blank line) does
   where
-    go : (b : Bool) → MatchBool b (Rests old turn new) (IsAnswered TakesIn old line turn.notices turn.reply new)
+    go : (b : Bool) → MatchBool b (Rests old turn new) (IsAnswered TakesIn old (parsed line) turn.notices turn.reply new)
         → Answers new (Some (Text line)) turn.reply
     go true rests = rested old new turn (Some (Text line)) (silent new line (is_blank line)) rests
     go false is = answered old new line turn.notices turn.reply is

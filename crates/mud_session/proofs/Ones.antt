@@ -6,6 +6,7 @@ use Rattle.std.specs.Option.{IsSomeAnd}
 use Rattle.std.proofs.lemmas.Bool.Decides.{nat_tests}
 use Rattle.std.proofs.lemmas.Bool.{cond-true, cond-false}
 use Rattle.std.proofs.lemmas.List.{append_cancel_right}
+use Rattle.mud_words.specs.Line.{Line}
 use Rattle.mud_words.specs.Parse.{parsed}
 use Rattle.mud_words.specs.Words.{is_blank}
 use Rattle.mud_nvt.specs.Units.{Given, Text, TooLong, Ayt}
@@ -75,7 +76,7 @@ shows-one h player (verdict.Refused f) a b x y = x.0 ∙ sym y.0
 shows-one h player (verdict.Change e) a b x y = x.0 ∙ sym y.0
 shows-one h player (verdict.Become p) a b x y = x.0 ∙ sym y.0
 
-answers-one : (s : DeskState) (line : List ℕ) (a b : Answered) → Answers s line a → Answers s line b
+answers-one : (s : DeskState) (line : Line) (a b : Answered) → Answers s line a → Answers s line b
     → numbered a.version a.text ≡ numbered b.version b.text
 answers-one s line a b x y =
     ap (λ (n : ℕ). numbered n a.text) (x.version ∙ sym y.version)
@@ -140,7 +141,7 @@ stored-then capacity s e said (Became v text) new free x line = absurd x
 stored-then capacity s e said (Refused v f text) new free x line = absurd x
 stored-then capacity s e said (Question v) new free x line = absurd x
 
-reply-then : (capacity : ℕ) (s : DeskState) (line said : List ℕ) (r : Reply) (new : DeskState) → r ≢ Failed Unpublished
+reply-then : (capacity : ℕ) (s : DeskState) (line : Line) (said : List ℕ) (r : Reply) (new : DeskState) → r ≢ Failed Unpublished
     → Replies capacity s line r new → reply_line r ≡ Some said
     → IsThen capacity s (verdict_on s.seen s.player line) said new
 reply-then capacity s line said r new free x e =
@@ -227,7 +228,7 @@ come-one xs ys r s a b text other last desk none same x y = record {
   untold = ap (λ (d : DeskState). d.told) x.desk ∙ none;
 }
 
-acted-comes : (old : Talk) (line : List ℕ) (lines : List (List ℕ)) (said : Said) (new : Talk) → old.desk.told ≡ []
+acted-comes : (old : Talk) (line : Line) (lines : List (List ℕ)) (said : Said) (new : Talk) → old.desk.told ≡ []
     → IsActed TakesNone old line lines said new
     → let v = verdict_on old.desk.seen old.desk.player line in
     Comes lines said new.desk (text_then old.capacity old.desk v) false (desk_then old.capacity old.desk v)
@@ -263,7 +264,7 @@ looks-one old xs ys r s a b none same x y =
           ap (λ (d : DeskState). d.told) one.1 ∙ none;
     }
 
-asked-one : (old a b : Talk) (line : List ℕ) (xs ys : List (List ℕ)) (r s : Said) → old.desk.told ≡ []
+asked-one : (old a b : Talk) (line : Line) (xs ys : List (List ℕ)) (r s : Said) → old.desk.told ≡ []
     → IsAsked TakesNone old line xs r a → IsAsked TakesNone old line ys s b
     → AreOne xs ys (Some r) (Some s) a.desk b.desk
 asked-one old a b line xs ys r s none x y =
@@ -276,7 +277,7 @@ asked-one old a b line xs ys r s none x y =
     (record { notices = one.0; text = x.text; last = x.last; desk = one.1 })
     (record { notices = other.0; text = y.text; last = y.last; desk = other.1 })
 
-acted-one : (old a b : Talk) (line : List ℕ) (xs ys : List (List ℕ)) (r s : Said) → old.desk.told ≡ []
+acted-one : (old a b : Talk) (line : Line) (xs ys : List (List ℕ)) (r s : Said) → old.desk.told ≡ []
     → IsActed TakesNone old line xs r a → IsActed TakesNone old line ys s b
     → AreOne xs ys (Some r) (Some s) a.desk b.desk
 acted-one old a b line xs ys r s none x y =
@@ -286,29 +287,29 @@ acted-one old a b line xs ys r s none x y =
     (told-then old.capacity old.desk v ∙ none) refl (acted-comes old line xs r a none x)
     (acted-comes old line ys s b none y)
 
-said-one : (old a b : Talk) (line : List ℕ) (question : Bool) (xs ys : List (List ℕ)) (r s : Said) → old.desk.told ≡ []
+said-one : (old a b : Talk) (line : Line) (question : Bool) (xs ys : List (List ℕ)) (r s : Said) → old.desk.told ≡ []
     → MatchBool question (IsAsked TakesNone old line xs r a) (IsActed TakesNone old line xs r a)
     → MatchBool question (IsAsked TakesNone old line ys s b) (IsActed TakesNone old line ys s b)
     → AreOne xs ys (Some r) (Some s) a.desk b.desk
 said-one old a b line true xs ys r s none x y = asked-one old a b line xs ys r s none x y
 said-one old a b line false xs ys r s none x y = acted-one old a b line xs ys r s none x y
 
-answered-one : (old a b : Talk) (line : List ℕ) (xs ys : List (List ℕ)) (r s : Option Said)
+answered-one : (old a b : Talk) (line : Line) (xs ys : List (List ℕ)) (r s : Option Said)
     → old.desk.told ≡ [] → is_some r ≡ is_some s
     → IsAnswered TakesNone old line xs r a → IsAnswered TakesNone old line ys s b → AreOne xs ys r s a.desk b.desk
 answered-one old a b line xs ys None None none e x y = looks-one old.desk xs ys None None a.desk b.desk none refl x y
 answered-one old a b line xs ys None (Some s) none e x y = absurd (cc)
 answered-one old a b line xs ys (Some r) None none e x y = absurd (cc)
 answered-one old a b line xs ys (Some r) (Some s) none e x y =
-    said-one old a b line (is_question (parsed line)) xs ys r s none x y
+    said-one old a b line (is_question line) xs ys r s none x y
 
 line-one : (old a b : Talk) (line : List ℕ) (blank : Bool) (t u : Turn) → old.desk.told ≡ []
     → is_some t.reply ≡ is_some u.reply
-    → MatchBool blank (Rests old t a) (IsAnswered TakesNone old line t.notices t.reply a)
-    → MatchBool blank (Rests old u b) (IsAnswered TakesNone old line u.notices u.reply b)
+    → MatchBool blank (Rests old t a) (IsAnswered TakesNone old (parsed line) t.notices t.reply a)
+    → MatchBool blank (Rests old u b) (IsAnswered TakesNone old (parsed line) u.notices u.reply b)
     → AreOne t.notices u.notices t.reply u.reply a.desk b.desk
 line-one old a b line true t u none e x y = rests-one old a b t u none x y
-line-one old a b line false t u none e x y = answered-one old a b line t.notices u.notices t.reply u.reply none e x y
+line-one old a b line false t u none e x y = answered-one old a b (parsed line) t.notices u.notices t.reply u.reply none e x y
 
 does-one : (old a b : Talk) (unit : Option Given) (t u : Turn) → old.desk.told ≡ [] → is_some t.reply ≡ is_some u.reply
     → Does TakesNone old t a unit → Does TakesNone old u b unit

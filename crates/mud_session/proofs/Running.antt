@@ -73,9 +73,9 @@ stored-grows capacity old line e (Refused v f text) new h = absurd h
 stored-grows capacity old line e (Question v) new h = absurd h
 
 grown : (capacity : ℕ) (old : DeskState) (line : List ℕ) (reply : Reply) (new : DeskState)
-    → Replies capacity old line reply new → Grows (Act line reply) old.seen new new.seen
+    → Replies capacity old (parsed line) reply new → Grows (Act line reply) old.seen new new.seen
 grown capacity old line reply new h =
-    let v : Verdict = verdict_on old.seen old.player line in
+    let v : Verdict = verdict_on old.seen old.player (parsed line) in
     go v (plainly capacity old v reply new h)
   where
     by : (other : Reply) → reply ≡ other → Grows (Act line other) old.seen new new.seen
@@ -116,7 +116,7 @@ rested old turn new unit rests =
     record { calls = []; ones = rests.desk; said = ap (reply_in unit) rests.reply ∙ unsaid unit }
 
 asked : (old : Talk) (line : List ℕ) (lines : List (List ℕ)) (said : Said) (new : Talk)
-    → IsAsked TakesNone old line lines said new
+    → IsAsked TakesNone old (parsed line) lines said new
     → IsTurn old.capacity old.desk (Some (Text line)) (Some said) new.desk
 asked old line lines said new asks =
     let looks : Looks TakesNone old.desk lines new.desk = asks.looks in
@@ -135,11 +135,11 @@ asked old line lines said new asks =
     }
 
 acted : (old : Talk) (line : List ℕ) (lines : List (List ℕ)) (said : Said) (new : Talk)
-    → IsActed TakesNone old line lines said new
+    → IsActed TakesNone old (parsed line) lines said new
     → IsTurn old.capacity old.desk (Some (Text line)) (Some said) new.desk
 acted old line lines said new acts =
-    let replies : Replies old.capacity old.desk line acts.reply acts.acted =
-    subst (λ (d : DeskState). Replies old.capacity d line acts.reply acts.acted) acts.takes acts.replies in
+    let replies : Replies old.capacity old.desk (parsed line) acts.reply acts.acted =
+    subst (λ (d : DeskState). Replies old.capacity d (parsed line) acts.reply acts.acted) acts.takes acts.replies in
     record {
       calls = Act line acts.reply ∷ Told lines ∷ [];
       ones = (
@@ -159,13 +159,14 @@ acted old line lines said new acts =
     }
 
 answered : (old : Talk) (line : List ℕ) (lines : List (List ℕ)) (said : Option Said) (new : Talk)
-    → IsAnswered TakesNone old line lines said new
+    → IsAnswered TakesNone old (parsed line) lines said new
     → IsTurn old.capacity old.desk (Some (Text line)) said new.desk
 answered old line lines None new looks = looked old.capacity old.desk (Some (Text line)) lines new.desk looks
 answered old line lines (Some said) new is = go (is_question (parsed line)) is
   where
     go : (b : Bool)
-        → MatchBool b (IsAsked TakesNone old line lines said new) (IsActed TakesNone old line lines said new)
+        → MatchBool b (IsAsked TakesNone old (parsed line) lines said new)
+        (IsActed TakesNone old (parsed line) lines said new)
         → IsTurn old.capacity old.desk (Some (Text line)) (Some said) new.desk
     go true asks = asked old line lines said new asks
     go false acts = acted old line lines said new acts
@@ -180,7 +181,7 @@ turned old turn new (Some Ayt) does = rested old turn new (Some Ayt) does
 turned old turn new (Some (Answer bytes)) does = rested old turn new (Some (Answer bytes)) does
 turned old turn new (Some (Text line)) does = go (is_blank line) does
   where
-    go : (b : Bool) → MatchBool b (Rests old turn new) (IsAnswered TakesNone old line turn.notices turn.reply new)
+    go : (b : Bool) → MatchBool b (Rests old turn new) (IsAnswered TakesNone old (parsed line) turn.notices turn.reply new)
         → IsTurn old.capacity old.desk (Some (Text line)) turn.reply new.desk
     go true rests = rested old turn new (Some (Text line)) rests
     go false is = answered old line turn.notices turn.reply new is

@@ -3,6 +3,7 @@ use Rattle.std.proofs.Common.{◌≡◌, ℕ, Bool, true, false, List, [], ◌�
 use Rattle.std.proofs.Common.{append_assoc, inl, inr}
 use Rattle.std.specs.Prelude.{◌⊎◌, MatchBool}
 use Rattle.std.proofs.lemmas.List.{append-nil}
+use Rattle.mud_words.specs.Line.{Line}
 use Rattle.mud_words.specs.Parse.{parsed}
 use Rattle.mud_words.specs.Words.{is_blank}
 use Rattle.mud_nvt.specs.Units.{Given, Text, TooLong, Ayt, Answer}
@@ -49,7 +50,7 @@ stores-add capacity old e (Became v text) new h = absurd h
 stores-add capacity old e (Refused v refusal text) new h = absurd h
 stores-add capacity old e (Question v) new h = absurd h
 
-replies-add : (capacity : ℕ) (old : DeskState) (line : List ℕ) (reply : Reply) (new : DeskState)
+replies-add : (capacity : ℕ) (old : DeskState) (line : Line) (reply : Reply) (new : DeskState)
     → Replies capacity old line reply new → Adds old new
 replies-add capacity old line reply new h =
     let v : Verdict = verdict_on old.seen old.player line in
@@ -82,16 +83,16 @@ looked : (old new : DeskState) (lines : List (List ℕ)) → Looks TakesIn old l
 looked old new lines looks = told old looks.ready looks.ready new lines looks.takes
     (adds-same looks.ready looks.ready refl) looks.tells
 
-acted : (old new : Talk) (line : List ℕ) (lines : List (List ℕ)) (said : Said) → IsActed TakesIn old line lines said new
+acted : (old new : Talk) (line : Line) (lines : List (List ℕ)) (said : Said) → IsActed TakesIn old line lines said new
     → IsToldOnce old.desk lines new.desk
 acted old new line lines said acts =
     told old.desk acts.ready acts.acted new.desk lines acts.takes
     (replies-add old.capacity acts.ready line acts.reply acts.acted acts.replies) acts.tells
 
-answered : (old new : Talk) (line : List ℕ) (lines : List (List ℕ)) (said : Option Said)
+answered : (old new : Talk) (line : Line) (lines : List (List ℕ)) (said : Option Said)
     → IsAnswered TakesIn old line lines said new → IsToldOnce old.desk lines new.desk
 answered old new line lines None looks = looked old.desk new.desk lines looks
-answered old new line lines (Some said) is = go (is_question (parsed line)) is
+answered old new line lines (Some said) is = go (is_question line) is
   where
     go : (b : Bool) → MatchBool b (IsAsked TakesIn old line lines said new) (IsActed TakesIn old line lines said new)
         → IsToldOnce old.desk lines new.desk
@@ -116,10 +117,10 @@ turned old new turn (Some Ayt) does = rested old new turn does
 turned old new turn (Some (Answer bytes)) does = rested old new turn does
 turned old new turn (Some (Text line)) does = go (is_blank line) does
   where
-    go : (b : Bool) → MatchBool b (Rests old turn new) (IsAnswered TakesIn old line turn.notices turn.reply new)
+    go : (b : Bool) → MatchBool b (Rests old turn new) (IsAnswered TakesIn old (parsed line) turn.notices turn.reply new)
         → IsToldOnce old.desk turn.notices new.desk
     go true rests = rested old new turn rests
-    go false is = answered old new line turn.notices turn.reply is
+    go false is = answered old new (parsed line) turn.notices turn.reply is
 
 pub told_once : (old new : Talk) (turn : Turn) → Takes TakesIn old turn new
     → IsToldOnce old.desk turn.notices new.desk

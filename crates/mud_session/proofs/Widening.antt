@@ -1,13 +1,15 @@
 -- A text that is widened where it stands, from its end on.
 use Rattle.std.proofs.Common.{◌≡◌, ◌≢◌, ℕ, ◌+◌, ◌-◌, ◌<◌, ◌≤◌, Bool, true, false, List, [], ◌∷◌, ◌++◌}
 use Rattle.std.proofs.Common.{length, take, drop, get_or, set, refl, sym, ap, ◌∙◌, arith}
-use Rattle.std.proofs.Common.{append_assoc, length-append, length-set}
+use Rattle.std.proofs.Common.{append_assoc, length-append, length-set, length-drop}
 use Rattle.std.specs.Prelude.{◌==◌, if◌then◌else◌}
 use Rattle.std.specs.List.{flat_map}
 use Rattle.std.proofs.lemmas.Bool.Decides.{nat_tests}
 use Rattle.std.proofs.Math.Seq.{take-append_seam}
 use Rattle.std.proofs.lemmas.List.{take_all, take_more, take-set-le, drop-set, append-nil, length-take-le}
 use Rattle.std.proofs.lemmas.List.Concat.{flat_map-append}
+use Rattle.std.proofs.lemmas.List.Elements.{All-head, All-tail}
+use Rattle.mud_chron.specs.Faults.{HasNoLineFeed}
 use Rattle.mud_session.specs.Inner.{on_wire}
 
 -- the text on the wire
@@ -31,6 +33,29 @@ one-wide b = go (b == 10) refl
 pub wide-longer : (xs : List ℕ) → length xs ≤ length (wide xs)
 wide-longer [] = omega arith
 wide-longer (x ∷ xs) = omega (arith, one-wide x, wide-longer xs, length-append (on_wire x) (wide xs))
+
+-- a line stays as it is
+pub line-wide : (line : List ℕ) → HasNoLineFeed line → wide line ≡ line
+line-wide [] all = refl
+line-wide (b ∷ line) all =
+    ap (λ (x : List ℕ). x ++ wide line) (other-wide b (All-head (λ b. b ≢ 10) b line all))
+    ∙ ap (λ (x : List ℕ). b ∷ x) (line-wide line (All-tail (λ b. b ≢ 10) b line all))
+
+-- a line that is ended, and what stands behind it
+pub cut-wide : (line rest : List ℕ) → HasNoLineFeed line → wide (line ++ 10 ∷ rest) ≡ line ++ (13 ∷ 10 ∷ wide rest)
+cut-wide line rest all =
+    flat_map-append on_wire line (10 ∷ rest) ∙ ap (λ (x : List ℕ). x ++ (13 ∷ 10 ∷ wide rest)) (line-wide line all)
+
+-- a line more was sent, with its end, and what stood behind it is left
+pub line-more : (bytes line ended out : List ℕ) → HasNoLineFeed line → bytes ≡ line ++ 10 ∷ drop 1 ended
+    → ((out ++ line) ++ 13 ∷ 10 ∷ []) ++ wide (take (length ended - 1) (drop 1 ended)) ≡ out ++ wide bytes
+line-more bytes line ended out all is =
+    let left : take (length ended - 1) (drop 1 ended) ≡ drop 1 ended =
+    take_all (length ended - 1) (drop 1 ended) (omega (arith, length-drop 1 ended)) in
+    ap (λ (x : List ℕ). ((out ++ line) ++ 13 ∷ 10 ∷ []) ++ wide x) left
+    ∙ append_assoc (out ++ line) (13 ∷ 10 ∷ []) (wide (drop 1 ended))
+    ∙ append_assoc out line (13 ∷ 10 ∷ wide (drop 1 ended))
+    ∙ ap (λ (x : List ℕ). out ++ x) (sym (ap wide is ∙ cut-wide line (drop 1 ended) all))
 
 wide-next : (xs : List ℕ) (k b : ℕ) → k < length xs → b ≡ get_or xs k 0
     → wide (take (k + 1) xs) ≡ wide (take k xs) ++ on_wire b

@@ -1,6 +1,7 @@
 -- The versions that a session names in what it sends.
 use Rattle.std.specs.Prelude.{◌≡◌, ◌≤◌, ◌⊎◌, ℕ, List, [], ◌∷◌, codes, Some, All, Contains}
 use Rattle.std.specs.List.{flat_map}
+use Rattle.mud_words.specs.Line.{Line}
 use Rattle.mud_nvt.specs.declared.codes.TheConstants.{IAC}
 use Rattle.mud_world.specs.State.{State as World}
 use Rattle.mud_world.specs.declared.change.Change.{Change}
@@ -23,7 +24,7 @@ abbrev pub IsSaidOf : ℕ → List ℕ → Type 0
 IsSaidOf v text =
     ((w : World) × (e : Change) × (text ≡ reply_text w e)) ⊎ ((p : ℕ) × (text ≡ welcome_text p))
     ⊎ ((f : Refusal) × (text ≡ refusal_text f))
-    ⊎ ((d : DeskState) × (line : List ℕ) × (a : Answered) × Answers d line a × (a.version ≡ v) × (a.text ≡ text))
+    ⊎ ((d : DeskState) × (line : Line) × (a : Answered) × Answers d line a × (a.version ≡ v) × (a.text ≡ text))
 
 -- a notice of a change that somebody heard, which names no version above `most`
 abbrev pub IsNotice : ℕ → List ℕ → Type 0

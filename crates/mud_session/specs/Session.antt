@@ -2,6 +2,7 @@
 use Rattle.std.specs.Prelude.{◌≡◌, ◌≢◌, ℕ, Bool, false, ◌==◌, if◌then◌else◌, MatchBool, Option, None, Some}
 use Rattle.std.specs.Prelude.{List, [], ◌∷◌, ◌++◌, codes, decimal, map}
 use Rattle.std.specs.List.{flat_map}
+use Rattle.mud_words.specs.Line.{Line}
 use Rattle.mud_words.specs.Parse.{parsed}
 use Rattle.mud_words.specs.Words.{is_blank}
 use Rattle.mud_nvt.specs.Units.{Given, Text, TooLong, Ayt, Answer}
@@ -64,7 +65,7 @@ pub record Looks (takes_in : TakingIn) (old : DeskState) (lines : List (List ℕ
   pub tells : HandsOut ready lines new
 
 -- a line acts: the desk takes entries in and replies; all that it was told is sent, and then the reply
-pub record IsActed (takes_in : TakingIn) (old : Talk) (line : List ℕ) (lines : List (List ℕ)) (said : Said)
+pub record IsActed (takes_in : TakingIn) (old : Talk) (line : Line) (lines : List (List ℕ)) (said : Said)
     (new : Talk) : Type 0 where
   pub ready : DeskState
   pub takes : takes_in old.desk ready
@@ -78,21 +79,20 @@ pub record IsActed (takes_in : TakingIn) (old : Talk) (line : List ℕ) (lines :
   pub goes_on : said.is_last ≡ false
 
 -- a line asks: the desk takes entries in, all that it was told is sent, and then the answer by what it has seen
-pub record IsAsked (takes_in : TakingIn) (old : Talk) (line : List ℕ) (lines : List (List ℕ)) (said : Said)
+pub record IsAsked (takes_in : TakingIn) (old : Talk) (line : Line) (lines : List (List ℕ)) (said : Said)
     (new : Talk) : Type 0 where
   pub looks : Looks takes_in old.desk lines new.desk
   pub all : new.desk.told ≡ []
   pub answer : Answered
   pub answers : Answers new.desk line answer
   pub text : said.text ≡ numbered answer.version answer.text
-  pub last : said.is_last ≡ is_quit (parsed line)
+  pub last : said.is_last ≡ is_quit line
 
 -- a line that is not blank is replied to, or memory is refused
-abbrev pub IsAnswered : TakingIn → Talk → List ℕ → List (List ℕ) → Option Said → Talk → Type 0
+abbrev pub IsAnswered : TakingIn → Talk → Line → List (List ℕ) → Option Said → Talk → Type 0
 IsAnswered takes_in old line lines None new = Looks takes_in old.desk lines new.desk
 IsAnswered takes_in old line lines (Some said) new =
-    MatchBool (is_question (parsed line)) (IsAsked takes_in old line lines said new)
-    (IsActed takes_in old line lines said new)
+    MatchBool (is_question line) (IsAsked takes_in old line lines said new) (IsActed takes_in old line lines said new)
 
 -- nothing is done
 pub record Rests (old : Talk) (turn : Turn) (new : Talk) : Type 0 where
@@ -104,7 +104,7 @@ pub record Rests (old : Talk) (turn : Turn) (new : Talk) : Type 0 where
 abbrev pub Does : TakingIn → Talk → Turn → Talk → Option Given → Type 0
 Does takes_in old turn new None = Looks takes_in old.desk turn.notices new.desk × (turn.reply ≡ None)
 Does takes_in old turn new (Some (Text line)) =
-    MatchBool (is_blank line) (Rests old turn new) (IsAnswered takes_in old line turn.notices turn.reply new)
+    MatchBool (is_blank line) (Rests old turn new) (IsAnswered takes_in old (parsed line) turn.notices turn.reply new)
 Does takes_in old turn new (Some other) = Rests old turn new
 
 -- one turn

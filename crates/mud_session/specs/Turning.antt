@@ -2,6 +2,7 @@
 use Rattle.std.specs.Prelude.{◌≡◌, ℕ, List, ◌++◌, codes, Option, Some, None}
 use Rattle.std.specs.Option.{option_map}
 use Rattle.std.specs.List.{flat_map}
+use Rattle.mud_words.specs.Line.{Line}
 use Rattle.mud_nvt.specs.Units.{Given}
 use Rattle.mud_hall.specs.declared.fault.Fault.TheVariants.{OutOfMemory, HistoryFull, Unpublished, DesksFull}
 use Rattle.mud_hall.specs.Desk.{DeskState, HandsOut}
@@ -44,7 +45,7 @@ IsSaid (Failed Unpublished) = Unit {0}
 IsSaid (Failed DesksFull) = ⊥
 
 -- a line that is not blank is answered, and what is sent for it is to be taken out
-pub record Replied (takes_in : TakingIn) (line : List ℕ) (old new : State)
+pub record Replied (takes_in : TakingIn) (line : Line) (old new : State)
     (old_door new_door : DoorState) : Type 0 where
   pub lines : List (List ℕ)
   pub said : Option Said

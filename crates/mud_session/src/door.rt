@@ -2,6 +2,7 @@
 
 ghost use Rattle.std.specs.Prelude.{◌≡◌, ◌≢◌, ◌++◌, [], IfOk, IfErr, OnOk, map, string_bytes};
 ghost use Rattle.std.specs.Thread.{IsSync};
+ghost use Rattle.mud_words.specs.Line.{line_of};
 ghost use Rattle.mud_hall.specs.Desk.{DeskState, with_told};
 ghost use Rattle.mud_hall.specs.Replies.{Failed, Replies, shown};
 ghost use Rattle.mud_hall.specs.Answers.{Answers, answered};
@@ -10,6 +11,7 @@ ghost use Rattle.mud_session.specs.State.{DoorState};
 
 use mud_guide::Answer;
 use mud_hall::{Fault, Reply, Solo};
+use mud_words::Parsed;
 use std::sync::Wait;
 use std::thread::Threads;
 
@@ -20,11 +22,11 @@ pub trait Door {
 
     ghost takes_in: { TakingIn };
 
-    /// Takes entries in, and replies to a line that acts.
-    fn act<X: Threads + Wait + Sync>(&mut self, rt: &X, line: &str) -> Result<Reply, Fault>
+    /// Takes entries in, and replies to a line that acts, by what it says.
+    fn act<X: Threads + Wait + Sync>(&mut self, rt: &X, line: &Parsed) -> Result<Reply, Fault>
         ensures capacity { (state self.new).capacity ≡ (state self.old).capacity }
         ensures replies { (ready : DeskState) × takes_in (state self.old).desk ready
-            × Replies (state self.old).capacity ready line.now (shown result) (state self.new).desk }
+            × Replies (state self.old).capacity ready (line_of line.now) (shown result) (state self.new).desk }
         ensures stored { shown result ≡ Failed Fault.Unpublished → IsShared takes_in }
         ensures told { shown result ≢ Failed Fault.OutOfMemory → (state self.new).untold ≡ [] };
 
@@ -35,13 +37,13 @@ pub trait Door {
         ensures told { OnOk result ((state self.new).untold ≡ []) }
         ensures fault { IfErr result (λ f. f ≡ Fault.OutOfMemory) };
 
-    /// Answers a line that asks, by exactly what the desk has seen.
-    fn ask<X: Threads + Wait + Sync>(&mut self, rt: &X, line: &str) -> Result<Answer, Fault>
+    /// Answers a line that asks, by what it says and exactly what the desk has seen.
+    fn ask<X: Threads + Wait + Sync>(&mut self, rt: &X, line: &Parsed) -> Result<Answer, Fault>
         requires { IsSync X.row }
         ensures capacity { (state self.new).capacity ≡ (state self.old).capacity }
         ensures same { (state self.new).desk ≡ (state self.old).desk }
         ensures told { OnOk result ((state self.new).untold ≡ []) }
-        ensures answers { IfOk result (λ a. Answers (state self.old).desk line.now (answered a)) }
+        ensures answers { IfOk result (λ a. Answers (state self.old).desk (line_of line.now) (answered a)) }
         ensures fault { IfErr result (λ f. f ≡ Fault.OutOfMemory) };
 
     /// The lines that the desk was told, each once. It takes no memory.
@@ -56,16 +58,16 @@ impl Door for Solo {
 
     ghost takes_in = { TakesNone };
 
-    fn act<X: Threads + Wait + Sync>(&mut self, _rt: &X, line: &str) -> Result<Reply, Fault> {
-        self.act(line)
+    fn act<X: Threads + Wait + Sync>(&mut self, _rt: &X, line: &Parsed) -> Result<Reply, Fault> {
+        self.act_on(line)
     }
 
     fn see(&mut self) -> Result<(), Fault> {
         Ok(())
     }
 
-    fn ask<X: Threads + Wait + Sync>(&mut self, rt: &X, line: &str) -> Result<Answer, Fault> {
-        Ok(Solo::ask(self, rt, line)?)
+    fn ask<X: Threads + Wait + Sync>(&mut self, rt: &X, line: &Parsed) -> Result<Answer, Fault> {
+        Ok(self.ask_on(rt, line)?)
     }
 
     fn take_told(&mut self) -> Vec<String> {

@@ -7,6 +7,7 @@ use crate::door::Door;
 use mud_guide::Answer;
 use mud_hall::{Desk, Fault, Hall, HallName, Reply};
 use mud_search::OpenGate;
+use mud_words::Parsed;
 use std::marker::Model;
 use std::sync::Wait;
 use std::thread::Threads;
@@ -98,17 +99,18 @@ impl<'h, J: HallName> Door for Seat<'h, J> {
 
     ghost takes_in = { TakesIn };
 
-    fn act<X: Threads + Wait + Sync>(&mut self, rt: &X, line: &str) -> Result<Reply, Fault> {
-        self.hall.act(rt, &mut self.desk, line)
+    fn act<X: Threads + Wait + Sync>(&mut self, rt: &X, line: &Parsed) -> Result<Reply, Fault> {
+        self.hall.act_on(rt, &mut self.desk, line)
     }
 
     fn see(&mut self) -> Result<(), Fault> {
         self.desk.see_to(self.hall, self.most)
     }
 
-    fn ask<X: Threads + Wait + Sync>(&mut self, rt: &X, line: &str) -> Result<Answer, Fault> {
+    fn ask<X: Threads + Wait + Sync>(&mut self, rt: &X, line: &Parsed) -> Result<Answer, Fault> {
         let workers = self.workers as usize;
-        self.desk.ask_with(rt, self.hall, line, workers, &OpenGate)
+        self.desk
+            .ask_on_with(rt, self.hall, line, workers, &OpenGate)
     }
 
     fn take_told(&mut self) -> Vec<String> {

@@ -13,7 +13,7 @@ use mud_hall::{Fault, Reply};
 use mud_nvt::{Nvt, Unit};
 use mud_rules::laws::questions;
 use mud_rules::{is_question, is_quit};
-use mud_words::{is_blank, parse};
+use mud_words::{Parsed, is_blank, parse};
 use std::alloc::{AllocError, Global};
 use std::marker::Model;
 use std::sync::Wait;
@@ -37,6 +37,7 @@ impl Model for Session {
 }
 
 impl Session {
+    ghost use Rattle.mud_words.specs.Line.{Line, line_of};
     ghost use Rattle.mud_words.specs.Parse.{parsed};
     ghost use Rattle.mud_rules.specs.Table.{is_question, is_quit};
     ghost use Rattle.mud_hall.specs.Desk.{with_told};
@@ -205,7 +206,7 @@ impl Session {
         line: &str,
     ) -> Result<(), AllocError>
         requires { self.old.has_ended ≡ false }
-        ensures replied { OnOk result (Replied D.takes_in line.now
+        ensures replied { OnOk result (Replied D.takes_in (parsed line.now)
             self.old self.new (D.state door.old) (D.state door.new)) }
         ensures capacity { (D.state door.new).capacity ≡ (D.state door.old).capacity }
     {
@@ -213,9 +214,9 @@ impl Session {
             Err(_) => self.refuse(door),
             Ok(parsed) => {
                 if is_question(&parsed) {
-                    self.ask(rt, door, line, is_quit(&parsed))
+                    self.ask(rt, door, &parsed)
                 } else {
-                    self.act(rt, door, line)
+                    self.act(rt, door, &parsed)
                 }
             }
         }
@@ -224,7 +225,7 @@ impl Session {
     // A line for which memory was refused before it came to the desk.
     fn refuse<D: Door>(&mut self, door: &mut D) -> Result<(), AllocError>
         requires { self.old.has_ended ≡ false }
-        ensures replied { OnOk result ((line : List ℕ)
+        ensures replied { OnOk result ((line : Line)
             → Replied D.takes_in line self.old self.new (D.state door.old) (D.state door.new)) }
         ensures capacity { (D.state door.new).capacity ≡ (D.state door.old).capacity }
     {
@@ -237,13 +238,11 @@ impl Session {
         &mut self,
         rt: &X,
         door: &mut D,
-        line: &str,
-        is_last: bool,
+        line: &Parsed,
     ) -> Result<(), AllocError>
         requires goes_on { self.old.has_ended ≡ false }
-        requires question { is_question (parsed line.now) ≡ true }
-        requires last { is_last ≡ is_quit (parsed line.now) }
-        ensures replied { OnOk result (Replied D.takes_in line.now
+        requires question { is_question (line_of line.now) ≡ true }
+        ensures replied { OnOk result (Replied D.takes_in (line_of line.now)
             self.old self.new (D.state door.old) (D.state door.new)) }
         ensures capacity { (D.state door.new).capacity ≡ (D.state door.old).capacity }
     {
@@ -253,7 +252,7 @@ impl Session {
         match door.ask(rt, line) {
             Ok(answer) => {
                 self.send_answer(answer.version, answer.text)?;
-                self.has_ended = is_last;
+                self.has_ended = is_quit(line);
                 Ok(())
             }
             Err(_) => self.send("(out of memory)"),
@@ -265,11 +264,11 @@ impl Session {
         &mut self,
         rt: &X,
         door: &mut D,
-        line: &str,
+        line: &Parsed,
     ) -> Result<(), AllocError>
         requires goes_on { self.old.has_ended ≡ false }
-        requires acts { is_question (parsed line.now) ≡ false }
-        ensures replied { OnOk result (Replied D.takes_in line.now
+        requires acts { is_question (line_of line.now) ≡ false }
+        ensures replied { OnOk result (Replied D.takes_in (line_of line.now)
             self.old self.new (D.state door.old) (D.state door.new)) }
         ensures capacity { (D.state door.new).capacity ≡ (D.state door.old).capacity }
     {

@@ -4,19 +4,21 @@ ghost use Rattle.std.specs.Prelude.{◌≡◌, ◌++◌, ◌+◌, ◌≤◌, len
 ghost use Rattle.std.specs.List.{flat_map};
 ghost use Rattle.mud_session.specs.Inner.{on_wire};
 
+use memchr::memchr;
 use std::alloc::AllocError;
 
 /// Appends the text.
 pub(crate) fn push_on_wire(out: &mut Vec<u8>, text: &[u8]) -> Result<(), AllocError>
     ensures { OnOk result (out.new.items ≡ out.old.items ++ flat_map on_wire text.now) }
 {
-    for byte in text {
-        if *byte == b'\n' {
-            out.push(b'\r')?;
-        }
-        out.push(*byte)?;
+    let mut rest = text;
+    while let Some(at) = memchr(b'\n', rest) {
+        let (line, ended) = rest.split_at(at);
+        out.extend_from_slice(line)?;
+        out.extend_from_slice(b"\r\n")?;
+        rest = &ended[1..];
     }
-    Ok(())
+    out.extend_from_slice(rest)
 }
 
 /// Appends the number of an answer and its text, which is widened where it stands: so it is in memory only once.

@@ -6,7 +6,7 @@ use Rattle.mud_cert.specs.Text.{cert_text}
 use Rattle.mud_hall.proofs.answering.prove.Goals as goal
 
 pub returns-clause-proven : goal.returns-clause-proven
-returns-clause-proven c =
+returns-clause-proven g c =
     let proves : Option Certificate → Type 0 =
     λ o. IsSomeAnd o (λ k. string_bytes c.in_ok-text-in-Some.text ++ codes "\n" ≡ codes "proof\n" ++ cert_text k) in (
       c.in_ok-answer.answer,

@@ -7,7 +7,7 @@ use Rattle.mud_hall.proofs.desk.Desk.guest.Goals as goal
 
 pub returns : goal.returns
 returns g c =
-    let r = c.self.inside.replica in
+    let r = c.self.inside.replica.value in
     let none : map string_bytes c.new.result.items ++ notices None (take r.at r.list) (drop r.at r.list) ≡ [] =
     rw c.new.ensures.items (notices-none (take r.at r.list) (drop r.at r.list)) in
     let anew : View → View = λ v. record { state = as_guest v.state; at = v.at } in

@@ -7,7 +7,7 @@ use Rattle.mud_hall.proofs.desk.Desk.guest_at.Goals as goal
 
 pub returns-clause-new : goal.returns-clause-new
 returns-clause-new g c =
-    let r = c.args.replica in
+    let r = c.args.replica.value in
     let new = state_of c.args.number None r c.new.result.items (map string_bytes c.new-2.result.items) in
     record {
       from = c.requires.number.0;

@@ -1,8 +1,9 @@
-use Rattle.std.proofs.Common.{◌≡◌, ◌++◌, ◌∷◌, [], None, sym, ap, ◌∙◌, subst}
+use Rattle.std.proofs.Common.{List, ◌≡◌, ◌++◌, ◌∷◌, [], None, sym, ap, ◌∙◌, subst}
 use Rattle.mud_world.specs.Legal.{refusal}
 use Rattle.mud_rules.specs.Outcome.{IsActor}
 use Rattle.mud_chron.specs.Entry.{Accepted}
 use Rattle.mud_chron.proofs.Spellable.{legal_is_spellable}
+use Rattle.mud_row.specs.Known.{Standing}
 use Rattle.mud_hall.specs.Told.{world_after}
 use Rattle.mud_hall.specs.Desk.{View}
 use Rattle.mud_hall.proofs.Seats.{world-sound}
@@ -11,7 +12,7 @@ use Rattle.mud_hall.proofs.desk.Desk.store.Goals as goal
 
 pub new-requires : goal.new-requires
 new-requires g c =
-    let list = c.self.inside.replica.list in
+    let list = c.self.inside.replica.value.list in
     let legal : refusal (world_after list) c.args.change ≡ None =
     subst (λ (v : View). refusal (world_after v.state.seen) c.args.change ≡ None)
     (sym c.self.view_is) c.requires.lawful.0 in
@@ -20,7 +21,7 @@ new-requires g c =
 
 pub invariant_of-self-in-Ok : goal.invariant_of-self-in-Ok
 invariant_of-self-in-Ok g c =
-    let was = c.self.inside.replica in
+    let was = c.self.inside.replica.value in
     let e = c.args.change in
     let legal : refusal (world_after was.list) e ≡ None = subst
     (λ (v : View). refusal (world_after v.state.seen) e ≡ None) (sym c.self.view_is) c.requires.lawful.0 in
@@ -29,5 +30,7 @@ invariant_of-self-in-Ok g c =
     (sym c.self.view_is) c.requires.lawful.1 in
     held-stored g.J.HallName.cells g.J.HallName.loaded c.self.inside.number c.self.inside.player was c.publish.new.self
     e c.self.invariant
-    (c.in-Ok.ensures.published.0 ∙ ap (λ (x : Accepted). was.list ++ x ∷ [])
-    (c.in_ok-entry.ensures.ok ∙ c.new.ensures)) c.in-Ok.ensures.still.0 legal actor
+    (c.in-Ok.ensures.published.0 ∙ ap (λ (l : List Accepted). l ++ c.in_ok-entry.entry.value ∷ [])
+    (ap (λ (r : Standing). r.list) c.deref_mut.ensures.value) ∙ ap (λ (x : Accepted). was.list ++ x ∷ [])
+    (c.in_ok-entry.ensures.ok ∙ c.new.ensures))
+    (c.in-Ok.ensures.still.0 ∙ ap (λ (r : Standing). r.row) c.deref_mut.ensures.value) legal actor

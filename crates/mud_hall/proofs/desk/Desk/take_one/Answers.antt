@@ -1,4 +1,4 @@
-use Rattle.std.proofs.Common.{◌≡◌, ◌++◌, ◌∷◌, [], ◌+◌, ◌<◌, ℕ, length, map, sym, ap, ◌∙◌, List}
+use Rattle.std.proofs.Common.{◌≡◌, ◌++◌, ◌∷◌, [], ◌+◌, ◌<◌, ℕ, length, map, sym, ap, ◌∙◌, subst, List, slice_get, Some}
 use Rattle.std.specs.Prelude.{string_bytes}
 use Rattle.std.specs.Option.{option_to_list}
 use Rattle.std.proofs.lemmas.List.{append-nil, map-append}
@@ -8,9 +8,11 @@ use Rattle.mud_hall.proofs.desk.Desk.take_one.Goals as goal
 
 pub returns-in-Some-line-clause-still : goal.returns-in-Some-line-clause-still
 returns-in-Some-line-clause-still g c =
-    let was : Standing = c.self.inside.replica in
-    let same : c.peek.new.self ≡ was = c.peek.ensures.same in
-    let place : was.at < length was.list = c.in-Some.ensures.place in
+    let was : Standing = c.self.inside.replica.value in
+    let boxed : c.deref_mut-replica.result.now ≡ was = c.deref_mut-replica.ensures.value in
+    let same : c.peek.new.self ≡ was = c.peek.ensures.same ∙ boxed in
+    let place : was.at < length was.list =
+    subst (λ (r : Standing). r.at < length r.list) boxed c.in-Some.ensures.place in
     let further : c.step.new.self.at ≡ c.peek.new.self.at + 1 =
     stepped c.in_ok-step.field-0 c.peek.new.self.at
     (length c.peek.new.self.list) c.step.new.self.at c.in_ok-step.ensures.ok (rw same place) in
@@ -19,7 +21,7 @@ returns-in-Some-line-clause-still g c =
     c.self.inside.calls.items (map string_bytes c.self.inside.told.items)
     (map string_bytes c.push_reserved.new.self.items) line c.in-Some.entry.now
     (c.in_ok-step.ensures.still.1 ∙ ap (λ s. s.list) same) (further ∙ ap (λ s. s.at + 1) same)
-    (sym c.in-Some.ensures.entry)
+    (subst (λ (r : Standing). slice_get r.list r.at ≡ Some c.in-Some.entry.now) boxed (sym c.in-Some.ensures.entry))
     (ap (map string_bytes) (c.push_reserved.ensures.items ∙ ap
     (λ w. w ++ c.in-Some-line.line ∷ []) c.reserve.ensures.items)
     ∙ map-append string_bytes c.self.inside.told.items (c.in-Some-line.line ∷ []))
@@ -30,9 +32,11 @@ returns-in-Some-line-clause-still g c =
 
 pub returns-in_default-line-clause-still : goal.returns-in_default-line-clause-still
 returns-in_default-line-clause-still g c =
-    let was : Standing = c.self.inside.replica in
-    let same : c.peek.new.self ≡ was = c.peek.ensures.same in
-    let place : was.at < length was.list = c.in-Some.ensures.place in
+    let was : Standing = c.self.inside.replica.value in
+    let boxed : c.deref_mut-replica.result.now ≡ was = c.deref_mut-replica.ensures.value in
+    let same : c.peek.new.self ≡ was = c.peek.ensures.same ∙ boxed in
+    let place : was.at < length was.list =
+    subst (λ (r : Standing). r.at < length r.list) boxed c.in-Some.ensures.place in
     let further : c.step.new.self.at ≡ c.peek.new.self.at + 1 =
     stepped c.in_ok-step.field-0 c.peek.new.self.at
     (length c.peek.new.self.list) c.step.new.self.at c.in_ok-step.ensures.ok (rw same place) in
@@ -41,7 +45,7 @@ returns-in_default-line-clause-still g c =
     c.self.inside.calls.items (map string_bytes c.self.inside.told.items)
     (map string_bytes c.reserve.new.self.items) line c.in-Some.entry.now
     (c.in_ok-step.ensures.still.1 ∙ ap (λ s. s.list) same) (further ∙ ap (λ s. s.at + 1) same)
-    (sym c.in-Some.ensures.entry)
+    (subst (λ (r : Standing). slice_get r.list r.at ≡ Some c.in-Some.entry.now) boxed (sym c.in-Some.ensures.entry))
     (ap (map string_bytes) c.reserve.ensures.items ∙ sym (append-nil (map string_bytes c.self.inside.told.items)))
     (marked c.peek.new.self was c.self.inside.player c.in-Some.entry.now c.at-version.result c.world.result.now line
     same place c.at-version.ensures.at c.world.ensures (sym

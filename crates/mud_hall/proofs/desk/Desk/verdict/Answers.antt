@@ -5,8 +5,8 @@ use Rattle.mud_hall.proofs.desk.Desk.verdict.Goals as goal
 pub returns-clause-decision : goal.returns-clause-decision
 returns-clause-decision g c =
     let s = c.args.self.now.state in
-    decided c.world.result.now s.seen c.player.result s.player (line_of c.in_ok-parsed.parsed) c.args.line.now
-    c.decide.result c.world.ensures c.player.ensures.player c.in_ok-parsed.ensures c.decide.ensures.decision
+    decided c.world.result.now s.seen c.player.result s.player (line_of c.args.said.now) c.decide.result
+    c.world.ensures c.player.ensures.player c.decide.ensures.decision
 
 pub returns-clause-lawful : goal.returns-clause-lawful
 returns-clause-lawful g c =

@@ -1,4 +1,6 @@
 use Rattle.std.proofs.Common.{◌≡◌, length, sym, ap, ◌∙◌}
+use Rattle.mud_chron.specs.Replay.{world_at}
+use Rattle.mud_row.specs.Known.{Standing}
 use Rattle.mud_hall.specs.Told.{world_after}
 use Rattle.mud_hall.specs.Desk.{View}
 use Rattle.mud_hall.proofs.Storing.{all_in}
@@ -6,7 +8,7 @@ use Rattle.mud_hall.proofs.desk.Desk.world.Goals as goal
 
 pub returns : goal.returns
 returns g c =
-    let r = c.self.inside.replica in
+    let r = c.self.inside.replica.value in
     let whole : r.at ≡ length r.list = ap (λ (v : View). v.at) c.self.view_is ∙ (c.requires
     ∙ sym (ap (λ (v : View). length v.state.seen) c.self.view_is)) in
-    c.world.ensures ∙ (all_in r.list r.at whole ∙ ap (λ (v : View). world_after v.state.seen) c.self.view_is)
+    c.world.ensures ∙ ap (λ (s : Standing). world_at s.list s.at) c.deref.ensures ∙ (all_in r.list r.at whole ∙ ap (λ (v : View). world_after v.state.seen) c.self.view_is)

@@ -9,9 +9,9 @@ pub returns-clause-decision : goal.returns-clause-decision
 returns-clause-decision c =
     let d = c.self.inside in
     let s = c.args.self.now.state in
-    decided d.world s.seen (Some d.player) s.player (line_of c.in_ok-parsed.parsed) c.args.line.now c.decide.result
+    decided d.world s.seen (Some d.player) s.player (line_of c.args.said.now) c.decide.result
     (c.self.invariant.world ∙ ap (λ (x : Alone). world_after x.state.seen) c.self.view_is)
-    (ap (λ (x : Alone). x.state.player) c.self.view_is) c.in_ok-parsed.ensures c.decide.ensures.decision
+    (ap (λ (x : Alone). x.state.player) c.self.view_is) c.decide.ensures.decision
 
 pub returns-clause-lawful : goal.returns-clause-lawful
 returns-clause-lawful c =

@@ -1,12 +1,10 @@
 use Rattle.std.proofs.Common.{sym, ◌∙◌}
-use Rattle.mud_words.specs.Parse.{parsed}
-use Rattle.mud_hall.specs.Told.{world_after}
+use Rattle.mud_words.specs.Line.{line_of}
 use Rattle.mud_hall.proofs.Guests.{can-ask}
-use Rattle.mud_hall.proofs.desk.Desk.respond.Goals as goal
+use Rattle.mud_hall.proofs.answering.respond.Goals as goal
 
 -- a guest asks about no journey
 pub explain-requires-clause-player : goal.explain-requires-clause-player
 explain-requires-clause-player g c =
-    let state = c.args.self.now.state in
-    can-ask (world_after state.seen) state.player (parsed c.args.line.now) c.in-Ask.query
+    can-ask c.args.world.now c.args.player (line_of c.args.said.now) c.in-Ask.query
     (sym c.in_ok-query.ensures.decision ∙ c.in-Ask.is)

@@ -1,0 +1,103 @@
+//! Who finds what the guide is asked for.
+
+ghost use Rattle.std.specs.Prelude.{◌≡◌, ◌≤◌, ⊤, ℕ, Some, IfOk, IsTrue};
+ghost use Rattle.mud_world.specs.State.{is_player};
+ghost use Rattle.mud_rules.specs.Outcome.{IsJourney};
+ghost use Rattle.mud_hall.specs.Answers.{IsGuided};
+
+use mud_guide::{Answer, meet, meet_alone, route, route_alone};
+use mud_rules::Journey;
+use mud_search::Gate;
+use mud_world::World;
+use std::alloc::{AllocError, Global};
+use std::sync::Wait;
+use std::thread::Threads;
+
+/// Who finds what the guide is asked for.
+pub(crate) trait Guide {
+    /// What a caller must know of it.
+    ghost ready: { Self → Type 0 } = { λ _. ⊤ };
+
+    /// The guide's answer to a player's question about a journey.
+    fn journey(
+        &self,
+        alloc: Global,
+        world: &World,
+        version: u32,
+        player: u32,
+        journey: &Journey,
+    ) -> Result<Answer, AllocError>
+        requires ready { Self.ready self.now }
+        requires version { version ≤ 65536 }
+        requires player { IsTrue (is_player world.now player) }
+        requires journey { IsJourney world.now journey.now }
+        ensures version { IfOk result (λ a. a.version ≡ version) }
+        ensures guided { IfOk result (IsGuided world.now version (Some player) journey.now) };
+}
+
+/// The caller's thread alone.
+#[derive(Clone, Copy, Drop)]
+pub(crate) struct Alone;
+
+impl Guide for Alone {
+    fn journey(
+        &self,
+        alloc: Global,
+        world: &World,
+        version: u32,
+        player: u32,
+        journey: &Journey,
+    ) -> Result<Answer, AllocError> {
+        match journey {
+            Journey::Route { to } => route_alone(alloc, world, version, player, *to),
+            Journey::Meet(party) => meet_alone(alloc, world, version, party.members()),
+        }
+    }
+}
+
+/// Whoever a closure has find it. A method of a trait can start no thread, and a closure can.
+#[derive(Drop)]
+pub(crate) struct Through<F: Fn(Global, &World, u32, u32, &Journey) -> Result<Answer, AllocError>> {
+    pub(crate) find: F,
+}
+
+impl<F: Fn(Global, &World, u32, u32, &Journey) -> Result<Answer, AllocError>> Guide for Through<F> {
+    ghost ready = { λ s. (a : _) (w : _) (v p : ℕ) (j : _)
+        → v ≤ 65536 → IsTrue (is_player w.now p) → IsJourney w.now j.now → F.pre s.find a w v p j
+        × ((r : _) → F.post s.find a w v p j r
+        → IfOk r (λ a. a.version ≡ v) × IfOk r (IsGuided w.now v (Some p) j.now)) };
+
+    fn journey(
+        &self,
+        alloc: Global,
+        world: &World,
+        version: u32,
+        player: u32,
+        journey: &Journey,
+    ) -> Result<Answer, AllocError> {
+        (self.find)(alloc, world, version, player, journey)
+    }
+}
+
+/// The guide's answer to a player's question about a journey, by so many workers, who pass a gate.
+pub(crate) fn by_workers<R: Threads + Wait + Sync, G: Gate + Sync>(
+    rt: &R,
+    workers: usize,
+    gate: &G,
+    alloc: Global,
+    world: &World,
+    version: u32,
+    player: u32,
+    journey: &Journey,
+) -> Result<Answer, AllocError>
+    requires version { version ≤ 65536 }
+    requires player { IsTrue (is_player world.now player) }
+    requires journey { IsJourney world.now journey.now }
+    ensures version { IfOk result (λ a. a.version ≡ version) }
+    ensures guided { IfOk result (IsGuided world.now version (Some player) journey.now) }
+{
+    match journey {
+        Journey::Route { to } => route(rt, alloc, world, version, player, *to, workers, gate),
+        Journey::Meet(party) => meet(rt, alloc, world, version, party.members(), workers, gate),
+    }
+}

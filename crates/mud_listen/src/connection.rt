@@ -176,9 +176,9 @@ impl<J: HallName> Connection<Shared<J>> {
         self.catch_up(rt, clock, house, most, &mut guard)
     }
 
-    // Under the session's lock, gives it what was typed, after it has caught up with the others, asks for the sync of a
-    // change that was accepted, and sends what the session says once what it may name is synced; whether the session
-    // goes on. It asks first: to send may wait for the other side.
+    // Under the session's lock, gives it what was typed, asks for the sync of a change that was accepted, and sends
+    // what the session says once what it may name is synced; whether the session goes on. It asks first: to send may
+    // wait for the other side.
     fn answer<R: Threads + Wait + Sync, C: Clock + Log>(
         &self,
         rt: &R,
@@ -186,13 +186,9 @@ impl<J: HallName> Connection<Shared<J>> {
         house: &House<Hall<J>, Places<J>, Bells>,
         at: usize,
         patience: &mut Patience,
-        most: u32,
         talk: &mut Option<Talk<J>>,
         typed: &[u8],
     ) -> bool {
-        if !self.catch_up(rt, clock, house, most, talk) {
-            return false;
-        }
         let Some(before) = talk.take() else {
             return false;
         };
@@ -214,9 +210,8 @@ impl<J: HallName> Connection<Shared<J>> {
         patience: &mut Patience,
         bytes: &[u8],
     ) -> bool {
-        let most = synced(rt, house);
         let mut guard = self.shared.talk.lock(rt);
-        self.answer(rt, clock, house, at, patience, most, &mut guard, bytes)
+        self.answer(rt, clock, house, at, patience, &mut guard, bytes)
     }
 
     // Gives the session each line that is in a piece of what comes, and sends what it is answered before the next is
@@ -253,8 +248,7 @@ impl<J: HallName> Connection<Shared<J>> {
         typed: &[u8],
     ) -> bool {
         for line in typed.split_inclusive(ends_line) {
-            let most = synced(rt, house);
-            if !self.answer(rt, clock, house, at, patience, most, talk, line) {
+            if !self.answer(rt, clock, house, at, patience, talk, line) {
                 return false;
             }
             patience.hear(now(clock));

@@ -1,7 +1,8 @@
 //! How the sessions end once no connection is taken any more.
 
-use crate::kind::Kind;
-use mud_house::{House, StopSign, rest};
+use crate::connection::HouseOf;
+use mud_hall::HallName;
+use mud_house::{StopSign, rest};
 use mud_talk::Ending;
 use std::sync::Wait;
 
@@ -13,28 +14,24 @@ const LAST_LOOKS: u32 = 40;
 
 /// Waits until no session is left. Once the server is to end or the journal takes no more, the sessions are to end,
 /// too: a socket that is not shut two seconds later is shut then.
-pub(crate) fn see_out<H, D, B, S, K: Kind<H, D, B, S>, R: Wait>(
-    rt: &R,
-    house: &House<H, D, B>,
-    stop: Option<&StopSign>,
-) {
+pub(crate) fn see_out<J: HallName, R: Wait>(rt: &R, house: &HouseOf<J>, stop: Option<&StopSign>) {
     if stop.is_none() && house.gate.is_open() {
         return;
     }
-    if let Some(ending) = wait_for_ending::<H, D, B, S, K, R>(rt, house, stop) {
-        shut_late::<H, D, B, S, K, R>(rt, house, ending);
+    if let Some(ending) = wait_for_ending(rt, house, stop) {
+        shut_late(rt, house, ending);
     }
 }
 
 // Whether no session is left, and none can come of a browser that is heard: it takes its place before it leaves.
-fn is_empty<H, D, B, S, K: Kind<H, D, B, S>, R: Wait>(rt: &R, house: &House<H, D, B>) -> bool {
-    house.lobby.is_empty(rt) && K::is_empty(rt, house)
+fn is_empty<J: HallName, R: Wait>(rt: &R, house: &HouseOf<J>) -> bool {
+    house.lobby.is_empty(rt) && house.is_empty(rt)
 }
 
 // Waits until no session is left, or those that are left are to end; why they are, if so.
-fn wait_for_ending<H, D, B, S, K: Kind<H, D, B, S>, R: Wait>(
+fn wait_for_ending<J: HallName, R: Wait>(
     rt: &R,
-    house: &House<H, D, B>,
+    house: &HouseOf<J>,
     stop: Option<&StopSign>,
 ) -> Option<Ending> {
     for _ in rt.forever() {
@@ -42,12 +39,12 @@ fn wait_for_ending<H, D, B, S, K: Kind<H, D, B, S>, R: Wait>(
             && sign.is_set()
         {
             house.stop();
-            K::wake_all(rt, house);
+            house.wake_all(rt);
         }
         if let Some(ending) = house.ending(rt) {
             return Some(ending);
         }
-        if is_empty::<H, D, B, S, K, R>(rt, house) {
+        if is_empty(rt, house) {
             return None;
         }
         rest(rt, LOOK_MILLISECONDS);
@@ -57,16 +54,12 @@ fn wait_for_ending<H, D, B, S, K: Kind<H, D, B, S>, R: Wait>(
 
 // Waits a while until no session is left, and then shuts the sockets of those that are: that ends what their threads
 // read or write there.
-fn shut_late<H, D, B, S, K: Kind<H, D, B, S>, R: Wait>(
-    rt: &R,
-    house: &House<H, D, B>,
-    ending: Ending,
-) {
+fn shut_late<J: HallName, R: Wait>(rt: &R, house: &HouseOf<J>, ending: Ending) {
     for _ in 0..LAST_LOOKS {
-        if is_empty::<H, D, B, S, K, R>(rt, house) {
+        if is_empty(rt, house) {
             return;
         }
         rest(rt, LOOK_MILLISECONDS);
     }
-    K::shut_all(rt, house, ending);
+    house.shut_all(rt, ending);
 }

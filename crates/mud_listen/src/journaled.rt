@@ -8,16 +8,16 @@ ghost use Rattle.mud_chron.specs.Entry.{Accepted};
 ghost use Rattle.mud_journal.specs.Disk.{Holds, Begins};
 ghost use Rattle.mud_house.specs.Listening.{MayEnd, Settles, SettlesInPart, IsListenFault};
 
-use crate::connection::{OfHall, Shared};
-use crate::kind::Kind;
-use crate::listen::{resumed, serve_house};
+use crate::connection::HouseOf;
+use crate::listen::{is_well_ended, resumed, serve_house};
+use crate::server::Server;
 use log::Log;
 use mud_chron::Entry;
 use mud_ends::Sink;
-use mud_hall::{Hall, HallName, NewHall};
+use mud_hall::{HallName, NewHall};
 use mud_house::{
-    Bells, Doors, House, Limits, ListenFault, Listeners, Places, Scribe, Site, StopSign,
-    settle_journaled, write_entries, write_ports,
+    Doors, House, Limits, ListenFault, Listeners, Scribe, Site, StopSign, settle_journaled,
+    write_entries, write_ports,
 };
 use mud_journal::{Disk, Found, Gate, Journal, JournalFault};
 use mud_row::History;
@@ -26,46 +26,15 @@ use std::io::Write;
 use std::marker::Brand;
 use std::sync::Wait;
 use std::thread;
-use std::thread::{JoinHandle, Scope, Threads};
+use std::thread::{JoinHandle, Threads};
 use std::time::Clock;
-
-// Begins the thread that serves the connections; it tells whether all were served that were to be. At its end nobody
-// asks for more of the journal.
-fn begin_serving<
-    's,
-    E,
-    H: Sync + 's,
-    D: Sync + 's,
-    B: Sync + 's,
-    S: Send + Sync + Drop + 's,
-    K: Kind<H, D, B, S> + Send + Sync + 's,
-    R: Threads + Wait + Log + Clock + Sync + 's,
->(
-    scope: &Scope<'s, E>,
-    rt: &'s R,
-    alloc: Global,
-    house: &'s House<H, D, B>,
-    listeners: Listeners,
-    limits: Limits,
-    stop: Option<&'s StopSign>,
-) -> Option<JoinHandle<bool>> {
-    scope
-        .spawn(move || {
-            let is_served = serve_house::<H, D, B, S, K, R>(
-                rt, alloc, house, listeners, limits, stop,
-            );
-            house.gate.close(rt);
-            is_served
-        })
-        .ok()
-}
 
 // Writes the journal as it is asked for, until the gate is closed, and wakes the notice threads after each sync. Where
 // it fails, they are woken, too; the thread that takes connections looks for that by itself.
 #[tactic(auto, using(crate::proofs::Prefixes::prefix_trans))]
 fn write_all<J: HallName, D: Disk + Drop, R: Wait>(
     rt: &R,
-    house: &House<Hall<J>, Places<J>, Bells>,
+    house: &HouseOf<J>,
     scribe: &mut Scribe<J, D>,
 ) -> Result<(), JournalFault>
     ensures longer { IsPrefix scribe.old.entries scribe.new.entries }
@@ -89,38 +58,65 @@ fn write_all<J: HallName, D: Disk + Drop, R: Wait>(
     unreachable!()
 }
 
-// Begins the thread that serves the connections, writes the journal, and waits until that thread has ended; the
-// journal, and whether all were served that were to be.
-fn serve_and_write<
-    's,
-    J: HallName + Send + Sync + 's,
-    D: Disk + Drop,
-    E,
-    R: Threads + Wait + Log + Clock + Sync + 's,
->(
-    scope: &Scope<'s, E>,
-    rt: &'s R,
-    alloc: Global,
-    house: &'s House<Hall<J>, Places<J>, Bells>,
+// What the thread that serves the connections is begun with: where they come, and when it ends.
+#[derive(Drop)]
+pub(crate) struct Serving<'s> {
     listeners: Listeners,
     limits: Limits,
     stop: Option<&'s StopSign>,
-    scribe: Scribe<J, D>,
-) -> Result<(Scribe<J, D>, bool), ListenFault>
-    ensures longer { IfOk result (λ s. IsPrefix scribe.entries s.0.entries) }
-    ensures fault { IfErr result (λ f. (capacity : ℕ) (loaded : List Accepted) (old new : Writer)
-        → IsListenFault capacity loaded old new f) }
+}
+
+impl<'s, E, J, R> Server<'s, E, J, R>
+where
+    J: HallName + Send + Sync + 's,
+    R: Threads + Wait + Log + Clock + Sync + 's,
 {
-    let Some(serving) = begin_serving::<E, Hall<J>, Places<J>, Bells, Shared<J>, OfHall<J>, R>(
-        scope, rt, alloc, house, listeners, limits, stop,
-    ) else {
-        return Err(ListenFault::OutOfMemory);
-    };
-    let mut scribe = scribe;
-    let written = write_all(rt, house, &mut scribe);
-    let is_served = serving.join(rt);
-    written?;
-    Ok((scribe, is_served))
+    // Serves the connections; whether all were served that were to be. At its end nobody asks for more of the journal.
+    fn serve_and_close(&self, serving: Serving<'s>) -> bool {
+        let Serving {
+            listeners,
+            limits,
+            stop,
+        } = serving;
+        let is_served = serve_house(self.rt, self.alloc, self.house, listeners, limits, stop);
+        self.house.gate.close(self.rt);
+        is_served
+    }
+
+    // Begins the thread that serves the connections.
+    fn begin_serving(&self, serving: Serving<'s>) -> Option<JoinHandle<bool>> {
+        let server = self.again();
+        let begun = self.scope.spawn(move || server.serve_and_close(serving));
+        begun.ok()
+    }
+
+    // Begins the thread that serves the connections, writes the journal, and waits until that thread has ended; the
+    // journal, and whether all were served that were to be.
+    fn serve_and_write<D: Disk + Drop>(
+        &self,
+        listeners: Listeners,
+        limits: Limits,
+        stop: Option<&'s StopSign>,
+        scribe: Scribe<J, D>,
+    ) -> Result<(Scribe<J, D>, bool), ListenFault>
+        ensures longer { IfOk result (λ s. IsPrefix scribe.entries s.0.entries) }
+        ensures fault { IfErr result (λ f. (capacity : ℕ) (loaded : List Accepted) (old new : Writer)
+            → IsListenFault capacity loaded old new f) }
+    {
+        let serving = Serving {
+            listeners,
+            limits,
+            stop,
+        };
+        let Some(begun) = self.begin_serving(serving) else {
+            return Err(ListenFault::OutOfMemory);
+        };
+        let mut scribe = scribe;
+        let written = write_all(self.rt, self.house, &mut scribe);
+        let is_served = begun.join(self.rt);
+        written?;
+        Ok((scribe, is_served))
+    }
 }
 
 // Serves the connections in other threads, and writes the journal in this one.
@@ -131,7 +127,7 @@ fn serve_journaled<
 >(
     rt: &R,
     alloc: Global,
-    house: &House<Hall<J>, Places<J>, Bells>,
+    house: &HouseOf<J>,
     listeners: Listeners,
     limits: Limits,
     stop: Option<&StopSign>,
@@ -142,19 +138,14 @@ fn serve_journaled<
         → IsListenFault capacity loaded old new f) }
 {
     thread::scope(thread::scope_env(), rt, move |scope| {
-        serve_and_write::<J, D, _, R>(scope, rt, alloc, house, listeners, limits, stop, scribe)
+        let server = Server {
+            scope,
+            rt,
+            alloc,
+            house,
+        };
+        server.serve_and_write(listeners, limits, stop, scribe)
     })
-}
-
-// Whether a server has ended well, of which is known whether all were served that were to be: after this many sessions,
-// or at a sign.
-fn is_well_ended(is_served: bool, stop: Option<&StopSign>, total: u32) -> bool
-    ensures { IsTrue result → IfNone stop.entry (0 < total) }
-{
-    match stop {
-        Some(_) => is_served,
-        None => is_served && 0 < total,
-    }
 }
 
 // Serves in the hall, which J names, and settles; the history, the journal, and whether all were served that were to

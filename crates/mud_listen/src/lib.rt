@@ -19,13 +19,15 @@
 //! is served at all, that a change wakes anybody or that a desk is handed back: tests show it.
 #![tactic(auto)]
 
-mod beginning;
 mod browsers;
 mod closing;
 mod connection;
 mod journaled;
-mod kind;
 mod listen;
+mod notice;
+mod reader;
+mod server;
+mod steps;
 
 pub use journaled::listen_journaled;
 pub use listen::listen_on;

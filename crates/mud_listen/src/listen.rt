@@ -6,18 +6,16 @@ ghost use Rattle.mud_ends.specs.Ends.{Writer};
 ghost use Rattle.mud_chron.specs.Entry.{Accepted};
 ghost use Rattle.mud_house.specs.Listening.{MayEnd, Settles, SettlesInPart, IsListenFault};
 
-use crate::beginning::{Begun, admit, open, read_all};
-use crate::browsers::receive;
 use crate::closing::see_out;
-use crate::connection::{OfHall, Shared, refuse};
-use crate::kind::Kind;
+use crate::connection::HouseOf;
+use crate::server::{Begun, Server};
 use log::Log;
 use mud_chron::Entry;
 use mud_ends::Sink;
 use mud_hall::{HallName, LoadFault, NewHall};
 use mud_house::{
-    Arrival, Arrivals, Doors, House, Limits, ListenFault, Listeners, Site, StopSign, settle,
-    write_entries, write_ports,
+    Arrival, Arrivals, Doors, House, Limits, ListenFault, Listeners, NoPlace, Site, StopSign,
+    settle, write_entries, write_ports,
 };
 use mud_journal::Gate;
 use mud_row::History;
@@ -25,86 +23,17 @@ use mud_talk::{Entrance, Wire, set_up};
 use std::alloc::Global;
 use std::io::Write;
 use std::marker::Brand;
-use std::net::{SocketAddr, TcpStream};
+use std::net::{Shutdown, SocketAddr, TcpStream};
 use std::sync::{Arc, Wait};
 use std::thread;
 use std::thread::{Scope, Threads};
 use std::time::Clock;
 
-// Begins a session at the place; whether it did.
-fn begin<
-    's,
-    E,
-    H: Sync + 's,
-    D: Sync + 's,
-    B: Sync + 's,
-    S: Send + Sync + Drop + 's,
-    K: Kind<H, D, B, S> + Send + Sync + 's,
-    R: Threads + Wait + Log + Clock + Sync + 's,
->(
-    scope: &Scope<'s, E>,
-    rt: &'s R,
-    alloc: Global,
-    house: &'s House<H, D, B>,
-    at: usize,
-    stream: TcpStream,
-) -> bool {
-    let opened = match Arc::new(alloc, Wire::new(stream, Entrance::Telnet)) {
-        Ok(wire) => open::<H, D, B, S, K, R>(rt, alloc, house, at, wire),
-        Err(_) => None,
-    };
-    let Some(begun) = opened else {
-        K::free(rt, house, at);
-        return false;
-    };
-    let Begun {
-        kept,
-        reads,
-        tells,
-        parker,
-        number,
-    } = begun;
-    if scope
-        .spawn(move || K::tell_all(rt, house, &tells, &parker))
-        .is_err()
-        || scope
-            .spawn(move || read_all::<H, D, B, S, K, R>(rt, alloc, house, &reads, at, number, &[]))
-            .is_err()
-    {
-        K::leave(rt, house, &kept, at);
-        return false;
-    }
-    true
-}
-
-// Serves a connection by Telnet, or refuses it where there is no place for it.
-fn welcome<
-    's,
-    E,
-    H: Sync + 's,
-    D: Sync + 's,
-    B: Sync + 's,
-    S: Send + Sync + Drop + 's,
-    K: Kind<H, D, B, S> + Send + Sync + 's,
-    R: Threads + Wait + Log + Clock + Sync + 's,
->(
-    scope: &Scope<'s, E>,
-    rt: &'s R,
-    alloc: Global,
-    house: &'s House<H, D, B>,
-    stream: TcpStream,
-    peer: SocketAddr,
-) {
-    if !set_up(&stream) {
-        return;
-    }
-    match admit::<H, D, B, S, K, R>(rt, house, peer.ip()) {
-        Ok(at) => {
-            let has_begun = begin::<E, H, D, B, S, K, R>(scope, rt, alloc, house, at, stream);
-            house.lobby.settle(&house.limits, has_begun);
-        }
-        Err(no_place) => refuse(stream, no_place),
-    }
+// Refuses a connection for which there is no place.
+fn refuse(stream: TcpStream, no_place: NoPlace) {
+    let mut stream = stream;
+    let _ = stream.write_all(no_place.line().as_bytes());
+    let _ = stream.shutdown(Shutdown::Both);
 }
 
 // Whether there is a sign, and it is set.
@@ -127,101 +56,127 @@ fn is_done(stop: Option<&StopSign>, total: u32, count: u32) -> bool
     }
 }
 
-// How many sessions count for the total.
-fn counted<H, D, B>(house: &House<H, D, B>, limits: Limits) -> u32 {
-    if limits.counts_players {
-        house.players()
-    } else {
-        house.lobby.begun()
-    }
-}
-
-// Takes connections until no session may begin any more, and closes the listeners; whether it came to that. If not,
-// one of them can never give a connection again, or the journal takes no more. A connection that is taken after the
-// sign was set is none.
-fn accept_all<
-    's,
-    E,
-    H: Sync + 's,
-    D: Sync + 's,
-    B: Sync + 's,
-    S: Send + Sync + Drop + 's,
-    K: Kind<H, D, B, S> + Send + Sync + 's,
+impl<'s, E, J, R> Server<'s, E, J, R>
+where
+    J: HallName + Send + Sync + 's,
     R: Threads + Wait + Log + Clock + Sync + 's,
->(
-    scope: &'s Scope<'s, E>,
-    rt: &'s R,
-    alloc: Global,
-    house: &'s House<H, D, B>,
-    arrivals: Arrivals,
-    limits: Limits,
-    stop: Option<&StopSign>,
-) -> bool
-    ensures { IsTrue result → IfNone stop.entry (0 < limits.total) }
 {
-    let mut arrivals = arrivals;
-    for _ in rt.forever() {
-        if is_done(stop, limits.total, counted(house, limits)) {
-            return true;
+    // Begins a session by Telnet at the place; whether it did.
+    fn begin(&self, at: usize, stream: TcpStream) -> bool {
+        let (rt, house) = (self.rt, self.house);
+        let opened = match Arc::new(self.alloc, Wire::new(stream, Entrance::Telnet)) {
+            Ok(wire) => self.open(at, wire),
+            Err(_) => None,
+        };
+        let Some(begun) = opened else {
+            house.free(rt, at);
+            return false;
+        };
+        let Begun {
+            kept,
+            reads,
+            tells,
+            sleeper,
+            number,
+        } = begun;
+        let has_begun = self.begin_telling(tells, sleeper) && self.begin_reading(reads, at, number);
+        if !has_begun {
+            kept.leave(rt, house, at);
         }
-        match arrivals.next(rt) {
-            Arrival::Never => return false,
-            _ if house.gate.has_failed(rt) => return false,
-            Arrival::Telnet(stream, peer) if !is_set(stop) => {
-                welcome::<E, H, D, B, S, K, R>(scope, rt, alloc, house, stream, peer);
+        has_begun
+    }
+
+    // Serves a connection by Telnet, or refuses it where there is no place for it.
+    fn welcome(&self, stream: TcpStream, peer: SocketAddr) {
+        if !set_up(&stream) {
+            return;
+        }
+        match self.admit(peer.ip()) {
+            Ok(at) => {
+                let has_begun = self.begin(at, stream);
+                self.house.lobby.settle(&self.house.limits, has_begun);
             }
-            Arrival::Web(stream, peer) if !is_set(stop) => {
-                receive::<E, H, D, B, S, K, R>(scope, rt, alloc, house, stream, peer);
-            }
-            _ => continue,
+            Err(no_place) => refuse(stream, no_place),
         }
     }
-    unreachable!()
+
+    // How many sessions count for the total.
+    fn counted(&self, limits: Limits) -> u32 {
+        if limits.counts_players {
+            self.house.players()
+        } else {
+            self.house.lobby.begun()
+        }
+    }
+
+    // Takes connections until no session may begin any more, and closes the listeners; whether it came to that. If not,
+    // one of them can never give a connection again, or the journal takes no more. A connection that is taken after the
+    // sign was set is none.
+    fn accept_all(&self, arrivals: Arrivals, limits: Limits, stop: Option<&StopSign>) -> bool
+        ensures { IsTrue result → IfNone stop.entry (0 < limits.total) }
+    {
+        let mut arrivals = arrivals;
+        for _ in self.rt.forever() {
+            if is_done(stop, limits.total, self.counted(limits)) {
+                return true;
+            }
+            match arrivals.next(self.rt) {
+                Arrival::Never => return false,
+                _ if self.house.gate.has_failed(self.rt) => return false,
+                Arrival::Telnet(stream, peer) if !is_set(stop) => self.welcome(stream, peer),
+                Arrival::Web(stream, peer) if !is_set(stop) => self.receive(stream, peer),
+                _ => continue,
+            }
+        }
+        unreachable!()
+    }
 }
 
 // Takes connections as long as it may, and sees the sessions out.
-fn take_and_see_out<
-    's,
-    E,
-    H: Sync + 's,
-    D: Sync + 's,
-    B: Sync + 's,
-    S: Send + Sync + Drop + 's,
-    K: Kind<H, D, B, S> + Send + Sync + 's,
-    R: Threads + Wait + Log + Clock + Sync + 's,
->(
+fn take_and_see_out<'s, E, J, R>(
     scope: &'s Scope<'s, E>,
     rt: &'s R,
     alloc: Global,
-    house: &'s House<H, D, B>,
+    house: &'s HouseOf<J>,
     arrivals: Arrivals,
     limits: Limits,
     stop: Option<&StopSign>,
 ) -> bool
+where
+    J: HallName + Send + Sync + 's,
+    R: Threads + Wait + Log + Clock + Sync + 's,
     ensures { IsTrue result → IfNone stop.entry (0 < limits.total) }
 {
-    let is_served = accept_all::<E, H, D, B, S, K, R>(
-        scope, rt, alloc, house, arrivals, limits, stop,
-    );
+    let server = Server {
+        scope,
+        rt,
+        alloc,
+        house,
+    };
+    let is_served = server.accept_all(arrivals, limits, stop);
     house.lobby.close(rt);
-    see_out::<H, D, B, S, K, R>(rt, house, stop);
+    see_out(rt, house, stop);
     is_served
+}
+
+/// Whether a server has ended well, of which is known whether all were served that were to be: after this many
+/// sessions, or at a sign.
+pub(crate) fn is_well_ended(is_served: bool, stop: Option<&StopSign>, total: u32) -> bool
+    ensures { IsTrue result → IfNone stop.entry (0 < total) }
+{
+    match stop {
+        Some(_) => is_served,
+        None => is_served && 0 < total,
+    }
 }
 
 /// Serves the connections of the listeners, closes them once no session may begin any more, and waits until all
 /// sessions have ended; whether it came to that. If not, one of them can never give a connection again, or the journal
 /// takes no more.
-pub(crate) fn serve_house<
-    H: Sync,
-    D: Sync,
-    B: Sync,
-    S: Send + Sync + Drop,
-    K: Kind<H, D, B, S> + Send + Sync,
-    R: Threads + Wait + Log + Clock + Sync,
->(
+pub(crate) fn serve_house<J: HallName + Send + Sync, R: Threads + Wait + Log + Clock + Sync>(
     rt: &R,
     alloc: Global,
-    house: &House<H, D, B>,
+    house: &HouseOf<J>,
     listeners: Listeners,
     limits: Limits,
     stop: Option<&StopSign>,
@@ -231,9 +186,10 @@ pub(crate) fn serve_house<
     let Some(arrivals) = Arrivals::new(listeners) else {
         return false;
     };
-    thread::scope(thread::scope_env(), rt, move |scope| {
-        take_and_see_out::<_, H, D, B, S, K, R>(scope, rt, alloc, house, arrivals, limits, stop)
-    })
+    let is_served = thread::scope(thread::scope_env(), rt, move |scope| {
+        take_and_see_out(scope, rt, alloc, house, arrivals, limits, stop)
+    });
+    is_well_ended(is_served, stop, limits.total)
 }
 
 // Serves in the hall, which J names, and settles; the history, and whether all were served that were to be.
@@ -258,9 +214,7 @@ fn serve_all<J: HallName + Send + Sync, R: Threads + Wait + Log + Clock + Sync>(
     let hall = hall.named::<J>();
     let house = House::new(alloc, hall, limits, Gate::open(), site)?;
     house.warn_if_nearly_full(rt, house.hall.loaded() as usize);
-    let is_served = serve_house::<_, _, _, Shared<J>, OfHall<J>, R>(
-        rt, alloc, &house, listeners, limits, stop,
-    );
+    let is_served = serve_house(rt, alloc, &house, listeners, limits, stop);
     let Ok((hall, desks)) = house.into_parts(alloc) else {
         return Err(ListenFault::OutOfMemory);
     };

@@ -1,0 +1,46 @@
+//! The notice thread of a session.
+
+use crate::connection::{Connection, HouseOf};
+use crossbeam_utils::sync::Parker;
+use mud_hall::HallName;
+use mud_house::rest;
+use mud_talk::Parting;
+use std::sync::Wait;
+use std::time::Clock;
+
+// How long it sleeps between two looks at what others did.
+const REST_MILLISECONDS: u64 = 5;
+
+/// What a notice thread sleeps on until a bell wakes it.
+#[derive(Drop)]
+pub(crate) struct Sleeper {
+    pub(crate) parker: Parker,
+}
+
+/// The notice thread of a session: each time it is woken, the session looks for what others did. Where it fails, the
+/// shut socket ends the reader thread.
+///
+/// Whether all sessions end is looked for before the first sleep, too: who is woken for that is known by then. While it
+/// rests, a wake-up is kept and costs whoever wakes it no call: so what is done in a busy world is told together.
+pub(crate) fn tell_all<J: HallName, R: Wait + Clock>(
+    rt: &R,
+    house: &HouseOf<J>,
+    connection: &Connection<J>,
+    sleeper: &Sleeper,
+) {
+    for _ in rt.forever() {
+        if house.ending(rt).is_none() {
+            sleeper.parker.park(rt);
+        }
+        if let Some(ending) = house.ending(rt) {
+            connection.tell_ending(rt, ending);
+            return;
+        }
+        if !connection.look(rt, house) {
+            connection.part(rt, Parting::Left);
+            break;
+        }
+        rest(rt, REST_MILLISECONDS);
+    }
+    connection.wire().shut();
+}

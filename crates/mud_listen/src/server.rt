@@ -1,0 +1,121 @@
+//! What the threads of a server are begun with, and how a session begins.
+
+use crate::connection::{Connection, HouseOf};
+use crate::notice::{Sleeper, tell_all};
+use crate::reader::read_all;
+use crossbeam_utils::sync::Parker;
+use log::Log;
+use mud_hall::HallName;
+use mud_house::{Bell, NoPlace};
+use mud_talk::Wire;
+use std::alloc::Global;
+use std::net::IpAddr;
+use std::sync::{Arc, Wait};
+use std::thread::{Scope, Threads};
+use std::time::Clock;
+
+/// What each thread of a server that begins others has: the scope in which they run, the handle by which, memory, and
+/// the house that all share.
+#[derive(Drop)]
+pub(crate) struct Server<'s, E, J: HallName, R> {
+    pub(crate) scope: &'s Scope<'s, E>,
+    pub(crate) rt: &'s R,
+    pub(crate) alloc: Global,
+    pub(crate) house: &'s HouseOf<J>,
+}
+
+/// What the threads of a new session are given.
+#[derive(Drop)]
+pub(crate) struct Begun<J: HallName> {
+    pub(crate) kept: Arc<Connection<J>>,
+    pub(crate) reads: Arc<Connection<J>>,
+    pub(crate) tells: Arc<Connection<J>>,
+    pub(crate) sleeper: Sleeper,
+    pub(crate) number: u32,
+}
+
+impl<'s, E, J, R> Server<'s, E, J, R>
+where
+    J: HallName + Send + Sync + 's,
+    R: Threads + Wait + Log + Clock + Sync + 's,
+{
+    /// The same, for a thread that is begun.
+    pub(crate) fn again(&self) -> Server<'s, E, J, R> {
+        let Server {
+            scope,
+            rt,
+            alloc,
+            house,
+        } = *self;
+        Server {
+            scope,
+            rt,
+            alloc,
+            house,
+        }
+    }
+
+    /// The free place of the lowest number for a session of this address, which is about to begin.
+    pub(crate) fn admit(&self, address: IpAddr) -> Result<usize, NoPlace> {
+        let lobby = &self.house.lobby;
+        if !lobby.may_begin(&self.house.limits) {
+            return Err(NoPlace::Full);
+        }
+        let place = self.house.take_place(self.rt, address);
+        if place.is_err() {
+            lobby.settle(&self.house.limits, false);
+        }
+        place
+    }
+
+    /// A session at the place. What can fail without a desk comes first. The notice thread is known before the desk is
+    /// made, so that it misses no change.
+    pub(crate) fn open(&self, at: usize, wire: Arc<Wire>) -> Option<Begun<J>> {
+        let parker = Parker::new(self.alloc).ok()?;
+        let unparker = parker.unparker().clone().ok()?;
+        let bell = Bell {
+            unparker,
+            wire: Arc::try_clone(&wire).ok()?,
+        };
+        let kept = Arc::new(self.alloc, Connection::new(wire)).ok()?;
+        let reads = Arc::try_clone(&kept).ok()?;
+        let tells = Arc::try_clone(&kept).ok()?;
+        self.house.listen(self.rt, at, bell);
+        let number = kept.start(self.rt, self.alloc, self.house, at)?;
+        Some(Begun {
+            kept,
+            reads,
+            tells,
+            sleeper: Sleeper { parker },
+            number,
+        })
+    }
+
+    // Is the notice thread of a session.
+    fn tell(&self, connection: &Connection<J>, sleeper: &Sleeper) {
+        tell_all(self.rt, self.house, connection, sleeper);
+    }
+
+    /// Begins the notice thread of a session; whether it could be.
+    pub(crate) fn begin_telling(&self, tells: Arc<Connection<J>>, sleeper: Sleeper) -> bool {
+        let server = self.again();
+        let telling = self.scope.spawn(move || server.tell(&tells, &sleeper));
+        telling.is_ok()
+    }
+
+    /// Is the reader thread of the session at a place, at the desk of this number, to which this came already.
+    pub(crate) fn read(&self, connection: &Connection<J>, at: usize, number: u32, first: &[u8]) {
+        read_all(
+            self.rt, self.alloc, self.house, connection, at, number, first,
+        );
+    }
+
+    /// Begins the reader thread of the session at a place, at the desk of this number; whether it could be.
+    pub(crate) fn begin_reading(&self, reads: Arc<Connection<J>>, at: usize, number: u32) -> bool {
+        let server = self.again();
+        let reading = self
+            .scope
+            .spawn(move || server.read(&reads, at, number, &[]));
+        reading.is_ok()
+    }
+}

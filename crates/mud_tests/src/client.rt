@@ -3,23 +3,13 @@
 use std::alloc::Global;
 use std::io;
 use std::io::{Read, Write};
-use std::net::{Ipv4Addr, Net, SocketAddr, TcpListener, TcpStream};
+use std::net::{Net, SocketAddr, TcpListener, TcpStream};
 use std::time::Duration;
 
-/// A listener on a free port of this machine alone.
-pub(crate) fn bound<R: Net<Listener = TcpListener, Stream = TcpStream>>(
-    rt: &R,
-) -> io::Result<(TcpListener, SocketAddr)> {
-    let listener = TcpListener::bind(rt, SocketAddr::from((Ipv4Addr::LOCALHOST, 0)))?;
-    let address = listener.local_addr()?;
-    Ok((listener, address))
-}
-
-// Adds the next line that comes, without its end; nothing at the end of the connection.
-fn read_line(stream: &TcpStream, line: &mut String) -> io::Result<()> {
+// Adds the next line that comes, with a `;` in place of its end; only that at the end of the connection.
+fn read_line(mut stream: &TcpStream, line: &mut String) -> io::Result<()> {
     let mut byte = [0u8; 1];
     for _ in 0..200 {
-        let mut stream = stream;
         if stream.read(&mut byte)? == 0 || byte[0] == b'\n' {
             break;
         }
@@ -27,17 +17,35 @@ fn read_line(stream: &TcpStream, line: &mut String) -> io::Result<()> {
             line.push(char::from(byte[0]))?;
         }
     }
-    Ok(())
+    Ok(line.push(';')?)
 }
 
 // Sends a line, unless it is empty.
-fn send_line(stream: &TcpStream, line: &str) -> io::Result<()> {
-    let mut to = stream;
+fn send_line(mut stream: &TcpStream, line: &str) -> io::Result<()> {
     if !line.is_empty() {
-        to.write_all(line.as_bytes())?;
-        to.write_all(b"\r\n")?;
+        stream.write_all(line.as_bytes())?;
+        stream.write_all(b"\r\n")?;
     }
     Ok(())
+}
+
+// Types lines, with a `;` between them, and reads a line behind each.
+fn talk(stream: &TcpStream, lines: &str, heard: &mut String) -> io::Result<()> {
+    for line in lines.split(';') {
+        send_line(stream, line)?;
+        read_line(stream, heard)?;
+    }
+    Ok(())
+}
+
+// Comes to a server, and waits at most twenty seconds for a line.
+fn connected<R: Net<Listener = TcpListener, Stream = TcpStream>>(
+    rt: &R,
+    address: SocketAddr,
+) -> io::Result<TcpStream> {
+    let stream = TcpStream::connect(rt, address)?;
+    stream.set_read_timeout(Some(Duration::from_secs(20)))?;
+    Ok(stream)
 }
 
 /// What a client is sent who types these lines, with a `;` between them, and reads a line behind each: all of it, with
@@ -49,15 +57,8 @@ pub(crate) fn play<R: Net<Listener = TcpListener, Stream = TcpStream>>(
     lines: &str,
 ) -> io::Result<String> {
     let mut heard = String::new(alloc);
-    if lines.is_empty() {
-        return Ok(heard);
-    }
-    let stream = TcpStream::connect(rt, address)?;
-    stream.set_read_timeout(Some(Duration::from_secs(20)))?;
-    for line in lines.split(';') {
-        send_line(&stream, line)?;
-        read_line(&stream, &mut heard)?;
-        heard.push(';')?;
+    if !lines.is_empty() {
+        talk(&connected(rt, address)?, lines, &mut heard)?;
     }
     Ok(heard)
 }

@@ -1,5 +1,7 @@
 //! Histories and certificates as texts: entry by entry, copied, whole, replayed and judged.
 
+ghost use Rattle.std.specs.Prelude.{◌≤◌};
+
 use crate::rows::same;
 use crate::village::world;
 use mud_cert::{check, read};
@@ -9,8 +11,8 @@ use std::alloc::{AllocError, Global};
 use std::process::Abort;
 use std::test::Fail;
 
-// The history with the dear exit #3 and a way round it of six exits, and Bob #16 at its end.
-const WAY_ROUND: &str = "mud history 2
+/// The history with the dear exit #3 and a way round it of six exits, and Bob #16 at its end.
+pub(crate) const WAY_ROUND: &str = "mud history 2
 1 1 dig #1 new \"T\" out \"far\"
 2 1 cost #1 #3 10000
 3 1 dig #1 new \"A\" out \"a\"
@@ -41,54 +43,11 @@ route #2 cost 6
 end
 ";
 
-// Copies of entries.
-fn copied(alloc: Global, entries: &[Entry]) -> Result<Vec<Entry>, AllocError> {
-    let mut copies = Vec::new(alloc);
-    for entry in entries {
-        copies.push(entry.copy(alloc)?)?;
-    }
-    Ok(copies)
-}
-
-// The text of a history, written entry by entry, with its first and its last line.
-fn by_entries(alloc: Global, entries: &[Entry]) -> Result<String, Fail> {
-    let mut text = String::from_str(alloc, "mud history 2\n")?;
-    let mut version = 0_u32;
-    for entry in entries {
-        version = version.saturating_add(1);
-        if version > 65536 {
-            return Err("more entries than a history has".into());
-        }
-        write_entry(alloc, version, entry, &mut text)?;
-    }
-    text.push_str(format!(in alloc; "end {version}\n")?.as_str())?;
-    Ok(text)
-}
-
-#[test]
-fn a_history_is_written_as_it_was_read(rt: HostRuntime) -> Result<(), Fail> {
-    let alloc = rt.alloc();
-    let entries = read_history(alloc, WAY_ROUND.as_bytes())?;
-    let copies = copied(alloc, entries.as_slice())?;
-    assert!(rt; by_entries(alloc, copies.as_slice())?.as_str() == WAY_ROUND);
-    let mut whole = String::new(alloc);
-    let entries = entries.as_slice();
-    assert!(rt; entries.len() <= 65_536);
-    write_history(alloc, entries, &mut whole)?;
-    assert!(rt; whole.as_str() == WAY_ROUND);
-    Ok(())
-}
-
-#[test]
-fn a_certificate_is_read_written_and_judged(rt: HostRuntime) -> Result<(), Fail> {
-    let alloc = rt.alloc();
-    let cert = read(alloc, PROOF.as_bytes())?;
-    let mut text = String::new(alloc);
-    cert.write(alloc, &mut text)?;
-    assert!(rt; text.as_str() == PROOF);
-    assert!(rt; check(&world(alloc, WAY_ROUND)?, &cert).is_ok());
-    Ok(())
-}
+// The history of a crowd's first line.
+const SAID: &str = "mud history 2
+1 4 say #1 hi
+end 1
+";
 
 // A history with one way, and the proof of the wizard's journey there.
 const LIBRARY: &str = "mud history 1
@@ -104,6 +63,112 @@ walk #3
 route #2 cost 1
 end
 ";
+
+// Appends the line of a copy of an entry.
+fn push_copy(
+    alloc: Global,
+    version: u32,
+    entry: &Entry,
+    text: &mut String,
+) -> Result<(), AllocError>
+    requires { (1 ≤ version) × (version ≤ 65536) }
+{
+    let copy = entry.copy(alloc)?;
+    write_entry(alloc, version, &copy, text)
+}
+
+// Appends the lines of copies of the entries.
+fn push_copies(alloc: Global, entries: &[Entry], text: &mut String) -> Result<(), AllocError> {
+    let mut version = 0_u32;
+    for entry in entries {
+        version = version.wrapping_add(1).clamp(1, 65_536);
+        push_copy(alloc, version, entry, text)?;
+    }
+    Ok(())
+}
+
+// A history as it is written entry by entry, with this last line.
+fn by_entries(alloc: Global, history: &str, end: &str) -> Result<String, Fail> {
+    let mut text = String::from_str(alloc, "mud history 2\n")?;
+    push_copies(alloc, &read_history(alloc, history.as_bytes())?, &mut text)?;
+    text.push_str(end)?;
+    Ok(text)
+}
+
+// Appends the text of a history.
+fn push_whole(
+    rt: &impl Abort,
+    alloc: Global,
+    entries: &[Entry],
+    text: &mut String,
+) -> Result<(), AllocError> {
+    assert!(rt; entries.len() <= 65_536);
+    write_history(alloc, entries, text)
+}
+
+// A history as it is written whole.
+fn whole(rt: &impl Abort, alloc: Global, history: &str) -> Result<String, Fail> {
+    let mut text = String::new(alloc);
+    push_whole(
+        rt,
+        alloc,
+        &read_history(alloc, history.as_bytes())?,
+        &mut text,
+    )?;
+    Ok(text)
+}
+
+#[test]
+fn a_history_is_written_as_it_was_read(rt: HostRuntime) -> Result<(), Fail> {
+    let alloc = rt.alloc();
+    same(
+        &rt,
+        "crowd",
+        by_entries(alloc, SAID, "end 1\n")?.as_str(),
+        SAID,
+    );
+    same(
+        &rt,
+        "entries",
+        by_entries(alloc, WAY_ROUND, "end 17\n")?.as_str(),
+        WAY_ROUND,
+    );
+    same(
+        &rt,
+        "whole",
+        whole(&rt, alloc, WAY_ROUND)?.as_str(),
+        WAY_ROUND,
+    );
+    Ok(())
+}
+
+// A certificate as it is written.
+fn written(alloc: Global, proof: &str) -> Result<String, Fail> {
+    let mut text = String::new(alloc);
+    read(alloc, proof.as_bytes())?.write(alloc, &mut text)?;
+    Ok(text)
+}
+
+// Whether a certificate is valid where a history leads.
+fn is_valid(alloc: Global, history: &str, proof: &str) -> Result<bool, Fail> {
+    let world = world(alloc, history)?;
+    Ok(check(&world, &read(alloc, proof.as_bytes())?).is_ok())
+}
+
+#[test]
+fn a_certificate_is_read_written_and_judged(rt: HostRuntime) -> Result<(), Fail> {
+    let alloc = rt.alloc();
+    same(&rt, "journey", written(alloc, PROOF)?.as_str(), PROOF);
+    same(
+        &rt,
+        "library",
+        written(alloc, TO_LIBRARY)?.as_str(),
+        TO_LIBRARY,
+    );
+    assert!(rt; is_valid(alloc, WAY_ROUND, PROOF)?);
+    assert!(rt; is_valid(alloc, LIBRARY, TO_LIBRARY)?);
+    Ok(())
+}
 
 // Sees what the verdict is where something stands in place of a part of that proof.
 fn check_verdict(

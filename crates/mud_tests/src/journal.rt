@@ -1,21 +1,23 @@
 //! Journals on a disk in memory, of which each call fails in turn; by their own calls, and under a server.
 
-use crate::client::{bound, play};
+ghost use Rattle.std.specs.Prelude.{◌≤◌};
+
+use crate::client::play;
 use crate::rows::same;
 use log::Log;
-use mud_chron::{Entry, read_front};
+use mud_chron::{ChronFault, Entry, read_front};
 use mud_ends::Sink;
-use mud_journal::{Disk, DiskFault, Journal, JournalFault, recovered};
+use mud_journal::{Disk, DiskFault, Found, Journal, JournalFault, OpenFault, recovered};
 use mud_listen::{Doors, Limits, ListenFault, listen_journaled};
-use std::alloc::Global;
+use std::alloc::{AllocError, Global};
 use std::io::Write;
-use std::net::{Net, TcpListener, TcpStream};
+use std::net::{Ipv4Addr, Net, SocketAddr, TcpListener, TcpStream};
 use std::process::Abort;
 use std::sync::Wait;
 use std::test::Fail;
-use std::thread;
 use std::thread::Threads;
 use std::time::Clock;
+use std::{io, thread};
 
 // What is on a disk in memory, how many of its first bytes are synced, how many calls there were, and which of them
 // fails; 0: none.
@@ -88,60 +90,95 @@ impl Disk for MemoryDisk<'_> {
     }
 }
 
-// Adds entries, two at a time; how many are synced. After a fault it is tried once more.
-fn added(
+// Adds entries, two at a time. After a fault it is tried once more.
+fn commit(
     rt: &impl Abort,
     alloc: Global,
     journal: &mut Journal<MemoryDisk<'_>>,
     entries: &[Entry],
-) -> usize {
-    let mut synced = journal.len();
+) {
     for batch in entries.chunks(2) {
-        match journal.commit(alloc, batch) {
-            Ok(receipt) => synced = receipt.up_to(),
-            Err(_) => {
-                assert!(rt; journal.commit(alloc, batch).is_err());
-                return synced;
-            }
+        if journal.commit(alloc, batch).is_err() {
+            assert!(rt; journal.commit(alloc, batch).is_err());
+            return;
         }
     }
-    synced
 }
 
-// Adds what this text of a journal has more than the disk. How many entries were found there, and how many are synced.
+// Adds what these entries have more than a disk; how many of them are synced then.
+fn added(rt: &impl Abort, alloc: Global, found: Found<MemoryDisk<'_>>, entries: &[Entry]) -> usize {
+    let had = found.len();
+    match found.begin() {
+        Ok(mut journal) => {
+            commit(rt, alloc, &mut journal, entries.get(had..).unwrap_or(&[]));
+            journal.receipt().up_to()
+        }
+        Err(_) => had,
+    }
+}
+
+// What is found on a disk.
+fn found_on<'s>(
+    alloc: Global,
+    store: &'s mut Store,
+    bytes: &[u8],
+) -> Result<Found<MemoryDisk<'s>>, OpenFault> {
+    let (found, _, _) = recovered(alloc, MemoryDisk { store }, bytes)?;
+    Ok(found)
+}
+
+// Adds what these entries have more than the disk; how many were found there, and how many are synced.
 fn completed(
     rt: &impl Abort,
     alloc: Global,
     store: &mut Store,
-    text: &str,
-) -> Result<(usize, usize), Fail> {
-    let bytes = store.bytes.clone()?;
-    let (found, had, _) = recovered(alloc, MemoryDisk { store }, &bytes)?;
-    let Ok(mut journal) = found.begin() else {
-        return Ok((had.len(), had.len()));
-    };
-    let whole = read_front(alloc, text.as_bytes())?;
-    let more = whole.entries.get(had.len()..).ok_or("too many entries")?;
-    Ok((had.len(), added(rt, alloc, &mut journal, more)))
+    bytes: &[u8],
+    entries: &[Entry],
+) -> Result<(usize, usize), OpenFault> {
+    let found = found_on(alloc, store, bytes)?;
+    let had = found.len();
+    Ok((had, added(rt, alloc, found, entries)))
 }
 
-// Sees that in whatever a crash leaves of the disk the entries that were synced are found, and that the journal can be
-// gone on from there.
+// A disk on which these bytes are.
+fn disk_of(alloc: Global, bytes: &[u8]) -> Result<Store, AllocError> {
+    Ok(Store::new(Vec::from_slice(alloc, bytes)?, 0))
+}
+
+// Sees that in these bytes the entries that were synced are found, and that the journal can be gone on from there.
+fn check_front(
+    rt: &impl Abort,
+    alloc: Global,
+    left: &[u8],
+    entries: &[Entry],
+    text: &str,
+    synced: usize,
+) -> Result<(), Fail> {
+    let mut store = disk_of(alloc, left)?;
+    let (had, _) = completed(rt, alloc, &mut store, left, entries)?;
+    assert!(rt; synced <= had && store.bytes.as_slice() == text.as_bytes());
+    Ok(())
+}
+
+// The same in whatever a crash leaves of the disk.
 fn check_fronts(
     rt: &impl Abort,
     alloc: Global,
     store: &Store,
+    entries: &[Entry],
     text: &str,
     synced: usize,
 ) -> Result<(), Fail> {
     for len in store.synced..=store.bytes.len() {
-        let left = store.bytes.get(..len).ok_or("fewer bytes")?;
-        let mut found = Store::new(Vec::from_slice(alloc, left)?, 0);
-        let (had, _) = completed(rt, alloc, &mut found, text)?;
-        assert!(rt; synced <= had);
-        assert!(rt; found.bytes.as_slice() == text.as_bytes());
+        let left = store.bytes.get(..len).unwrap_or(&[]);
+        check_front(rt, alloc, left, entries, text, synced)?;
     }
     Ok(())
+}
+
+// The entries of a journal's text.
+fn entries_of(alloc: Global, text: &str) -> Result<Vec<Entry>, ChronFault> {
+    Ok(read_front(alloc, text.as_bytes())?.entries)
 }
 
 const TEXT: &str = "mud history 2
@@ -155,20 +192,49 @@ const TEXT: &str = "mud history 2
 // How many calls it takes to write it: a cut, the first line and its sync, and two calls for each two entries.
 const CALLS: u32 = 9;
 
+// Sees what is left where this call fails.
+fn check_fault(
+    rt: &impl Abort,
+    alloc: Global,
+    entries: &[Entry],
+    fails_at: u32,
+) -> Result<(), Fail> {
+    let mut store = Store::new(Vec::new(alloc), fails_at);
+    let (_, synced) = completed(rt, alloc, &mut store, &[], entries)?;
+    assert!(rt; store.calls == fails_at.min(CALLS));
+    check_fronts(rt, alloc, &store, entries, TEXT, synced)
+}
+
 // Refused are a receipt before its sync, and a journal that touches the disk after a fault.
 #[test]
 fn each_call_of_a_disk_fails(rt: HostRuntime) -> Result<(), Fail> {
-    let alloc = rt.alloc();
+    let entries = entries_of(rt.alloc(), TEXT)?;
     for fails_at in 1..=CALLS + 1 {
-        let mut store = Store::new(Vec::new(alloc), fails_at);
-        let (_, synced) = completed(&rt, alloc, &mut store, TEXT)?;
-        assert!(rt; store.calls == fails_at.min(CALLS));
-        check_fronts(&rt, alloc, &store, TEXT, synced)?;
+        check_fault(&rt, rt.alloc(), &entries, fails_at)?;
     }
     Ok(())
 }
 
-// Serves one session, and keeps its history on the disk.
+// The limits of a server that serves one session.
+fn limits() -> Limits
+    ensures sessions { result.sessions ≤ 64 }
+    ensures workers { result.workers ≤ 8 }
+    ensures from { 1 ≤ result.capacity }
+    ensures to { result.capacity ≤ 65536 }
+{
+    Limits {
+        sessions: 64,
+        per_address: 0,
+        total: 1,
+        counts_players: false,
+        workers: 0,
+        capacity: 16,
+        idle: 0,
+        unnamed: 0,
+    }
+}
+
+// Serves one session, and keeps its history on the disk, which is empty.
 fn serve<
     R: Net<Listener = TcpListener, Stream = TcpStream>
         + AllocGlobal
@@ -180,29 +246,18 @@ fn serve<
     W: Write,
 >(rt: &R, telnet: TcpListener, store: &mut Store, out: &mut Sink<W>) -> Result<(), ListenFault> {
     let alloc = rt.alloc();
-    let bytes = store.bytes.clone()?;
-    let Ok((found, had, _)) = recovered(alloc, MemoryDisk { store }, &bytes) else {
+    let Ok((found, had, _)) = recovered(alloc, MemoryDisk { store }, &[]) else {
         return Err(ListenFault::OutOfMemory);
     };
     let doors = Doors { telnet, web: None };
-    let limits = Limits {
-        sessions: 64,
-        per_address: 0,
-        total: 1,
-        counts_players: false,
-        workers: 0,
-        capacity: 16,
-        idle: 0,
-        unnamed: 0,
-    };
-    match listen_journaled(rt, alloc, doors, limits, had, found, None, out) {
+    match listen_journaled(rt, alloc, doors, limits(), had, found, None, out) {
         Ok(_) => Ok(()),
         Err(fault) => Err(fault),
     }
 }
 
 // How a server ended.
-fn ended(served: Result<(), ListenFault>) -> &'static str {
+fn ended(served: &Result<(), ListenFault>) -> &'static str {
     match served {
         Ok(()) => "done",
         Err(ListenFault::Journal(JournalFault::Disk)) => "journal fault: disk",
@@ -210,7 +265,48 @@ fn ended(served: Result<(), ListenFault>) -> &'static str {
     }
 }
 
-// Sees what a client of a server over a disk is sent for the lines that he types, how the server ends, and what it
+// A listener on a free port of this machine alone.
+fn bound<R: Net<Listener = TcpListener, Stream = TcpStream>>(rt: &R) -> io::Result<TcpListener> {
+    TcpListener::bind(rt, SocketAddr::from((Ipv4Addr::LOCALHOST, 0)))
+}
+
+// Has a client type lines to a server over a disk: what he is sent, and how the server ends. What the server writes is
+// added to `written`.
+fn served<
+    R: Net<Listener = TcpListener, Stream = TcpStream>
+        + AllocGlobal
+        + Threads
+        + Wait
+        + Log
+        + Clock
+        + Sync,
+>(
+    rt: &R,
+    telnet: TcpListener,
+    store: &mut Store,
+    lines: &str,
+    written: &mut Vec<u8>,
+) -> io::Result<String> {
+    let alloc = rt.alloc();
+    let address = telnet.local_addr()?;
+    let mut sink = Sink::new(written);
+    let (served, heard) = thread::join(
+        rt,
+        || serve(rt, telnet, store, &mut sink),
+        || play(rt, alloc, address, lines),
+    );
+    let mut heard = heard?;
+    heard.push_str(ended(&served))?;
+    Ok(heard)
+}
+
+// What is written behind the line of the port.
+fn history_of(written: &[u8]) -> &str {
+    let text = str::from_utf8(written).unwrap_or("");
+    text.split_once('\n').unwrap_or(("", "")).1
+}
+
+// Sees what a client of a server over a disk is sent for the lines that he types, with how the server ends, and what it
 // writes behind the line of its port.
 fn check_served<
     R: Net<Listener = TcpListener, Stream = TcpStream>
@@ -221,22 +317,11 @@ fn check_served<
         + Clock
         + Sync
         + Abort,
->(rt: &R, store: &mut Store, lines: &str, wanted: &str, end: &str, text: &str) -> Result<(), Fail> {
-    let alloc = rt.alloc();
-    let (listener, address) = bound(rt)?;
-    let mut written = Vec::new(alloc);
-    let mut sink = Sink::new(&mut written);
-    let (served, heard) = thread::join(
-        rt,
-        || serve(rt, listener, store, &mut sink),
-        || play(rt, alloc, address, lines),
-    );
-    same(rt, lines, heard?.as_str(), wanted);
-    same(rt, lines, ended(served), end);
-    let (_, found) = str::from_utf8(&written)?
-        .split_once('\n')
-        .unwrap_or(("", ""));
-    same(rt, lines, found, text);
+>(rt: &R, store: &mut Store, lines: &str, wanted: &str, text: &str) -> Result<(), Fail> {
+    let mut written = Vec::new(rt.alloc());
+    let heard = served(rt, bound(rt)?, store, lines, &mut written)?;
+    same(rt, lines, heard.as_str(), wanted);
+    same(rt, lines, history_of(&written), text);
     Ok(())
 }
 
@@ -245,8 +330,32 @@ const OF_BOB: &str = "mud history 2
 2 1 say #2 hi
 ";
 
-// Sees what a client is sent for the lines that he types, where each call of the disk from the first to the last of
-// these fails; the journal that is left has so many of the changes at least.
+// Sees what a client is sent where this call of the disk fails; the journal that is left has so many of the changes at
+// least.
+fn check_fault_of<
+    R: Net<Listener = TcpListener, Stream = TcpStream>
+        + AllocGlobal
+        + Threads
+        + Wait
+        + Log
+        + Clock
+        + Sync
+        + Abort,
+>(
+    rt: &R,
+    entries: &[Entry],
+    fails_at: u32,
+    lines: &str,
+    wanted: &str,
+    told: usize,
+) -> Result<(), Fail> {
+    let mut store = Store::new(Vec::new(rt.alloc()), fails_at);
+    check_served(rt, &mut store, lines, wanted, "")?;
+    assert!(rt; store.calls == fails_at);
+    check_fronts(rt, rt.alloc(), &store, entries, OF_BOB, told)
+}
+
+// The same where each call from the first to the last of these fails.
 fn check_faults<
     R: Net<Listener = TcpListener, Stream = TcpStream>
         + AllocGlobal
@@ -257,11 +366,9 @@ fn check_faults<
         + Sync
         + Abort,
 >(rt: &R, first: u32, last: u32, lines: &str, wanted: &str, told: usize) -> Result<(), Fail> {
+    let entries = entries_of(rt.alloc(), OF_BOB)?;
     for fails_at in first..=last {
-        let mut store = Store::new(Vec::new(rt.alloc()), fails_at);
-        check_served(rt, &mut store, lines, wanted, "journal fault: disk", "")?;
-        assert!(rt; store.calls == fails_at);
-        check_fronts(rt, rt.alloc(), &store, OF_BOB, told)?;
+        check_fault_of(rt, &entries, fails_at, lines, wanted, told)?;
     }
     Ok(())
 }
@@ -269,25 +376,29 @@ fn check_faults<
 // What Bob types: first he only waits for a line, and last, where the server ends before him, for another.
 const UNKNOWN: &str = ";connect Bob;";
 
-const OF_UNKNOWN: &str = "Welcome. Type: connect NAME;(journal fault);;";
+const OF_UNKNOWN: &str = "Welcome. Type: connect NAME;(journal fault);;journal fault: disk";
 
 const UNHEARD: &str = ";connect Bob;say hi;";
 
-const OF_UNHEARD: &str = "Welcome. Type: connect NAME;[1] welcome #2;(journal fault);;";
+const OF_UNHEARD: &str =
+    "Welcome. Type: connect NAME;[1] welcome #2;(journal fault);;journal fault: disk";
 
 const HEARD: &str = ";connect Bob;say hi;quit";
 
-const OF_HEARD: &str = "Welcome. Type: connect NAME;[1] welcome #2;[2] said;[2] bye;";
+const OF_HEARD: &str =
+    "Welcome. Type: connect NAME;[1] welcome #2;[2] said;[2] bye;journal fault: disk";
 
 // Refused are a server that tells of a change before it is synced, or that the disk failed and goes on all the same.
 // Behind the two calls for each change are two of the server's end.
 #[test]
 fn each_call_of_a_disk_fails_under_a_server(rt: HostRuntime) -> Result<(), Fail> {
-    check_faults(&rt, 1, 3, "", "", 0)?;
+    check_faults(&rt, 1, 3, "", "journal fault: disk", 0)?;
     check_faults(&rt, 4, 5, UNKNOWN, OF_UNKNOWN, 0)?;
     check_faults(&rt, 6, 7, UNHEARD, OF_UNHEARD, 1)?;
     check_faults(&rt, 8, 9, HEARD, OF_HEARD, 2)
 }
+
+const OF_DONE: &str = "Welcome. Type: connect NAME;[1] welcome #2;[2] said;[2] bye;done";
 
 const DONE: &str = "mud history 2
 1 1 player #2 \"Bob\"
@@ -299,8 +410,7 @@ end 2
 #[test]
 fn a_journal_has_the_history_without_its_last_line(rt: HostRuntime) -> Result<(), Fail> {
     let mut store = Store::new(Vec::new(rt.alloc()), 0);
-    check_served(&rt, &mut store, HEARD, OF_HEARD, "done", DONE)?;
-    assert!(rt; store.bytes.as_slice() == OF_BOB.as_bytes());
-    assert!(rt; store.synced == OF_BOB.len());
+    check_served(&rt, &mut store, HEARD, OF_DONE, DONE)?;
+    assert!(rt; store.bytes.as_slice() == OF_BOB.as_bytes() && store.synced == OF_BOB.len());
     Ok(())
 }

@@ -3,12 +3,13 @@
 ghost use Rattle.std.specs.Prelude.{◌≡◌, ◌≤◌, All, length};
 ghost use Rattle.mud_roads.specs.Open.{IsTraveller};
 
-use crate::rows::{digit, parted};
+use crate::rows::{digit, parted, same};
 use crate::village::world;
 use mud_roads::{Label, Traveller};
 use mud_search::{Frontier, Job, Labels, Put, Task};
 use mud_world::World;
 use std::alloc::{AllocError, Global};
+use std::fmt::Write;
 use std::marker::Brand;
 use std::process::Abort;
 use std::slice;
@@ -134,59 +135,72 @@ fn goes_so<J: Job>(
     Ok(is_so && rest.opened == digit(opened) as usize && rest.held == digit(held) as usize)
 }
 
-// The labels that a frontier has after the moves, each as told; no room is open at the end.
-fn by_hand<J: Job>(
+// Does the moves, each as told; no room is open at the end.
+fn play<J: Job>(
     rt: &impl Abort,
     alloc: Global,
+    frontier: &mut Frontier<J>,
     world: &World,
     party: &[Traveller],
-) -> Result<Labels, Fail>
+) -> Result<(), AllocError>
     requires world { world.now ≡ J.world }
     requires party { party.now ≡ J.travellers }
     requires travellers { All (IsTraveller J.world) J.travellers }
-    requires few { length J.travellers ≤ 8 }
 {
-    let mut frontier = Frontier::<J>::new(alloc, world, party)?;
     for row in MOVES.split('\n') {
         if let Some((asked, wanted)) = row.split_once(" => ") {
             assert!(rt;
-                goes_so(&mut frontier, alloc, world, party, asked, wanted)?,
+                goes_so(frontier, alloc, world, party, asked, wanted)?,
                 "{row}"
             );
         }
     }
     frontier.facts();
     assert!(rt; frontier.take().is_none());
+    Ok(())
+}
+
+// The labels that a frontier has after the moves.
+fn by_hand<J: Job>(
+    rt: &impl Abort,
+    alloc: Global,
+    world: &World,
+    party: &[Traveller],
+) -> Result<Labels, AllocError>
+    requires world { world.now ≡ J.world }
+    requires party { party.now ≡ J.travellers }
+    requires travellers { All (IsTraveller J.world) J.travellers }
+    requires few { length J.travellers ≤ 8 }
+{
+    let mut frontier = Frontier::<J>::new(alloc, world, party)?;
+    play(rt, alloc, &mut frontier, world, party)?;
     Ok(frontier.into_labels())
 }
 
-// The cost and exits of the label of each room of the crossing, from #0; of some there is none.
-const LABELS: &str = "
-0 => 0 0
-1 => none
-2 => 7 2
-4 => 3 1
-5 => none
-7 => 8 3
-9 => none
-";
+/// What the labels of the crossing are, from #0: each room with its cost and how many exits lead there.
+pub(crate) const LABELS: &str = "#0:0/0 #2:7/2 #4:3/1 #7:8/3 ";
 
-// What the labels of the crossing are, from #0.
-pub(crate) fn check_labels(rt: &impl Abort, labels: &Labels) {
-    for row in LABELS.split('\n') {
-        if let Some((room, wanted)) = row.split_once(" => ") {
-            let is_so = match labels.get(0, digit(room)) {
-                Some(label) => label == label_of(wanted),
-                None => wanted == "none",
-            };
-            assert!(rt; is_so, "{row}");
-        }
+// Appends the label of a room.
+fn push_label(room: u32, label: Option<Label>, out: &mut String) -> Result<(), AllocError> {
+    match label {
+        Some(label) => write!(out, "#{room}:{}/{} ", label.cost, label.exits),
+        None => Ok(()),
     }
-    assert!(rt; labels.get(0, u32::MAX).is_none() && labels.get(1, 0).is_none());
+}
+
+/// The labels of the first member at each of the first twenty numbers; there is none past the last.
+pub(crate) fn text_of(alloc: Global, labels: &Labels) -> Result<String, AllocError> {
+    let mut text = String::new(alloc);
+    for room in 0..20 {
+        push_label(room, labels.get(0, room), &mut text)?;
+    }
+    push_label(0, labels.get(1, 0), &mut text)?;
+    push_label(u32::MAX, labels.get(0, u32::MAX), &mut text)?;
+    Ok(text)
 }
 
 // The labels of the wizard's rooms.
-fn wizards_labels(rt: &impl Abort, alloc: Global, world: &World) -> Result<Labels, Fail> {
+fn wizards_labels(rt: &impl Abort, alloc: Global, world: &World) -> Result<Labels, AllocError> {
     assert!(rt; world.is_player(1));
     let wizard = Traveller::of(alloc, world, 1)?;
     by_hand::<Brand>(rt, alloc, world, slice::from_ref(&wizard))
@@ -194,8 +208,12 @@ fn wizards_labels(rt: &impl Abort, alloc: Global, world: &World) -> Result<Label
 
 #[test]
 fn a_frontier_by_hand(rt: HostRuntime) -> Result<(), Fail> {
-    let world = world(rt.alloc(), CROSSING)?;
-    let labels = wizards_labels(&rt, rt.alloc(), &world)?;
-    check_labels(&rt, &labels);
+    let labels = wizards_labels(&rt, rt.alloc(), &world(rt.alloc(), CROSSING)?)?;
+    same(
+        &rt,
+        "by hand",
+        text_of(rt.alloc(), &labels)?.as_str(),
+        LABELS,
+    );
     Ok(())
 }

@@ -1,11 +1,13 @@
-//! Sessions of guests at one hall: what each is sent, and when. All are on one thread.
+//! Sessions: what two guests of one hall are sent, and when; a session of a script; and the desk of one user. All are
+//! on one thread.
 
 ghost use Rattle.std.specs.Prelude.{◌≡◌};
 
-use crate::rows::{parted, same};
-use mud_hall::{Desk, Fault, Hall, HallName, NewHall, Reply};
-use mud_session::{Seat, Session, SessionFault};
-use std::alloc::Global;
+use crate::rows::{parted, push_sent, push_text, same};
+use mud_ends::{Sink, Source};
+use mud_hall::{Desk, Fault, Hall, HallName, NewHall, Reply, Solo};
+use mud_session::{Seat, Session, SessionFault, script};
+use std::alloc::{AllocError, Global};
 use std::marker::Brand;
 use std::process::Abort;
 use std::sync::Wait;
@@ -32,28 +34,33 @@ fn greeted<'h, J: HallName, R: Wait>(
     })
 }
 
-// What a guest is sent for a line, with a `;` in place of each line's end; for an empty one he types nothing, and what
-// others did is looked for.
-fn sent<J: HallName, R: Threads + Wait + Sync>(
+// A guest types a line; for an empty one he types nothing, and what others did is looked for.
+fn typed<J: HallName, R: Threads + Wait + Sync>(
     rt: &R,
     alloc: Global,
     guest: &mut Guest<'_, J>,
     line: &str,
-) -> Result<String, Fail> {
+) -> Result<Result<(), SessionFault>, AllocError> {
     let (session, seat) = (&mut guest.session, &mut guest.seat);
-    let outcome = match line {
-        "" => session.nudge(seat),
-        _ => session.feed(
-            rt,
-            seat,
-            [line, "\r\n"].as_slice().join(alloc, "")?.as_bytes(),
-        ),
-    };
-    if let Err(SessionFault::Ended) = outcome {
-        return Ok(String::from_str(alloc, "the session has ended")?);
+    if line.is_empty() {
+        return Ok(session.nudge(seat));
     }
-    let text = String::from_utf8_lossy(alloc, &session.take_out())?;
-    Ok(text.replace(alloc, "\r\n", ";")?)
+    let line = [line, "\r\n"].as_slice().join(alloc, "")?;
+    Ok(session.feed(rt, seat, line.as_bytes()))
+}
+
+// Appends what a guest is sent for a line.
+fn push_typed<J: HallName, R: Threads + Wait + Sync>(
+    rt: &R,
+    alloc: Global,
+    guest: &mut Guest<'_, J>,
+    line: &str,
+    out: &mut String,
+) -> Result<(), AllocError> {
+    match typed(rt, alloc, guest, line)? {
+        Err(SessionFault::Ended) => out.push_str("the session has ended"),
+        _ => push_sent(alloc, &guest.session.take_out(), out),
+    }
 }
 
 // Refused are a session that tells its guest nothing of what others did, late, twice, or behind its
@@ -80,17 +87,44 @@ fn check_row<'h, J: HallName, R: Threads + Wait + Sync + Abort>(
     first: &mut Guest<'h, J>,
     second: &mut Guest<'h, J>,
     row: &str,
-) -> Result<(), Fail> {
+    found: &mut String,
+) -> Result<(), AllocError> {
     if let Some((asked, wanted)) = row.split_once(" => ") {
         let (who, line) = parted(asked);
         let guest = if who == "1" { first } else { second };
-        let text = sent(rt, alloc, guest, line)?;
-        same(rt, asked, text.as_str(), wanted);
+        found.clear();
+        push_typed(rt, alloc, guest, line, found)?;
+        same(rt, asked, found.as_str(), wanted);
+    }
+    Ok(())
+}
+
+// The same of all rows.
+fn check_guests<'h, J: HallName, R: Threads + Wait + Sync + Abort>(
+    rt: &R,
+    alloc: Global,
+    first: &mut Guest<'h, J>,
+    second: &mut Guest<'h, J>,
+) -> Result<(), AllocError> {
+    let mut found = String::new(alloc);
+    for row in GUESTS.split('\n') {
+        check_row(rt, alloc, first, second, row, &mut found)?;
     }
     Ok(())
 }
 
 // Two guests of a hall are sent what the rows say.
+fn play_at<J: HallName, R: Threads + Wait + Sync + Abort>(
+    rt: &R,
+    alloc: Global,
+    hall: &Hall<J>,
+) -> Result<(), Fail> {
+    let mut first = greeted(rt, alloc, hall)?;
+    let mut second = greeted(rt, alloc, hall)?;
+    Ok(check_guests(rt, alloc, &mut first, &mut second)?)
+}
+
+// The same in a new hall.
 fn play<J: HallName, R: Threads + Wait + Sync + Abort>(
     rt: &R,
     alloc: Global,
@@ -99,13 +133,7 @@ fn play<J: HallName, R: Threads + Wait + Sync + Abort>(
     requires cells { hall.cells ≡ J.cells }
     requires loaded { hall.loaded ≡ J.loaded }
 {
-    let hall = hall.named::<J>();
-    let mut first = greeted(rt, alloc, &hall)?;
-    let mut second = greeted(rt, alloc, &hall)?;
-    for row in GUESTS.split('\n') {
-        check_row(rt, alloc, &mut first, &mut second, row)?;
-    }
-    Ok(())
+    play_at(rt, alloc, &hall.named::<J>())
 }
 
 #[test]
@@ -123,81 +151,174 @@ fn desk<J: HallName, R: Wait>(rt: &R, hall: &Hall<J>) -> Result<Desk<J>, Fault> 
 }
 
 // The same for a line.
-fn act<J: HallName, R: Wait>(
-    rt: &R,
-    hall: &Hall<J>,
-    desk: &mut Desk<J>,
-    line: &str,
-) -> Result<Reply, Fault> {
-    match hall.act(rt, desk, line) {
-        Ok(reply) => Ok(reply),
-        Err(_) => hall.act(rt, desk, line),
+fn act<J: HallName, R: Wait>(rt: &R, hall: &Hall<J>, desk: &mut Desk<J>, line: &str) {
+    if hall.act(rt, desk, line).is_err() {
+        let _ = hall.act(rt, desk, line);
     }
 }
 
-// The same for each of some lines.
-fn act_on<J: HallName, R: Wait>(
-    rt: &R,
-    hall: &Hall<J>,
-    desk: &mut Desk<J>,
-    lines: &[&str],
-) -> Result<(), Fault> {
-    for line in lines {
-        act(rt, hall, desk, line)?;
-    }
-    Ok(())
+// What the wizard does that Bob hears.
+fn act_all<J: HallName, R: Wait>(rt: &R, hall: &Hall<J>, wizard: &mut Desk<J>, bob: &mut Desk<J>) {
+    act(rt, hall, wizard, "connect wizard");
+    act(rt, hall, bob, "connect Bob");
+    act(rt, hall, wizard, "say hi");
+    act(rt, hall, wizard, ":waves.");
+    act(rt, hall, wizard, "say ho");
 }
 
-// Whether a text begins with these bytes.
-fn is_front(bytes: &[u8], text: &str) -> bool {
-    text.as_bytes().starts_with(bytes)
+// Whether it is each line once, in order; where memory is refused to the session itself it ends, with a front of them.
+fn is_each_once(sent: &[u8], ended: bool) -> bool {
+    HEARD.as_bytes().starts_with(sent) && (ended || sent.len() == HEARD.len())
 }
 
-// What one who has not looked since he came is sent when he looks twice: whether it is each line once, in order; where
-// memory is refused to the session itself it ends, with a front of them.
+// What one who has not looked since he came is sent when he looks twice, if it is as it should be.
 fn hears_each_once<J: HallName>(
     alloc: Global,
     hall: &Hall<J>,
     desk: Desk<J>,
-) -> Result<bool, Fail> {
+) -> Result<bool, AllocError> {
     let mut seat = Seat::new(hall, desk, 0);
     let mut session = Session::new(alloc, false)?;
     let _ = session.nudge(&mut seat);
     let _ = session.nudge(&mut seat);
-    let sent = session.take_out();
-    Ok(is_front(&sent, HEARD) && (session.ended() || sent.len() == HEARD.len()))
+    let ended = session.ended();
+    Ok(is_each_once(&session.take_out(), ended))
 }
 
 // Whether Bob hears so what the Wizard does.
+fn is_told_once<J: HallName, R: Threads + Wait + Sync>(
+    rt: &R,
+    alloc: Global,
+    hall: &Hall<J>,
+) -> Result<bool, Fault> {
+    let mut wizard = desk(rt, hall)?;
+    let mut bob = desk(rt, hall)?;
+    act_all(rt, hall, &mut wizard, &mut bob);
+    Ok(hears_each_once(alloc, hall, bob)?)
+}
+
+// The same in a new hall.
 fn is_told_once_in<J: HallName, R: Threads + Wait + Sync>(
     rt: &R,
     alloc: Global,
     hall: NewHall,
-) -> Result<bool, Fail>
+) -> Result<bool, Fault>
     requires cells { hall.cells ≡ J.cells }
     requires loaded { hall.loaded ≡ J.loaded }
 {
-    let hall = hall.named::<J>();
-    let mut wizard = desk(rt, &hall)?;
-    let mut bob = desk(rt, &hall)?;
-    act_on(rt, &hall, &mut wizard, &["connect wizard"])?;
-    act_on(rt, &hall, &mut bob, &["connect Bob"])?;
-    act_on(rt, &hall, &mut wizard, &["say hi", ":waves.", "say ho"])?;
-    hears_each_once(alloc, &hall, bob)
+    is_told_once(rt, alloc, &hall.named::<J>())
 }
 
 const HEARD: &str = "(2) Wizard says, \"hi\"\r\n(3) Wizard waves.\r\n(4) Wizard says, \"ho\"\r\n";
+
+// A hall, where one request for memory may be refused.
+fn hall(alloc: Global) -> Result<NewHall, AllocError> {
+    match NewHall::open(alloc, 16) {
+        Ok(hall) => Ok(hall),
+        Err(_) => NewHall::open(alloc, 16),
+    }
+}
 
 // A look that met want of memory loses no line and tells none twice. The gate runs this once for each
 // request for memory, and refuses that one.
 #[test]
 fn each_line_is_told_once(rt: HostRuntime) -> Result<(), Fail> {
-    let alloc = rt.alloc();
-    let hall = match NewHall::open(alloc, 16) {
-        Ok(hall) => hall,
-        Err(_) => NewHall::open(alloc, 16)?,
-    };
-    let is_told_once = is_told_once_in::<Brand, _>(&rt, alloc, hall)?;
-    assert!(rt; is_told_once);
+    let hall = hall(rt.alloc())?;
+    assert!(rt; is_told_once_in::<Brand, _>(&rt, rt.alloc(), hall)?);
+    Ok(())
+}
+
+// What the desk of one user replies and answers to the lines that act and those that ask.
+const SOLO: &str = "
+act @dig north|south to \"Library\" => dug room #2, exit #3, exit back #4
+act route to #2 => question
+ask route to #2 => route #0 to #2 cost 1 by #3
+act foo => I couldn't understand that.
+ask look => The Hall #0 /   exits north #3
+act connect wizard => welcome #1
+act say no => fault
+ask @version => version
+";
+
+// Appends a reply.
+fn push_reply(reply: &Result<Reply, Fault>, out: &mut String) -> Result<(), AllocError> {
+    match reply {
+        Ok(Reply::Accepted { text, .. }) => out.push_str(text.as_str()),
+        Ok(Reply::Became { text, .. }) => out.push_str(text.as_str()),
+        Ok(Reply::Refused { text, .. }) => out.push_str(text.as_str()),
+        Ok(Reply::Question { .. }) => out.push_str("question"),
+        Err(_) => out.push_str("fault"),
+    }
+}
+
+// Appends what a line that acts is replied.
+fn push_acted(solo: &mut Solo, line: &str, out: &mut String) -> Result<(), AllocError> {
+    push_reply(&solo.act(line), out)
+}
+
+// Appends what a line that asks is answered.
+fn push_asked<R: Threads + Wait + Sync>(
+    rt: &R,
+    alloc: Global,
+    solo: &Solo,
+    line: &str,
+    out: &mut String,
+) -> Result<(), AllocError> {
+    push_text(alloc, solo.ask(rt, line)?.text.as_str(), out)
+}
+
+// Sees that a row is answered as it says.
+fn check_solo<R: Threads + Wait + Sync + Abort>(
+    rt: &R,
+    alloc: Global,
+    solo: &mut Solo,
+    row: &str,
+    found: &mut String,
+) -> Result<(), AllocError> {
+    if let Some((asked, wanted)) = row.split_once(" => ") {
+        found.clear();
+        match parted(asked) {
+            ("act", line) => push_acted(solo, line, found)?,
+            (_, line) => push_asked(rt, alloc, solo, line, found)?,
+        }
+        same(rt, asked, found.as_str(), wanted);
+    }
+    Ok(())
+}
+
+#[test]
+fn the_desk_of_one_user(rt: HostRuntime) -> Result<(), Fail> {
+    let mut solo = Solo::open(rt.alloc(), 1)?;
+    let mut found = String::new(rt.alloc());
+    for row in SOLO.split('\n') {
+        check_solo(&rt, rt.alloc(), &mut solo, row, &mut found)?;
+    }
+    Ok(())
+}
+
+// A script, and what it writes.
+const LINES: &[u8] = b"@dig north|south to \"Library\"\nroute to #2\n";
+
+const WRITTEN: &str = "[1] dug room #2, exit #3, exit back #4;[1] route #0 to #2 cost 1 by #3;";
+
+// What a script writes.
+fn written<R: Threads + Wait + Sync>(rt: &R, alloc: Global) -> Result<String, Fail> {
+    let mut bytes = Vec::new(alloc);
+    script(
+        rt,
+        alloc,
+        &mut Source::new(LINES),
+        &mut Sink::new(&mut bytes),
+        16,
+        0,
+    )?;
+    let mut text = String::new(alloc);
+    push_sent(alloc, &bytes, &mut text)?;
+    Ok(text)
+}
+
+#[test]
+fn a_script_is_answered(rt: HostRuntime) -> Result<(), Fail> {
+    same(&rt, "script", written(&rt, rt.alloc())?.as_str(), WRITTEN);
     Ok(())
 }

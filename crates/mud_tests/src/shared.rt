@@ -1,86 +1,117 @@
 //! A row of entries, the passes that know it and the replicas that follow it, by their own calls.
 
-ghost use Rattle.std.specs.Prelude.{◌≡◌, IfOk};
+ghost use Rattle.std.specs.Prelude.{◌≡◌};
 
 use crate::village::entry;
 use mud_chron::{ChronFault, Entry, write_entry};
 use mud_row::{Pass, Replica, Row, RowFault};
 use std::alloc::Global;
 use std::boxed::Box;
+use std::process::Abort;
 use std::test::Fail;
 
 // Whether an entry is this change of desk 1's.
-fn is_so(alloc: Global, entry: &Entry, change: &str) -> Result<bool, ChronFault> {
+fn is_so(alloc: Global, entry: &Entry, change: &str) -> bool {
     let mut line = String::new(alloc);
-    write_entry(alloc, 1, entry, &mut line)?;
-    Ok(match line.as_str().strip_prefix("1 1 ") {
-        Some(found) => found.trim_ascii_end() == change,
-        None => false,
-    })
-}
-
-// What comes of a change that is published; a fault is told where the entry comes back as it was.
-fn outcome(
-    alloc: Global,
-    row: &Row,
-    pass: &mut Pass,
-    change: &str,
-) -> Result<&'static str, ChronFault>
-    requires { pass.old.row ≡ row.now }
-    ensures { pass.new.row ≡ row.now }
-{
-    let entry = Box::new(alloc, entry(alloc, change)?)?;
-    match row.publish(pass, entry) {
-        Ok(_) => Ok("published"),
-        Err((entry, fault)) => match (is_so(alloc, &entry, change)?, fault) {
-            (false, _) => Ok("changed"),
-            (true, RowFault::HistoryFull) => Ok("full"),
-            (true, RowFault::Unpublished) => Ok("unpublished"),
-        },
-    }
-}
-
-// Whether that comes of it.
-fn publishes(alloc: Global, row: &Row, pass: &mut Pass, change: &str, wanted: &str) -> bool
-    requires { pass.old.row ≡ row.now }
-    ensures { pass.new.row ≡ row.now }
-{
-    match outcome(alloc, row, pass, change) {
-        Ok(found) => found == wanted,
+    match write_entry(alloc, 1, entry, &mut line) {
+        Ok(()) => line.as_str().trim_ascii_end().strip_prefix("1 1 ") == Some(change),
         Err(_) => false,
     }
 }
 
-// Whether a pass comes to this change next.
-fn follows(alloc: Global, row: &Row, pass: &mut Pass, change: &str) -> bool
+// What comes of an entry that is published; where it comes back as it was, why.
+fn outcome(
+    alloc: Global,
+    row: &Row,
+    pass: &mut Pass,
+    entry: Box<Entry>,
+    change: &str,
+) -> &'static str
+    requires { pass.old.row ≡ row.now }
+    ensures { pass.new.row ≡ row.now }
+{
+    match row.publish(pass, entry) {
+        Ok(_) => "published",
+        Err((entry, fault)) => refused(is_so(alloc, &entry, change), fault),
+    }
+}
+
+// Why an entry was refused, if it came back as it was.
+fn refused(is_so: bool, fault: RowFault) -> &'static str {
+    match (is_so, fault) {
+        (false, _) => "changed",
+        (true, RowFault::HistoryFull) => "full",
+        (true, RowFault::Unpublished) => "unpublished",
+    }
+}
+
+// Sees what comes of a change that is published.
+fn publish(
+    rt: &impl Abort,
+    alloc: Global,
+    row: &Row,
+    pass: &mut Pass,
+    change: &str,
+    wanted: &str,
+) -> Result<(), ChronFault>
+    requires { pass.old.row ≡ row.now }
+    ensures { pass.new.row ≡ row.now }
+{
+    let entry = Box::new(alloc, entry(alloc, change)?)?;
+    assert!(rt; outcome(alloc, row, pass, entry, change) == wanted);
+    Ok(())
+}
+
+// Sees that a pass comes to this change next.
+fn follow(rt: &impl Abort, alloc: Global, row: &Row, pass: &mut Pass, change: &str)
     requires { pass.old.row ≡ row.now }
     ensures { pass.new.row ≡ row.now }
 {
     match row.next(pass) {
-        Some(entry) => matches!(is_so(alloc, entry, change), Ok(true)),
-        None => false,
+        Some(entry) => assert!(rt; is_so(alloc, entry, change)),
+        None => assert!(rt; false),
     }
 }
 
-// Two passes of a row of two cells. An entry comes back where another was there first, and where all cells are known.
-#[test]
-fn two_passes_of_a_row(rt: HostRuntime) -> Result<(), Fail> {
-    let alloc = rt.alloc();
-    let cells = Row::new(alloc, 2)?;
-    let mut first = cells.pass(alloc)?;
-    let mut second = cells.pass(alloc)?;
-    assert!(rt; publishes(alloc, &cells, &mut first, "say #1 e", "published"));
-    assert!(rt; publishes(alloc, &cells, &mut second, "say #1 f", "unpublished"));
-    assert!(rt; follows(alloc, &cells, &mut second, "say #1 e"));
-    assert!(rt; publishes(alloc, &cells, &mut second, "say #1 f", "published"));
-    assert!(rt; publishes(alloc, &cells, &mut second, "say #1 g", "full"));
-    assert!(rt; follows(alloc, &cells, &mut first, "say #1 f"));
-    first.agree(&mut second);
-    assert!(rt; first.known() == 2 && second.known() == 2);
+// Sees how an entry comes back where another was there first, and where all two cells are known.
+fn share(
+    rt: &impl Abort,
+    alloc: Global,
+    row: &Row,
+    first: &mut Pass,
+    second: &mut Pass,
+) -> Result<(), ChronFault>
+    requires first { first.old.row ≡ row.now }
+    requires second { second.old.row ≡ row.now }
+    ensures first { first.new.row ≡ row.now }
+    ensures second { second.new.row ≡ row.now }
+{
+    publish(rt, alloc, row, first, "say #1 e", "published")?;
+    publish(rt, alloc, row, second, "say #1 f", "unpublished")?;
+    follow(rt, alloc, row, second, "say #1 e");
+    publish(rt, alloc, row, second, "say #1 f", "published")?;
+    publish(rt, alloc, row, second, "say #1 g", "full")?;
+    follow(rt, alloc, row, first, "say #1 f");
+    first.agree(second);
     Ok(())
 }
 
-// The wizard says this.
+// Two passes of a row, of which the second is a copy.
+fn passes(rt: &impl Abort, alloc: Global, row: &Row) -> Result<u32, ChronFault> {
+    let mut first = row.pass(alloc)?;
+    let mut second = first.again(alloc)?;
+    share(rt, alloc, row, &mut first, &mut second)?;
+    Ok(second.known())
+}
+
+#[test]
+fn two_passes_of_a_row(rt: HostRuntime) -> Result<(), Fail> {
+    let row = Row::new(rt.alloc(), 2)?;
+    assert!(rt; passes(&rt, rt.alloc(), &row)? == 2);
+    Ok(())
+}
+
+// A replica publishes a change, and does not take it in.
 fn say(alloc: Global, row: &Row, replica: &mut Replica, change: &str) -> Result<(), ChronFault>
     requires { replica.old.row ≡ row.now }
     ensures { replica.new.row ≡ row.now }
@@ -90,28 +121,71 @@ fn say(alloc: Global, row: &Row, replica: &mut Replica, change: &str) -> Result<
     Ok(())
 }
 
-// A row of three says, and a replica that knows them and has taken in none.
-fn three_says(alloc: Global) -> Result<(Row, Replica), ChronFault>
-    ensures { IfOk result (λ both. both.1.row ≡ both.0) }
+// Sees that one replica sees what another publishes, and that this one goes on by a step.
+fn see(
+    rt: &impl Abort,
+    alloc: Global,
+    row: &Row,
+    writer: &mut Replica,
+    reader: &mut Replica,
+) -> Result<(), ChronFault>
+    requires writer { writer.old.row ≡ row.now }
+    requires reader { reader.old.row ≡ row.now }
 {
+    say(alloc, row, writer, "make #1 \"a\"")?;
+    say(alloc, row, writer, "make #1 \"b\"")?;
+    reader.see(row)?;
+    assert!(rt; reader.world().next_number() == 4);
+    assert!(rt; writer.step(row)? && writer.world().next_number() == 3);
+    Ok(())
+}
+
+// The same in a row.
+fn see_in(rt: &impl Abort, alloc: Global, row: &Row) -> Result<(), ChronFault> {
+    let mut writer = Replica::new(alloc, row)?;
+    let mut reader = Replica::new(alloc, row)?;
+    see(rt, alloc, row, &mut writer, &mut reader)
+}
+
+#[test]
+fn a_replica_sees_what_another_published(rt: HostRuntime) -> Result<(), Fail> {
+    Ok(see_in(&rt, rt.alloc(), &Row::new(rt.alloc(), 4)?)?)
+}
+
+// Sees that a replica that knows three entries takes them in, and then nothing new.
+fn catch_up(rt: &impl Abort, row: &Row, replica: &mut Replica)
+    requires { replica.old.row ≡ row.now }
+{
+    assert!(rt; replica.catch_up(row).is_ok());
+    assert!(rt; replica.catch_up(row).is_ok());
+    assert!(rt; replica.at() == 3 && replica.known() == 3);
+}
+
+// The wizard says three things.
+fn say_three(alloc: Global, row: &Row, replica: &mut Replica) -> Result<(), ChronFault>
+    requires { replica.old.row ≡ row.now }
+    ensures { replica.new.row ≡ row.now }
+{
+    say(alloc, row, replica, "say #1 a")?;
+    say(alloc, row, replica, "say #1 b")?;
+    say(alloc, row, replica, "say #1 c")
+}
+
+// A replica takes in three says.
+fn says(rt: &impl Abort, alloc: Global) -> Result<(), ChronFault> {
     let row = Row::new(alloc, 4)?;
     let mut replica = Replica::new(alloc, &row)?;
-    say(alloc, &row, &mut replica, "say #1 a")?;
-    say(alloc, &row, &mut replica, "say #1 b")?;
-    say(alloc, &row, &mut replica, "say #1 c")?;
-    Ok((row, replica))
+    say_three(alloc, &row, &mut replica)?;
+    catch_up(rt, &row, &mut replica);
+    Ok(())
 }
 
 // Says change no world, so that no memory is wanted to take them in. The gate runs this once for each request for
 // memory, and refuses that one.
 #[test]
 fn says_are_taken_in_without_memory(rt: HostRuntime) -> Result<(), Fail> {
-    let (row, mut replica) = match three_says(rt.alloc()) {
-        Ok(both) => both,
-        Err(_) => three_says(rt.alloc())?,
-    };
-    assert!(rt; replica.catch_up(&row).is_ok());
-    assert!(rt; replica.catch_up(&row).is_ok());
-    assert!(rt; replica.at() == 3 && replica.known() == 3);
+    if says(&rt, rt.alloc()).is_err() {
+        says(&rt, rt.alloc())?;
+    }
     Ok(())
 }

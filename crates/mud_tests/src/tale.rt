@@ -1,14 +1,14 @@
 //! Tales: lines of the wizard and of others, each decided, tried and applied by the calls themselves, and the
 //! journeys that are asked for on the way.
 
-ghost use Rattle.std.specs.Prelude.{◌≤◌, IsTrue};
+ghost use Rattle.std.specs.Prelude.{◌≤◌, IfOk, IsTrue, Some};
 ghost use Rattle.mud_world.specs.State.{is_player};
-ghost use Rattle.mud_rules.specs.Outcome.{IsJourney, IsQuestion};
+ghost use Rattle.mud_rules.specs.Outcome.{IsJourney, IsLawful, IsQuestion};
 
-use crate::rows::{digit, parted, same};
+use crate::rows::{digit, parted, push_text, same};
 use mud_guide::{Answer, meet, meet_alone, route, route_alone};
 use mud_rules::{
-    Journey, Query, Verdict, decide, heard, refusal_text, reply_text, show, welcome_text,
+    Journey, Query, Verdict, View, decide, heard, refusal_text, reply_text, show, welcome_text,
 };
 use mud_search::OpenGate;
 use mud_words::parse;
@@ -32,6 +32,28 @@ const DOORS: &str = "
 1 @lock #2 with !me => locked #2 with !#1
 1 go north => That place is locked.
 1 route to #2 => route #0 to #2 no way
+";
+
+// A dear exit, and a way round it of six exits, the last of which lets only the wizard pass.
+const WAY_ROUND: &str = "
+1 @dig far to \"T\" => dug room #2, exit #3
+1 @cost far is 10000 => cost of #3 is 10000
+1 @dig a to \"A\" => dug room #4, exit #5
+1 go a => went by #5 to #4
+1 @dig b to \"B\" => dug room #6, exit #7
+1 go b => went by #7 to #6
+1 @dig c to \"C\" => dug room #8, exit #9
+1 go c => went by #9 to #8
+1 @dig d to \"D\" => dug room #10, exit #11
+1 go d => went by #11 to #10
+1 @dig e to \"E\" => dug room #12, exit #13
+1 go e => went by #13 to #12
+1 @dig f to #2 => dug exit #14
+1 @lock f with me => locked #14 with #1
+1 @dig home to #0 => dug exit #15
+1 go home => went by #15 to #0
+1 route to #2 => route #0 to #2 cost 6 by #5 #7 #9 #11 #13 #14
+1 @cost far is 10001 => That cost is not allowed.
 ";
 
 // Two ways of one cost lead to #6, of which the one whose last exit is lower is told.
@@ -73,7 +95,7 @@ const MEETINGS: &str = "
 ";
 
 // Who answers about journeys: the caller's thread alone, or N workers.
-#[derive(Clone, Copy)]
+#[derive(Clone, Copy, Drop)]
 enum Guide {
     Alone,
     Workers(usize),
@@ -109,83 +131,190 @@ fn guided<R: Threads + Wait + Sync>(
     }
 }
 
-// A change that a line comes to: what is said of it, or what another player hears of it; then it is made.
-fn made(
+// What a change is answered.
+fn push_reply(
     alloc: Global,
-    world: &mut World,
+    world: &World,
     change: &Change,
-    hearer: Option<u32>,
-) -> Result<String, Fail> {
-    let text = match hearer {
-        None => reply_text(alloc, world, change)?,
-        Some(player) => heard(alloc, world, change, player)?.ok_or("nothing is heard")?,
-    };
-    match world.legal(change) {
-        Ok(()) => world.apply(change)?,
-        Err(_) => return Err("a decision that is not legal".into()),
+    out: &mut String,
+) -> Result<(), AllocError> {
+    out.push_str(reply_text(alloc, world, change)?.as_str())
+}
+
+// What another player hears of it.
+fn push_heard(
+    alloc: Global,
+    world: &World,
+    change: &Change,
+    hearer: u32,
+    out: &mut String,
+) -> Result<(), AllocError> {
+    match heard(alloc, world, change, hearer)? {
+        Some(text) => out.push_str(text.as_str()),
+        None => Ok(()),
     }
-    Ok(text)
+}
+
+// What a change is answered, or what another player hears of it.
+fn push_change(
+    alloc: Global,
+    world: &World,
+    change: &Change,
+    hearer: u32,
+    out: &mut String,
+) -> Result<(), AllocError> {
+    match hearer {
+        0 => push_reply(alloc, world, change, out),
+        _ => push_heard(alloc, world, change, hearer, out),
+    }
+}
+
+fn push_welcome(alloc: Global, player: u32, out: &mut String) -> Result<(), AllocError> {
+    out.push_str(welcome_text(alloc, player)?.as_str())
+}
+
+// Makes a change.
+fn make(world: &mut World, change: &Change, out: &mut String) -> Result<(), AllocError> {
+    match world.legal(change) {
+        Ok(()) => world.apply(change),
+        Err(refusal) => out.push_str(refusal_text(refusal)),
+    }
+}
+
+// What a player is shown.
+fn push_view(
+    alloc: Global,
+    world: &World,
+    player: u32,
+    view: &View,
+    out: &mut String,
+) -> Result<(), AllocError> {
+    push_text(alloc, show(alloc, world, Some(player), view)?.as_str(), out)
+}
+
+// What the guide tells of a journey.
+fn push_journey<R: Threads + Wait + Sync>(
+    rt: &R,
+    alloc: Global,
+    world: &World,
+    player: u32,
+    journey: &Journey,
+    guide: Guide,
+    out: &mut String,
+) -> Result<(), AllocError>
+    requires player { IsTrue (is_player world.now player) }
+    requires journey { IsJourney world.now journey.now }
+{
+    let answer = guided(rt, alloc, world, player, journey, guide)?;
+    push_text(alloc, answer.text.as_str(), out)
 }
 
 // The answer to a question; who asks is a player of the world.
-fn answered<R: Threads + Wait + Sync>(
+fn push_answer<R: Threads + Wait + Sync>(
     rt: &R,
     alloc: Global,
     world: &World,
     player: u32,
     query: &Query,
     guide: Guide,
-) -> Result<String, Fail>
+    out: &mut String,
+) -> Result<(), AllocError>
     requires player { IsTrue (is_player world.now player) }
     requires query { IsQuestion world.now query.now }
 {
     match query {
-        Query::View(view) => Ok(show(alloc, world, Some(player), view)?),
-        Query::Journey(journey) | Query::Proof(journey) => Ok(
-            guided(rt, alloc, world, player, journey, guide)?.text,
-        ),
-        Query::History => Err("no tale asks for its history".into()),
+        Query::View(view) => push_view(alloc, world, player, view, out),
+        Query::Journey(journey) => { push_journey(rt, alloc, world, player, journey, guide, out) }
+        _ => Ok(()),
     }
 }
 
-// What a line of a player's is answered.
-fn told<R: Threads + Wait + Sync>(
-    rt: &R,
+// What a line is decided to be.
+fn decided(alloc: Global, world: &World, player: u32, line: &str) -> Result<Verdict, AllocError>
+    ensures { IfOk result (IsLawful world.now (Some player)) }
+{
+    decide(alloc, world, Some(player), &parse(alloc, line)?)
+}
+
+// A world, in which one thing comes of the other.
+#[derive(Drop)]
+struct Tale {
     alloc: Global,
-    world: &mut World,
-    player: u32,
-    hearer: Option<u32>,
-    line: &str,
+    world: World,
     guide: Guide,
-) -> Result<String, Fail> {
-    if !world.is_player(player) {
-        return Err("no such player".into());
+}
+
+impl Tale {
+    // Does what a line of a player's was decided to be.
+    fn tell<R: Threads + Wait + Sync>(
+        &mut self,
+        rt: &R,
+        player: u32,
+        hearer: u32,
+        verdict: &Verdict,
+        out: &mut String,
+    ) -> Result<(), AllocError>
+        requires player { IsTrue (is_player self.old.world player) }
+        requires lawful { IsLawful self.old.world (Some player) verdict.now }
+    {
+        let (alloc, world) = (self.alloc, &mut self.world);
+        match verdict {
+            Verdict::Change(change) => {
+                push_change(alloc, world, change, hearer, out)?;
+                make(world, change, out)
+            }
+            Verdict::Ask(query) => push_answer(rt, alloc, world, player, query, self.guide, out),
+            Verdict::Become(player) => push_welcome(alloc, *player, out),
+            Verdict::Refused(refusal) => out.push_str(refusal_text(*refusal)),
+        }
     }
-    match decide(alloc, world, Some(player), &parse(alloc, line)?)? {
-        Verdict::Change(change) => made(alloc, world, &change, hearer),
-        Verdict::Ask(query) => answered(rt, alloc, world, player, &query, guide),
-        Verdict::Become(player) => Ok(welcome_text(alloc, player)?),
-        Verdict::Refused(refusal) => Ok(String::from_str(alloc, refusal_text(refusal))?),
+
+    // Does what a line of a player's says.
+    fn say<R: Threads + Wait + Sync>(
+        &mut self,
+        rt: &R,
+        player: u32,
+        hearer: u32,
+        line: &str,
+        out: &mut String,
+    ) -> Result<(), AllocError>
+        requires player { IsTrue (is_player self.old.world player) }
+    {
+        let verdict = decided(self.alloc, &self.world, player, line)?;
+        self.tell(rt, player, hearer, &verdict, out)
+    }
+}
+
+impl Tale {
+    // Does what a row asks.
+    fn answer<R: Threads + Wait + Sync>(
+        &mut self,
+        rt: &R,
+        asked: &str,
+        out: &mut String,
+    ) -> Result<(), Fail> {
+        let (who, line) = parted(asked);
+        let (who, other) = who.split_once('>').unwrap_or((who, "0"));
+        let player = digit(who);
+        if self.world.is_player(player) {
+            Ok(self.say(rt, player, digit(other), line, out)?)
+        } else {
+            Err("no such player".into())
+        }
     }
 }
 
 // Sees that a row is answered as it says.
 fn check_row<R: Threads + Wait + Sync + Abort>(
     rt: &R,
-    alloc: Global,
-    world: &mut World,
+    tale: &mut Tale,
     row: &str,
-    guide: Guide,
+    found: &mut String,
 ) -> Result<(), Fail> {
     if let Some((asked, wanted)) = row.split_once(" => ") {
-        let (who, line) = parted(asked);
-        let hearer = match who.split_once('>') {
-            Some((_, other)) => Some(digit(other)),
-            None => None,
-        };
-        let text = told(rt, alloc, world, digit(who), hearer, line, guide)?;
-        let text = text.replace(alloc, "\n", " / ")?;
-        same(rt, asked, text.as_str(), wanted);
+        found.clear();
+        tale.answer(rt, asked, found)?;
+        same(rt, asked, found.as_str(), wanted);
     }
     Ok(())
 }
@@ -194,12 +323,18 @@ fn check_row<R: Threads + Wait + Sync + Abort>(
 fn check_tale<R: Threads + Wait + Sync + Abort>(
     rt: &R,
     alloc: Global,
-    tale: &str,
+    rows: &str,
     guide: Guide,
 ) -> Result<(), Fail> {
-    let mut world = World::opening(alloc)?;
-    for row in tale.split('\n') {
-        check_row(rt, alloc, &mut world, row, guide)?;
+    let world = World::opening(alloc)?;
+    let mut tale = Tale {
+        alloc,
+        world,
+        guide,
+    };
+    let mut found = String::new(alloc);
+    for row in rows.split('\n') {
+        check_row(rt, &mut tale, row, &mut found)?;
     }
     Ok(())
 }
@@ -211,6 +346,7 @@ fn check_tales<R: Threads + Wait + Sync + Abort>(
     guide: Guide,
 ) -> Result<(), Fail> {
     check_tale(rt, alloc, DOORS, guide)?;
+    check_tale(rt, alloc, WAY_ROUND, guide)?;
     check_tale(rt, alloc, TWO_WAYS, guide)?;
     check_tale(rt, alloc, MEETINGS, guide)
 }

@@ -1,25 +1,31 @@
 //! Calls that take a text apart or make one: each by its name, on a worked text.
 
-use crate::rows::{parted, same};
-use mud_key::{Miss, Namer, Names, print, read, resolve};
+use crate::rows::{Answers, check_rows, parted, push_sent};
+use mud_key::{Key, Miss, Namer, Names, asks, atoms, print, read, resolve};
 use mud_nvt::{Nvt, Unit, write_line};
-use mud_words::{parse, words};
+use mud_words::{Parsed, parse, words};
 use std::alloc::{AllocError, Global};
+use std::fmt::Write;
 use std::test::Fail;
 
 // The call, the text, and what it is to answer: parts of an answer are joined by " / ". Bytes are written as hex
 // digits, and a `|` cuts them into pieces.
 const ROWS: &str = "
 words foo \"bar mumble\" baz\" \"fr\"otz\" bl\"o\"rt => foo / bar mumble / baz frotz / blort
+parse foo \"bar mumble\" baz\" \"fr\"otz => foo / bar mumble baz frotz /  / \"bar mumble\" baz\" \"fr\"otz
 names brass key => brass key
 names chest => chest
 key brass key || #1 && ?chest => #4 || #1 && ?#5
 key !me => !#1
-units fffd03fffb18fffe03 => answer fffc03 / answer fffe18
+atoms brass key || #1 && ?chest =>  4 1 5
+asks brass key || #1 && ?chest =>  5
+atoms me && (?chest || !?me) || chest =>  1 5 1 5
+asks me && (?chest || !?me) || chest =>  5 1
+units fffd03fffb18fffe03 => answer fffc03; answer fffe18; 
 units fffa18fffffff0 => 
-units 6c6f6b6bfff7fff76f6b0d00 => text look
-units 610d|0a620a => text a / text b
-units fff6 => ayt
+units 6c6f6b6bfff7fff76f6b0d00 => text look; 
+units 610d|0a620a => text a; text b; 
+units fff6 => ayt; 
 send [1] dug room #2, exit #3, exit back #4 => [1] dug room #2, exit #3, exit back #4;
 ";
 
@@ -46,73 +52,135 @@ impl Namer for Wizard {
     }
 }
 
-// A key's objects are resolved, and it is printed.
-fn keyed(alloc: Global, text: &str) -> Result<String, Fail> {
-    let key = resolve(alloc, &read(alloc, text)?, &Wizard)?;
-    Ok(print(alloc, &key)?)
+// The key of a text, its objects named by the wizard.
+fn key(alloc: Global, text: &str) -> Result<Key, Fail> {
+    Ok(resolve(alloc, &read(alloc, text)?, &Wizard)?)
 }
 
-fn unit_text(alloc: Global, unit: &Unit) -> Result<String, AllocError> {
-    match unit {
-        Unit::Text(text) => ["text ", text.as_str()].as_slice().join(alloc, ""),
-        Unit::TooLong => String::from_str(alloc, "too long"),
-        Unit::Ayt => String::from_str(alloc, "ayt"),
-        Unit::Answer(bytes) => answer_text(alloc, bytes.as_slice()),
+fn push_numbers(numbers: &[u32], out: &mut String) -> Result<(), AllocError> {
+    for number in numbers {
+        write!(out, " {number}")?;
     }
+    Ok(())
 }
 
-fn answer_text(alloc: Global, bytes: &[u8]) -> Result<String, AllocError> {
-    let digits = hex::encode(alloc, bytes)?;
-    ["answer ", digits.as_str()].as_slice().join(alloc, "")
+fn push_parts(alloc: Global, parts: &[String], out: &mut String) -> Result<(), AllocError> {
+    out.push_str(parts.join(alloc, " / ")?.as_str())
 }
 
-// The units of the pieces, one after the other.
-fn units(alloc: Global, pieces: &str) -> Result<String, Fail> {
-    let (mut nvt, mut units) = (Nvt::new(alloc), Vec::new(alloc));
-    for piece in pieces.split('|') {
-        nvt.feed(hex::decode(alloc, piece)?.as_slice(), &mut units)?;
-    }
-    let mut texts = Vec::new(alloc);
-    for unit in &units {
-        texts.push(unit_text(alloc, unit)?)?;
-    }
-    Ok(texts.as_slice().join(alloc, " / ")?)
+fn push_words(alloc: Global, text: &str, out: &mut String) -> Result<(), AllocError> {
+    push_parts(alloc, &words(alloc, text)?, out)
 }
 
-// A line as it is sent, with a `;` in place of its end.
-fn sent(alloc: Global, text: &str) -> Result<String, Fail> {
-    let mut out = Vec::new(alloc);
-    write_line(text, &mut out)?;
-    Ok(String::from_utf8_lossy(alloc, &out)?.replace(alloc, "\r\n", ";")?)
+fn push_names(alloc: Global, text: &str, out: &mut String) -> Result<(), Fail> {
+    Ok(push_parts(alloc, Names::read(alloc, text)?.list(), out)?)
 }
 
-fn answer(alloc: Global, call: &str, text: &str) -> Result<String, Fail> {
+fn push_printed(alloc: Global, key: &Key, out: &mut String) -> Result<(), AllocError> {
+    out.push_str(print(alloc, key)?.as_str())
+}
+
+fn push_atoms(alloc: Global, key: &Key, out: &mut String) -> Result<(), AllocError> {
+    push_numbers(&atoms(alloc, key)?, out)
+}
+
+fn push_asks(alloc: Global, key: &Key, out: &mut String) -> Result<(), AllocError> {
+    push_numbers(&asks(alloc, key)?, out)
+}
+
+// What a call says of a key.
+fn push_of_key(alloc: Global, call: &str, key: &Key, out: &mut String) -> Result<(), AllocError> {
     match call {
-        "words" => Ok(words(alloc, text)?.as_slice().join(alloc, " / ")?),
-        "names" => Ok(Names::read(alloc, text)?.list().join(alloc, " / ")?),
-        "key" => keyed(alloc, text),
-        "units" => units(alloc, text),
-        "send" => sent(alloc, text),
-        _ => Err("no such call".into()),
+        "key" => push_printed(alloc, key, out),
+        "atoms" => push_atoms(alloc, key, out),
+        _ => push_asks(alloc, key, out),
+    }
+}
+
+fn push_key(alloc: Global, call: &str, text: &str, out: &mut String) -> Result<(), Fail> {
+    Ok(push_of_key(alloc, call, &key(alloc, text)?, out)?)
+}
+
+fn push_line(line: &Parsed, out: &mut String) -> Result<(), AllocError> {
+    let (verb, direct) = (line.verb.as_str(), line.direct.as_str());
+    let (indirect, rest) = (line.indirect.as_str(), line.rest.as_str());
+    write!(out, "{verb} / {direct} / {indirect} / {rest}")
+}
+
+fn push_parsed(alloc: Global, text: &str, out: &mut String) -> Result<(), AllocError> {
+    push_line(&parse(alloc, text)?, out)
+}
+
+fn push_unit(alloc: Global, unit: &Unit, out: &mut String) -> Result<(), AllocError> {
+    match unit {
+        Unit::Text(text) => write!(out, "text {text}; "),
+        Unit::TooLong => out.push_str("too long; "),
+        Unit::Ayt => out.push_str("ayt; "),
+        Unit::Answer(bytes) => push_answer(alloc, bytes.as_slice(), out),
+    }
+}
+
+fn push_answer(alloc: Global, bytes: &[u8], out: &mut String) -> Result<(), AllocError> {
+    let digits = hex::encode(alloc, bytes)?;
+    write!(out, "answer {digits}; ")
+}
+
+fn push_units(alloc: Global, units: &[Unit], out: &mut String) -> Result<(), AllocError> {
+    for unit in units {
+        push_unit(alloc, unit, out)?;
+    }
+    Ok(())
+}
+
+// Feeds the bytes of the pieces, one after the other.
+fn feed_pieces(
+    alloc: Global,
+    pieces: &str,
+    nvt: &mut Nvt,
+    units: &mut Vec<Unit>,
+) -> Result<(), Fail> {
+    for piece in pieces.split('|') {
+        nvt.feed(hex::decode(alloc, piece)?.as_slice(), units)?;
+    }
+    Ok(())
+}
+
+fn push_fed(alloc: Global, pieces: &str, out: &mut String) -> Result<(), Fail> {
+    let (mut nvt, mut units) = (Nvt::new(alloc), Vec::new(alloc));
+    feed_pieces(alloc, pieces, &mut nvt, &mut units)?;
+    Ok(push_units(alloc, &units, out)?)
+}
+
+// A line as it is sent.
+fn push_written(alloc: Global, text: &str, out: &mut String) -> Result<(), Fail> {
+    let mut bytes = Vec::new(alloc);
+    write_line(text, &mut bytes)?;
+    Ok(push_sent(alloc, &bytes, out)?)
+}
+
+// Who makes the calls of the rows.
+#[derive(Drop)]
+struct Calls {
+    alloc: Global,
+}
+
+impl Answers for Calls {
+    fn answer(&mut self, asked: &str, out: &mut String) -> Result<(), Fail> {
+        let alloc = self.alloc;
+        let (call, text) = parted(asked);
+        match call {
+            "words" => Ok(push_words(alloc, text, out)?),
+            "parse" => Ok(push_parsed(alloc, text, out)?),
+            "names" => push_names(alloc, text, out),
+            "units" => push_fed(alloc, text, out),
+            "send" => push_written(alloc, text, out),
+            _ => push_key(alloc, call, text, out),
+        }
     }
 }
 
 #[test]
 fn each_call_answers_its_text(rt: HostRuntime) -> Result<(), Fail> {
-    for row in ROWS.split('\n') {
-        if let Some((asked, wanted)) = row.split_once(" => ") {
-            let (call, text) = parted(asked);
-            same(&rt, asked, answer(rt.alloc(), call, text)?.as_str(), wanted);
-        }
-    }
-    Ok(())
-}
-
-#[test]
-fn a_line_is_taken_apart(rt: HostRuntime) -> Result<(), Fail> {
-    let it = parse(rt.alloc(), "foo \"bar mumble\" baz\" \"fr\"otz\" bl\"o\"rt")?;
-    assert!(rt; it.verb.as_str() == "foo" && it.direct.as_str() == "bar mumble baz frotz blort");
-    assert!(rt; it.prep.is_none() && it.indirect.is_empty());
-    assert!(rt; it.rest.as_str() == "\"bar mumble\" baz\" \"fr\"otz\" bl\"o\"rt");
-    Ok(())
+    let alloc = rt.alloc();
+    check_rows(&rt, alloc, ROWS, &mut Calls { alloc })
 }

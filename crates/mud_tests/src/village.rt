@@ -3,12 +3,10 @@
 use mud_chron::{ChronFault, Entry, read_history, replay};
 use mud_world::World;
 use std::alloc::Global;
-use std::test::Fail;
 
 /// The world that a history leads to; each of its changes must be legal.
-pub(crate) fn world(alloc: Global, history: &str) -> Result<World, Fail> {
-    let entries = read_history(alloc, history.as_bytes())?;
-    Ok(replay(alloc, &entries)?)
+pub(crate) fn world(alloc: Global, history: &str) -> Result<World, ChronFault> {
+    replay(alloc, &read_history(alloc, history.as_bytes())?)
 }
 
 /// The entry of a change.

@@ -1,14 +1,18 @@
 //! Several workers: that they work at once, which no contract says, and what they find.
 
 ghost use Rattle.std.specs.Prelude.{◌≡◌, ◌≤◌};
+ghost use Rattle.mud_roads.specs.Open.{IsTraveller};
 
+use crate::histories::WAY_ROUND;
 use crate::rows::same;
-use crate::search::{CROSSING, check_labels};
-use mud_chron::{ChronFault, read_history, replay};
-use mud_hall::{HallName, NewHall};
+use crate::search::{CROSSING, LABELS, text_of};
+use crate::village::world;
+use mud_chron::{ChronFault, read_history};
+use mud_hall::{Hall, HallName, NewHall};
 use mud_roads::Traveller;
-use mud_search::{Gate, Labels, OpenGate, labels};
-use std::alloc::Global;
+use mud_search::{Gate, Labels, labels, labels_alone};
+use mud_world::World;
+use std::alloc::{AllocError, Global};
 use std::marker::Brand;
 use std::process::Abort;
 use std::slice;
@@ -16,6 +20,21 @@ use std::sync::Wait;
 use std::sync::atomic::{AtomicU64, Ordering};
 use std::test::Fail;
 use std::thread::Threads;
+
+// Two ways of one cost lead from #0 to #6, of which the one whose last exit is lower is told.
+const TWO_WAYS: &str = "mud history 2
+1 1 dig #1 new \"A\" out \"a\"
+2 1 dig #1 new \"B\" out \"b\"
+3 1 walk #1 #5
+4 1 dig #1 new \"T\" out \"x\"
+5 1 dig #1 old #0 out \"back\"
+6 1 walk #1 #8
+7 1 walk #1 #3
+8 1 dig #1 old #6 out \"y\"
+9 1 dig #1 old #0 out \"back\"
+10 1 walk #1 #10
+end 10
+";
 
 // Holds the first room after #0 until another room has passed, or for ten million turns. Refused are work on the
 // caller's thread only, workers that take turns at the gate, and a search that passes no gate.
@@ -53,35 +72,68 @@ impl Gate for Barrier {
     }
 }
 
-// The labels of the crossing that workers find.
-fn found<R: Threads + Wait + Sync, G: Gate + Sync>(
+// The labels of the wizard's rooms that workers find.
+fn wizards_labels<R: Threads + Wait + Sync + Abort>(
     rt: &R,
     alloc: Global,
+    world: &World,
     workers: usize,
-    gate: &G,
-) -> Result<Labels, ChronFault> {
-    let world = replay(alloc, &read_history(alloc, CROSSING.as_bytes())?)?;
-    if !world.is_player(1) {
-        return Err(ChronFault::NotHistory);
-    }
-    let wizard = Traveller::of(alloc, &world, 1)?;
-    Ok(labels(rt, alloc, &world, slice::from_ref(&wizard), workers, gate)?)
+    gate: &Barrier,
+) -> Result<Labels, AllocError> {
+    assert!(rt; world.is_player(1));
+    let wizard = Traveller::of(alloc, world, 1)?;
+    labels(rt, alloc, world, slice::from_ref(&wizard), workers, gate)
 }
 
-#[test]
-fn labels_by_workers(rt: HostRuntime) -> Result<(), Fail> {
-    for workers in [0, 1, 8] {
-        check_labels(&rt, &found(&rt, rt.alloc(), workers, &OpenGate)?);
-    }
+// The same as a text.
+fn text_by<R: Threads + Wait + Sync + Abort>(
+    rt: &R,
+    alloc: Global,
+    world: &World,
+    workers: usize,
+    gate: &Barrier,
+) -> Result<String, AllocError> {
+    text_of(alloc, &wizards_labels(rt, alloc, world, workers, gate)?)
+}
+
+// The same in the world of a history.
+fn found<R: Threads + Wait + Sync + Abort>(
+    rt: &R,
+    alloc: Global,
+    history: &str,
+    workers: usize,
+    gate: &Barrier,
+) -> Result<String, ChronFault> {
+    Ok(text_by(rt, alloc, &world(alloc, history)?, workers, gate)?)
+}
+
+// Sees which labels workers find, and that they work at once, if there are several.
+fn check_labels<R: Threads + Wait + Sync + Abort>(
+    rt: &R,
+    alloc: Global,
+    history: &str,
+    workers: usize,
+    wanted: &str,
+) -> Result<(), Fail> {
+    let gate = Barrier::new();
+    same(
+        rt,
+        "labels",
+        found(rt, alloc, history, workers, &gate)?.as_str(),
+        wanted,
+    );
+    assert!(rt; gate.is_met() == (workers > 1));
     Ok(())
 }
 
+// What labels the rooms of two ways have.
+const OF_TWO_WAYS: &str = "#0:0/0 #2:1/1 #4:1/1 #6:2/2 ";
+
 #[test]
 fn workers_work_at_once(rt: HostRuntime) -> Result<(), Fail> {
-    for workers in [2, 8] {
-        let gate = Barrier::new();
-        check_labels(&rt, &found(&rt, rt.alloc(), workers, &gate)?);
-        assert!(rt; gate.is_met());
+    for workers in [0, 1, 2, 8] {
+        check_labels(&rt, rt.alloc(), CROSSING, workers, LABELS)?;
+        check_labels(&rt, rt.alloc(), TWO_WAYS, workers, OF_TWO_WAYS)?;
     }
     Ok(())
 }
@@ -90,54 +142,115 @@ fn workers_work_at_once(rt: HostRuntime) -> Result<(), Fail> {
 // that one.
 #[test]
 fn eight_workers_may_run_out_of_memory(rt: HostRuntime) -> Result<(), Fail> {
-    let labels = match found(&rt, rt.alloc(), 8, &OpenGate) {
-        Ok(labels) => labels,
-        Err(_) => found(&rt, rt.alloc(), 8, &OpenGate)?,
+    let alloc = rt.alloc();
+    let text = match found(&rt, alloc, CROSSING, 8, &Barrier::new()) {
+        Ok(text) => text,
+        Err(_) => found(&rt, alloc, CROSSING, 8, &Barrier::new())?,
     };
-    check_labels(&rt, &labels);
+    same(&rt, "labels", text.as_str(), LABELS);
     Ok(())
 }
 
-// Sees what the wizard's desk of the crossing's hall answers by workers.
-fn check_desk<J: HallName, R: Threads + Wait + Sync + Abort>(
+// The labels that the caller's thread finds.
+fn text_alone(alloc: Global, world: &World, traveller: &Traveller) -> Result<String, AllocError>
+    requires { IsTraveller world.now traveller.now }
+{
+    text_of(
+        alloc,
+        &labels_alone(alloc, world, slice::from_ref(traveller))?,
+    )
+}
+
+// How many exits are open to a traveller that leave a room.
+fn ways(alloc: Global, world: &World, traveller: &Traveller, room: u32) -> Result<usize, AllocError>
+    requires { IsTraveller world.now traveller.now }
+{
+    Ok(traveller.leave(alloc, world, room)?.len())
+}
+
+// The labels that the caller's thread finds for the wizard, who has two ways to leave the hall.
+fn found_alone(rt: &impl Abort, alloc: Global, world: &World) -> Result<String, AllocError> {
+    assert!(rt; world.is_player(1));
+    let wizard = Traveller::of(alloc, world, 1)?;
+    assert!(rt; ways(alloc, world, &wizard, 0)? == 2);
+    text_alone(alloc, world, &wizard)
+}
+
+// What labels the rooms have where the way round is cheaper.
+const OF_WAY_ROUND: &str = "#0:0/0 #2:6/6 #4:1/1 #6:2/2 #8:3/3 #10:4/4 #12:5/5 ";
+
+#[test]
+fn labels_by_one_thread(rt: HostRuntime) -> Result<(), Fail> {
+    let found = found_alone(&rt, rt.alloc(), &world(rt.alloc(), WAY_ROUND)?)?;
+    same(&rt, "labels", found.as_str(), OF_WAY_ROUND);
+    Ok(())
+}
+
+// What asks for the way to a room.
+fn question(room: u32) -> &'static str {
+    match room {
+        7 => "route to #7",
+        _ => "route to #6",
+    }
+}
+
+// What a new desk of the wizard's is answered by workers who look for a way.
+fn asked<J: HallName, R: Threads + Wait + Sync>(
     rt: &R,
-    hall: NewHall,
+    hall: &Hall<J>,
+    room: u32,
     workers: usize,
     gate: &Barrier,
-) -> Result<(), Fail>
+) -> Result<String, Fail> {
+    let mut desk = hall.desk(rt)?;
+    let _ = hall.act(rt, &mut desk, "connect wizard");
+    Ok(desk.ask_with(rt, hall, question(room), workers, gate)?.text)
+}
+
+// The same in a new hall.
+fn asked_in<J: HallName, R: Threads + Wait + Sync + Abort>(
+    rt: &R,
+    hall: NewHall,
+    room: u32,
+    workers: usize,
+    gate: &Barrier,
+) -> Result<String, Fail>
     requires cells { hall.cells ≡ J.cells }
     requires loaded { hall.loaded ≡ J.loaded }
 {
     let hall = hall.named::<J>();
-    let mut desk = hall.desk(rt)?;
-    let _ = hall.act(rt, &mut desk, "connect wizard")?;
-    let answer = desk.ask_with(rt, &hall, "route to #7", workers, gate)?;
-    assert!(rt; answer.version == 11);
-    same(
-        rt,
-        "route to #7",
-        answer.text.as_str(),
-        "route #0 to #7 cost 8 by #5 #6 #8",
-    );
+    asked(rt, &hall, room, workers, gate)
+}
+
+// Sees what a desk of a hall that goes on from a history answers by workers, and that these work at once, if there are
+// several.
+fn check_desk<R: Threads + Wait + Sync + Abort>(
+    rt: &R,
+    alloc: Global,
+    history: &str,
+    workers: usize,
+    room: u32,
+    wanted: &str,
+) -> Result<(), Fail> {
+    let gate = Barrier::new();
+    let entries = read_history(alloc, history.as_bytes())?;
+    let hall = NewHall::resume(alloc, 16, entries)?;
+    let found = asked_in::<Brand, R>(rt, hall, room, workers, &gate)?;
+    same(rt, question(room), found.as_str(), wanted);
+    assert!(rt; gate.is_met() == (workers > 1));
     Ok(())
 }
 
-// The same of a hall that goes on from the crossing's history. The workers work at once.
-fn check_hall<R: Threads + Wait + Sync + Abort>(
-    rt: &R,
-    alloc: Global,
-    workers: usize,
-) -> Result<(), Fail> {
-    let gate = Barrier::new();
-    let entries = read_history(alloc, CROSSING.as_bytes())?;
-    let hall = NewHall::resume(alloc, 16, entries)?;
-    check_desk::<Brand, R>(rt, hall, workers, &gate)?;
-    assert!(rt; gate.is_met());
-    Ok(())
-}
+// What is answered in the crossing and where there are two ways.
+const CROSSED: &str = "route #0 to #7 cost 8 by #5 #6 #8";
+
+const LOWER: &str = "route #0 to #6 cost 2 by #5 #7";
 
 #[test]
 fn desks_ask_workers(rt: HostRuntime) -> Result<(), Fail> {
-    check_hall(&rt, rt.alloc(), 2)?;
-    check_hall(&rt, rt.alloc(), 8)
+    for workers in [0, 1, 2, 8] {
+        check_desk(&rt, rt.alloc(), CROSSING, workers, 7, CROSSED)?;
+        check_desk(&rt, rt.alloc(), TWO_WAYS, workers, 6, LOWER)?;
+    }
+    Ok(())
 }

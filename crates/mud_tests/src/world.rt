@@ -1,17 +1,16 @@
-//! Worlds: what refuses a change that no line can ask for, and the objects of a key.
+//! Worlds: what refuses a change that no line can ask for, what is carried, and a copy.
 
-use crate::rows::same;
+use crate::rows::{Answers, check_rows};
 use crate::village::{entry, world};
 use mud_chron::ChronFault;
-use mud_key::{asks, atoms};
 use mud_rules::refusal_text;
-use mud_world::World;
+use mud_world::{Change, Holding, World};
 use std::alloc::{AllocError, Global};
 use std::test::Fail;
 
 // The hall #0 with the wizard #1, who carries the box #5 with the coin #6 in it, and with Bob #7,
 // who carries the hat #8. From the hall the exit #3 leads to the yard #2, and #4 back. Nothing
-// leads to the cellar #9. The cellar, the exit back and the yard have keys. The next number is 10.
+// leads to the cellar #9. The next number is 10.
 const VILLAGE: &str = "mud history 2
 1 1 dig #1 new \"Yard\" out \"north\" back \"south\"
 2 1 make #1 \"box\"
@@ -20,10 +19,7 @@ const VILLAGE: &str = "mud history 2
 5 1 make #7 \"hat\"
 6 1 dig #1 new \"Cellar\"
 7 1 move #1 #6 #5
-8 1 lock #1 #9 #1 && (?#2 || !?#1) || #2
-9 1 lock #1 #4 #4 || #1 && ?#5
-10 1 lock #1 #2 !#1
-end 10
+end 7
 ";
 
 // What refuses what no line asks for: each kind of change by an actor who is none, a missing one and a
@@ -81,49 +77,107 @@ move #1 #6 #1 => legal
 move #7 #8 #0 => legal
 ";
 
-// What refuses a change.
+// What is said of a change that is refused.
+fn said(world: &World, change: &Change) -> &'static str {
+    match world.legal(change) {
+        Ok(()) => "legal",
+        Err(refusal) => refusal_text(refusal),
+    }
+}
+
+// The same of a change as it is written.
 fn refused(alloc: Global, world: &World, change: &str) -> Result<&'static str, ChronFault> {
-    let entry = entry(alloc, change)?;
-    match world.legal(entry.change()) {
-        Ok(()) => Ok("legal"),
-        Err(refusal) => Ok(refusal_text(refusal)),
+    Ok(said(world, entry(alloc, change)?.change()))
+}
+
+// A world that tells what refuses changes.
+#[derive(Drop)]
+struct Village {
+    alloc: Global,
+    world: World,
+}
+
+impl Answers for Village {
+    fn answer(&mut self, asked: &str, out: &mut String) -> Result<(), Fail> {
+        Ok(out.push_str(refused(self.alloc, &self.world, asked)?)?)
     }
 }
 
 #[test]
 fn what_refuses_changes(rt: HostRuntime) -> Result<(), Fail> {
-    let world = world(rt.alloc(), VILLAGE)?;
-    for row in ROWS.split('\n') {
-        if let Some((change, wanted)) = row.split_once(" => ") {
-            same(&rt, change, refused(rt.alloc(), &world, change)?, wanted);
-        }
-    }
-    Ok(())
+    let alloc = rt.alloc();
+    let world = world(alloc, VILLAGE)?;
+    check_rows(&rt, alloc, ROWS, &mut Village { alloc, world })
 }
 
-// Whether the key of an object names these objects, and asks for the keys of these.
-fn has_key(
-    alloc: Global,
-    world: &World,
-    object: u32,
-    named: &[u32],
-    asked: &[u32],
-) -> Result<bool, AllocError> {
-    let Some(object) = world.get(object) else {
-        return Ok(false);
-    };
-    let Some(key) = &object.key else {
-        return Ok(false);
-    };
-    Ok(atoms(alloc, key)?.as_slice() == named && asks(alloc, key)?.as_slice() == asked)
+// The key #4 lies in the bag #5, and that in the box #6, which the wizard carries. The way to the vault #2 wants it.
+const BOX: &str = "mud history 2
+1 1 dig #1 new \"Vault\" out \"north\"
+2 1 make #1 \"key\"
+3 1 make #1 \"bag\"
+4 1 make #1 \"box\"
+5 1 move #1 #4 #5
+6 1 move #1 #5 #6
+7 1 lock #1 #3 #4
+end 7
+";
+
+// The same, and the box is dropped.
+const DROPPED: &str = "mud history 2
+1 1 dig #1 new \"Vault\" out \"north\"
+2 1 make #1 \"key\"
+3 1 make #1 \"bag\"
+4 1 make #1 \"box\"
+5 1 move #1 #4 #5
+6 1 move #1 #5 #6
+7 1 lock #1 #3 #4
+8 1 move #1 #6 #0
+end 8
+";
+
+// Whether the key is held, and the exit is unlocked.
+fn is_open(world: &World, held: &Holding) -> bool {
+    held.has(4) && world.unlocked(held, 3)
+}
+
+// Whether that is so of the wizard.
+fn has_way(world: &World) -> Result<bool, AllocError> {
+    Ok(is_open(world, &world.carried(1)?))
+}
+
+fn has_way_in(alloc: Global, history: &str) -> Result<bool, ChronFault> {
+    Ok(has_way(&world(alloc, history)?)?)
 }
 
 #[test]
-fn what_a_key_names(rt: HostRuntime) -> Result<(), Fail> {
-    let alloc = rt.alloc();
-    let world = world(alloc, VILLAGE)?;
-    assert!(rt; has_key(alloc, &world, 9, &[1, 2, 1, 2], &[2, 1])?);
-    assert!(rt; has_key(alloc, &world, 4, &[4, 1, 5], &[5])?);
-    assert!(rt; has_key(alloc, &world, 2, &[1], &[])?);
+fn what_is_carried(rt: HostRuntime) -> Result<(), Fail> {
+    assert!(rt; has_way_in(rt.alloc(), BOX)? && !has_way_in(rt.alloc(), DROPPED)?);
+    Ok(())
+}
+
+// The wizard made seven things.
+const SEVEN: &str = "mud history 2
+1 1 make #1 \"a\"
+2 1 make #1 \"b\"
+3 1 make #1 \"c\"
+4 1 make #1 \"d\"
+5 1 make #1 \"e\"
+6 1 make #1 \"f\"
+7 1 make #1 \"g\"
+end 7
+";
+
+// The next number of a copy.
+fn next_of_copy(world: &World) -> Result<u32, AllocError> {
+    Ok(world.copy()?.next_number())
+}
+
+fn next_in_copy(alloc: Global, history: &str) -> Result<u32, ChronFault> {
+    Ok(next_of_copy(&world(alloc, history)?)?)
+}
+
+#[test]
+fn a_copy_is_the_same_world(rt: HostRuntime) -> Result<(), Fail> {
+    assert!(rt; next_in_copy(rt.alloc(), SEVEN)? == 9);
     Ok(())
 }

@@ -1,17 +1,10 @@
 use denote.Exit.{no, unseen}
 use denote.Param.{param}
-use denote.Param.Send.{IsSend, Quiet-if, sendable}
-use denote.RattleType.{RattleType}
+use denote.Param.Send.{IsSend, Quiet-if}
 use mir.Syntax.{of_param}
-use Rattle.std.proofs.Crossing.{crosses}
 use Rattle.mud_hall.proofs.Crosses.{desk_send, hall_sync}
 use Rattle.mud_hall.specs.contracts.desk.Desk as Desk
-use Rattle.mud_hall.specs.declared.name.HallName as HallName
-use Rattle.mud_tests.specs.contracts.hall.Tally as Tally
 use Rattle.mud_tests.proofs.hall.crowded.Goals as goal
-
-tally_send : (J : RattleType) (h : HallName.Ghosts J.Denot) → IsSend J → IsSend (Tally.the_row J h)
-tally_send J h s = search (sendable, crosses, desk_send) depth 40 fits 20000
 
 pub talked-requires-sync-H : goal.talked-requires-sync-H
 talked-requires-sync-H g c κs within =
@@ -26,13 +19,4 @@ talked-requires-send-D g c κs within =
     record {
       owned = sent.owned;
       leaving = λ k. Quiet-if (k (of_param 1)) (R.exit no) unseen (sent.leaving no) (λ x w. tt);
-    }
-
-pub talked-requires-send-T : goal.talked-requires-send-T
-talked-requires-send-T g c κs within =
-    let R = Tally.the_row (param 0 g.row.J) g.J.HallName in
-    let sent : IsSend R = tally_send (param 0 g.row.J) g.J.HallName c.type_bounds.send-J in
-    record {
-      owned = sent.owned;
-      leaving = λ k. Quiet-if (k (of_param 2)) (R.exit no) unseen (sent.leaving no) (λ x w. tt);
     }

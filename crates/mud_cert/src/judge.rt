@@ -204,7 +204,7 @@ fn first_doubt(world: &World, cert: &Cert) -> Result<Option<Doubt>, AllocError>
     }
 }
 
-// What is true of every world and of every certificate.
+// What is true of every world and of every certificate, for the prover: the call and the field that is read say it.
 fn are_kept(world: &World, cert: &Cert)
     ensures world { IsSound world.now }
     ensures certificate { IsCertificate cert.now }
@@ -226,6 +226,7 @@ pub fn check(world: &World, cert: &Cert) -> Result<(), Doubt>
     ensures refuses { IfErr result (λ doubt. doubt ≢ OutOfMemory → IsFirstDoubt world.now cert.now doubt) }
     ensures optimal { IsOk result → Optimal world.now cert.now }
 {
+    // for the prover: the world is sound, and the certificate keeps its invariant
     are_kept(world, cert);
     match first_doubt(world, cert)? {
         None => Ok(()),

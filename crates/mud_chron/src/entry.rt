@@ -39,6 +39,7 @@ impl Entry {
         requires { IsSpellable desk change }
         ensures { result ≡ record { desk = desk; change = change } }
     {
+        // for the prover: its names, its key and its text keep the invariants of their types
         has_parts(&change);
         Entry { desk, change }
     }

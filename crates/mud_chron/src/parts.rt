@@ -1,4 +1,4 @@
-//! What the types of a change's parts keep.
+//! What the types of a change's parts keep, for the prover: the calls say it, and what they give is not used.
 
 ghost use Rattle.mud_chron.specs.Entry.{HasParts, IsTarget};
 ghost use Rattle.mud_world.specs.Inner.{AreDoors, AreBackNames};

@@ -85,6 +85,7 @@ impl<J: HallName> Desk<J> {
         }
         let actor = change.actor;
         let text = reply_text(alloc, self.replica.world(), &change)?;
+        // for the prover: `next_number` says that the world is sound
         let _sound = self.replica.world().next_number();
         let entry = Box::new(alloc, Entry::new(self.number, change))?;
         self.calls.reserve(1)?;

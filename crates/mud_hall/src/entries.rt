@@ -55,6 +55,7 @@ impl<'r> Made<'r> {
         ensures same { self.new ≡ self.old }
         ensures desk { (e : Accepted) × (slice_get self.old i ≡ Some e) × (result ≡ e.desk) }
     {
+        // for the prover: `known` says that they are at most 65,536, so that the sum below fits
         let _ = self.pass.known();
         match self.row.entry(&mut self.pass, self.loaded + i + 1) {
             Some(entry) => entry.desk(),

@@ -151,11 +151,12 @@ fn is_loadable(alloc: Global, capacity: u32, entries: &[Entry]) -> Result<(), Lo
     if entries.len() > capacity as usize {
         return Err(LoadFault::OverCapacity);
     }
+    // for the prover: each of them keeps the invariant of an entry
     are_entries(entries);
     Ok(())
 }
 
-// What is true of every entry is true of each of these.
+// What is true of every entry is true of each of these, for the prover: `desk` says it.
 fn are_entries(entries: &[Entry])
     ensures { AllByRecursion IsEntry entries.now }
 {

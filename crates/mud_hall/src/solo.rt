@@ -138,6 +138,7 @@ impl Solo {
         ensures version { result ≡ length self.now.state.seen }
         ensures limit { result ≤ 65536 }
     {
+        // for the prover: reading the field says that the history has at most 65,536 entries
         let _capacity = self.capacity;
         self.history.len() as u32
     }

@@ -42,6 +42,7 @@ pub(crate) fn proof_answer(alloc: Global, cert: &Cert) -> Result<String, AllocEr
 {
     let mut text = String::from_str(alloc, "proof\n")?;
     cert.write(alloc, &mut text)?;
+    // for the prover: the law that the text of a certificate ends with LF
     ends_with_lf();
     Ok(without_last_line_end(text))
 }

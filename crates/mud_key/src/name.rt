@@ -58,6 +58,7 @@ impl Name {
     pub fn copy(&self, alloc: Global) -> Result<Name, AllocError>
         ensures { IfOk result (λ name. name ≡ self.now) }
     {
+        // for the prover: reading the field says that the text is a name
         let _ = &self.text;
         Ok(Name {
             text: self.text.clone()?,

@@ -86,6 +86,7 @@ impl Pass {
         ensures mine { IsPrefix self.old.list self.new.list }
         ensures theirs { IsPrefix other.old.list self.new.list }
     {
+        // for the prover: what the one that knows less knows is the beginning of what the other knows
         self.agree(other);
         if self.count < other.count {
             take_over(&mut self.notes, &mut other.notes, other.count);

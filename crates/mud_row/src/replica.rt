@@ -218,6 +218,7 @@ impl Replica {
         ensures limit { length self.old.list ≤ 65536 }
         ensures ok { OnOk result (string_bytes out.new ≡ string_bytes out.old ++ history_text Two self.old.list) }
     {
+        // for the prover: `known` says that they are at most 65,536
         let _ = self.pass.known();
         write_text(alloc, row, &mut self.pass, out)
     }

@@ -148,6 +148,7 @@ impl<J: Job> Frontier<J> {
     pub fn facts(&self)
         ensures { IsFrontier J.world J.travellers (slot_in self.now) }
     {
+        // for the prover: reading the field says what is true of every frontier
         let _boards = &self.boards;
     }
 
@@ -193,6 +194,7 @@ impl<J: Job> Frontier<J> {
         ensures member { IfSome result (λ t. t.member < length J.travellers) }
         ensures none { IfNone result (AreLeast J.world J.travellers (λ m. labels_of (slot_in self.now m))) }
     {
+        // for the prover: reading the field says what is true of every frontier
         let _boards = &self.boards;
         match self.first() {
             Some(task) => Some(task),

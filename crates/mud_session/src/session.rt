@@ -272,6 +272,7 @@ impl Session {
             self.old self.new (D.state door.old) (D.state door.new)) }
         ensures capacity { (D.state door.new).capacity ≡ (D.state door.old).capacity }
     {
+        // for the prover: the law that what a line asks is asked by the verb of a question
         questions();
         let reply = door.act(rt, line);
         self.tell(door)?;

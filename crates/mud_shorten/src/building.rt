@@ -43,6 +43,7 @@ impl Site<'_> {
         if self.world.legal(&change).is_err() {
             return Err(Stop::GivenUp);
         }
+        // for the prover: `next_number` says that the world is sound
         let _ = self.world.next_number();
         self.world.apply(&change)?;
         self.entries.push(Entry::new(desk, change))?;

@@ -99,6 +99,7 @@ impl<J: HallName> TelnetTalk<J> {
         let TelnetTalk { mut session, desk } = self;
         let mut seat = Seat::new(hall, desk, workers);
         let before = seat.accepted();
+        // for the prover: the law that a session names no version beyond what its desk has seen
         nothing_beyond();
         match session.feed(rt, &mut seat, bytes) {
             Ok(()) => TelnetTalk::told(session, seat, before),
@@ -113,6 +114,7 @@ impl<J: HallName> TelnetTalk<J> {
         let TelnetTalk { mut session, desk } = self;
         let mut seat = Seat::up_to(hall, desk, workers, most);
         let before = seat.accepted();
+        // for the prover: the law that a session names no version beyond what its desk has seen
         nothing_beyond();
         match session.nudge(&mut seat) {
             Ok(()) => TelnetTalk::told(session, seat, before),

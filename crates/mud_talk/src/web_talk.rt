@@ -201,6 +201,7 @@ impl<J: HallName> WebTalk<J> {
         }
         let before = seat.accepted();
         let mut out = Vec::new(alloc);
+        // for the prover: the law that a session names no version beyond what its desk has seen
         nothing_beyond();
         match web.answer(rt, &mut seat, typed, &mut out) {
             Ok(()) => WebTalk::told(alloc, web, seat, out, before),
@@ -223,6 +224,7 @@ impl<J: HallName> WebTalk<J> {
         let mut seat = Seat::up_to(hall, desk, workers, most);
         let before = seat.accepted();
         let mut out = Vec::new(alloc);
+        // for the prover: the law that a session names no version beyond what its desk has seen
         nothing_beyond();
         match web.nudge(&mut seat, &mut out) {
             Ok(()) => WebTalk::told(alloc, web, seat, out, before),

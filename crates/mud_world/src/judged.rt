@@ -72,6 +72,7 @@ impl World {
             );
             put_answer(&mut answers, *object, is_unlocked);
         }
+        // for the prover: the world is sound
         self.is_sound();
         Ok(answers)
     }

@@ -41,6 +41,7 @@ impl World {
     fn gathered(&self, candidate: u32) -> Option<ArrayVec<u32, 8192>>
         ensures { IfSome result (λ found. IsHolding self.now candidate found.items) }
     {
+        // for the prover: the world is sound
         self.is_sound();
         let mut found = ArrayVec::new();
         if self.exists(candidate) {
@@ -63,6 +64,7 @@ impl World {
         requires { IsHolding self.now candidate numbers.now }
         ensures { result ≡ unlocked self.now candidate object }
     {
+        // for the prover: the world is sound
         self.is_sound();
         let marks = marks_of(numbers);
         self.opens(Bearer::Marks(&marks), object, 4)

@@ -39,6 +39,7 @@ impl World {
     pub(crate) fn all_nest_with(&self, object: u32, key: &Key) -> bool
         ensures { result ≡ all_nest (locked self.now object key.now) }
     {
+        // for the prover: the world is sound
         self.is_sound();
         let node = key.node();
         if !self.exists(object) {

@@ -31,6 +31,7 @@ impl World {
         ensures holds { result ≡ within self.now object holder }
         ensures follows { IsTrue result ↔ Within self.now object holder }
     {
+        // for the prover: the world is sound
         self.is_sound();
         self.exists(object) && self.comes_to(object, holder)
     }
@@ -71,6 +72,7 @@ impl World {
         ensures reach { result ≡ in_reach self.now actor object }
         ensures reaches { IsTrue result ↔ InReach self.now actor object }
     {
+        // for the prover: the world is sound
         self.is_sound();
         self.arrives(actor, object)
     }

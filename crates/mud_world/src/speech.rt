@@ -54,6 +54,7 @@ impl Speech {
     pub fn copy(&self, alloc: Global) -> Result<Speech, AllocError>
         ensures { IfOk result (λ speech. speech ≡ self.now) }
     {
+        // for the prover: reading the field says that the text can be said
         let _ = &self.text;
         Ok(Speech {
             text: self.text.clone()?,

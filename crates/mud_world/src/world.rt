@@ -142,7 +142,7 @@ impl World {
         self.next
     }
 
-    // What is true of every world.
+    // What is true of every world, for the prover: it has the invariant where a field is read.
     pub(crate) fn is_sound(&self)
         ensures { IsSound self.now }
     {
@@ -165,6 +165,7 @@ impl World {
         if self.is_room(number) {
             self.links.leaving.get(number)
         } else {
+            // for the prover: the world is sound
             self.is_sound();
             &[]
         }
@@ -176,6 +177,7 @@ impl World {
         ensures named { result ≡ named_player self.now name.now }
         ensures player { IfSome result (λ n. IsTrue (is_player self.now n)) }
     {
+        // for the prover: the world is sound
         self.is_sound();
         self.find_player(name)
     }

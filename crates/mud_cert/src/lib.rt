@@ -13,13 +13,13 @@
 //! ```text
 //! match check(&world, &cert) {
 //!     Ok(()) => {} // what it concludes is the least
-//!     Err(doubt) => {} // the first doubt, or want of memory
+//!     Err(doubt) => {} // the first doubt, or out of memory
 //! }
 //! ```
 //!
-//! Proved is that `check` accepts exactly the valid certificates but for want of memory, that the
-//! doubt is the first one, and that what a valid certificate concludes is optimal. The laws of the
-//! definitions alone are the contracts of [`laws`].
+//! Proved is that `check` accepts exactly the valid certificates, unless memory runs out, that the doubt is the first
+//! one, and that what a valid certificate concludes is optimal. The laws of the definitions alone are the contracts of
+//! [`laws`].
 #![tactic(auto)]
 
 mod agree;

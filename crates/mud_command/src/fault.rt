@@ -27,7 +27,7 @@ fn text_of(alloc: Global, error: &Error) -> Result<String, AllocError> {
     Ok(text)
 }
 
-// The fault of a text that was made, or was not for want of memory.
+// The fault of a text that was made, or out of memory where it was not.
 pub(crate) fn fault_of(text: Result<String, AllocError>) -> CommandFault {
     match text {
         Ok(text) => CommandFault::Told(text),

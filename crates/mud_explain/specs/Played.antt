@@ -17,7 +17,7 @@ use Rattle.mud_explain.specs.declared.step.Turn.TheVariants.{Act, Ask, See, Seen
 use Rattle.mud_explain.specs.Told.{settled_lines, unsettled_line}
 use Rattle.mud_explain.specs.Told.{fault_line, reply_line, answer_lines, seen_line, told_lines}
 
--- an answer, or none for want of memory
+-- an answer, or none where memory ran out
 abbrev pub TellsAnswer : View → List ℕ → List ℕ → Type 0
 TellsAnswer d line told =
     ((a : Answered) × Answers d.state (parsed line) a × (told ≡ answer_lines a)) ⊎ (told ≡ fault_line OutOfMemory)

@@ -16,11 +16,11 @@
 //! assert_eq!(rt; answer.text.as_str(), "route #0 to #2 cost 1 by #3");
 //! ```
 //!
-//! Proved is that the text tells the canonical route, or the meeting room of least greatest cost
-//! and the route of each member, as specs/Walks.antt of mud_roads defines them, that it says `no
-//! way` and `no meeting` exactly where there is none, and that the certificate has exactly the least
-//! labels and these routes and keeps the limits of certificates, so that its text can be read back.
-//! Want of memory is the one error. The laws of the definitions are the contracts of [`laws`].
+//! Proved is that the text tells the canonical route, or the meeting room of least greatest cost and the route of each
+//! member, as specs/Walks.antt of mud_roads defines them, that it says `no way` and `no meeting` exactly where there is
+//! none, and that the certificate has exactly the least labels and these routes and keeps the limits of certificates,
+//! so that its text can be read back. The only error is out of memory. The laws of the definitions are the contracts of
+//! [`laws`].
 #![tactic(auto)]
 
 mod accounts;

@@ -27,11 +27,10 @@
 //! mud_key::read(alloc, "#4 || #1x")                    // BadKey(8)
 //! ```
 //!
-//! What is proved: exactly the names texts and exactly the key texts within the limits are read,
-//! with the names and the tree that the definitions give, which are the only ones; each fault comes
-//! exactly where its condition holds; the printed text is that of the definition, has as few
-//! parentheses as any text of the key, and reads back as the key; the rest answers as its
-//! definition says. A want of memory is an error of its own everywhere, and changes no argument.
+//! What is proved: exactly the names texts and exactly the key texts within the limits are read, with the names and the
+//! tree that the definitions give, which are the only ones; each fault comes exactly where its condition holds; the
+//! printed text is that of the definition, has as few parentheses as any text of the key, and reads back as the key;
+//! the rest answers as its definition says. Where memory runs out, that is an error of its own; no argument changes.
 //! No call recurses along a text that comes from outside: a reader keeps its own stack on the heap.
 #![tactic(auto)]
 

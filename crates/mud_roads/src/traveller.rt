@@ -32,7 +32,7 @@ impl Model for Traveller {
 }
 
 impl Traveller {
-    /// The traveller who is this player. Only want of memory is an error.
+    /// The traveller who is this player. The only error is out of memory.
     pub fn of(alloc: Global, world: &World, player: u32) -> Result<Traveller, AllocError>
         requires { IsTrue (is_player world.now player) }
         ensures traveller { IfOk result (IsTraveller world.now) }
@@ -73,8 +73,7 @@ impl Traveller {
         self.access.passes(world, exit)
     }
 
-    /// The open exits that leave a room, by rising number. He must be of this world. Only want of
-    /// memory is an error.
+    /// The open exits that leave a room, by rising number. He must be of this world. The only error is out of memory.
     pub fn leave(&self, alloc: Global, world: &World, room: u32) -> Result<Vec<Step>, AllocError>
         requires { IsTraveller world.now self.now }
         ensures { IfOk result (λ steps. steps.items ≡ roads_of world.now self.now.player room) }

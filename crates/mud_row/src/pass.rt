@@ -44,8 +44,8 @@ impl Pass {
         self.count
     }
 
-    /// A second pass that knows the same; this one stays as it was. All notes of the second are made
-    /// here, so that no later call asks for memory. Only want of memory is an error.
+    /// A second pass that knows the same; this one stays as it was. All notes of the second are made here, so that no
+    /// later call asks for memory. The only error is out of memory.
     pub fn again(&mut self, alloc: Global) -> Result<Pass, AllocError>
         ensures same { self.new ≡ self.old }
         ensures copy { IfOk result (λ p. p ≡ self.old) }

@@ -49,8 +49,7 @@ impl Model for Replica {
 impl Replica {
     ghost use Rattle.mud_row.specs.Known.{Standing};
 
-    /// A replica of this row that knows no cell: its world is the opening. Only want of memory is
-    /// an error.
+    /// A replica of this row that knows no cell: its world is the opening. The only error is out of memory.
     pub fn new(alloc: Global, row: &Row) -> Result<Replica, AllocError>
         ensures { IfOk result (λ r. r ≡ record { row = row.now; list = []; at = 0 }) }
     {
@@ -126,8 +125,8 @@ impl Replica {
         row.entry(&mut self.pass, self.at + 1)
     }
 
-    /// Takes the known entry after those that the world took in into the world, and answers whether
-    /// there was one. Only want of memory is an error, and then the replica stays as it was.
+    /// Takes the known entry after those that the world took in into the world, and answers whether there was one. The
+    /// only error is out of memory, and then the replica stays as it was.
     pub fn step(&mut self, row: &Row) -> Result<bool, AllocError>
         requires { self.old.row ≡ row.now }
         ensures still { (self.new.row ≡ self.old.row) × (self.new.list ≡ self.old.list) }
@@ -147,8 +146,8 @@ impl Replica {
         }
     }
 
-    /// Takes all known entries into the world. Only want of memory is an error, and then the
-    /// replica stands at one of the entries from where it stood on.
+    /// Takes all known entries into the world. The only error is out of memory, and then the replica stands at one of
+    /// the entries from where it stood on.
     pub fn catch_up(&mut self, row: &Row) -> Result<(), AllocError>
         requires { self.old.row ≡ row.now }
         ensures still { (self.new.row ≡ self.old.row) × (self.new.list ≡ self.old.list) }
@@ -163,9 +162,9 @@ impl Replica {
         Ok(())
     }
 
-    /// Knows from then on each next cell that it finds set, as `extend`, and takes all known
-    /// entries into the world, as `catch_up`. Only want of memory is an error, and then the replica
-    /// stands at one of the entries from where it stood on.
+    /// Knows from then on each next cell that it finds set, as `extend`, and takes all known entries into the world, as
+    /// `catch_up`. The only error is out of memory, and then the replica stands at one of the entries from where it
+    /// stood on.
     pub fn see(&mut self, row: &Row) -> Result<(), AllocError>
         requires { self.old.row ≡ row.now }
         ensures still { self.new.row ≡ self.old.row }
@@ -264,8 +263,7 @@ impl Replica {
         self.pass.learn(pass);
     }
 
-    /// An equal replica, whose world is a copy; this one stays as it was. Only want of memory is an
-    /// error.
+    /// An equal replica, whose world is a copy; this one stays as it was. The only error is out of memory.
     pub fn copy(&mut self, alloc: Global) -> Result<Replica, AllocError>
         ensures same { self.new ≡ self.old }
         ensures copy { IfOk result (λ r. r ≡ self.old) }

@@ -31,7 +31,7 @@ impl Model for Row {
 }
 
 impl Row {
-    /// A row of so many empty cells, 1 to 65,536. Only want of memory is an error.
+    /// A row of so many empty cells, 1 to 65,536. The only error is out of memory.
     pub fn new(alloc: Global, capacity: u32) -> Result<Row, AllocError>
         requires from { 1 ≤ capacity }
         requires to { capacity ≤ 65536 }
@@ -53,8 +53,8 @@ impl Row {
         self.cells.len() as u32
     }
 
-    /// A pass of this row, that knows no cell. All its notes are made here, so that no later call
-    /// asks for memory. Only want of memory is an error.
+    /// A pass of this row, that knows no cell. All its notes are made here, so that no later call asks for memory. The
+    /// only error is out of memory.
     pub fn pass(&self, alloc: Global) -> Result<Pass, AllocError>
         ensures row { IfOk result (λ p. p.row ≡ self.now) }
         ensures list { IfOk result (λ p. p.list ≡ []) }

@@ -12,8 +12,8 @@ use mud_world::World;
 use std::alloc::{AllocError, Global};
 use std::marker::Brand;
 
-/// The least labels of up to eight travellers of this world, by the caller's thread. No label
-/// costs more than 81,910,000 or has more than 8,191 exits. Only want of memory is an error.
+/// The least labels of up to eight travellers of this world, by the caller's thread. No label costs more than
+/// 81,910,000 or has more than 8,191 exits. The only error is out of memory.
 pub fn labels_alone(
     alloc: Global,
     world: &World,

@@ -49,9 +49,8 @@ impl<J: Job> Model for Frontier<J> {
 }
 
 impl<J: Job> Frontier<J> {
-    /// The beginning: of each member's rooms his place is open, with the label of no cost and no
-    /// exits, and no other is known. Takes all memory that later calls need. Only want of memory
-    /// is an error.
+    /// The beginning: of each member's rooms his place is open, with the label of no cost and no exits, and no other is
+    /// known. Takes all memory that later calls need. The only error is out of memory.
     pub fn new(alloc: Global, world: &World, travellers: &[Traveller]) -> Result<Self, AllocError>
         requires world { world.now ≡ J.world }
         requires travellers { travellers.now ≡ J.travellers }

@@ -219,8 +219,8 @@ fn hall(alloc: Global) -> Result<NewHall, AllocError> {
     }
 }
 
-// A look that met want of memory loses no line and tells none twice. The gate runs this once for each
-// request for memory, and refuses that one.
+// A look for which memory ran out loses no line and tells none twice. The gate runs this once for each request for
+// memory, and refuses that one.
 #[test]
 fn each_line_is_told_once(rt: HostRuntime) -> Result<(), Fail> {
     let hall = hall(rt.alloc())?;

@@ -71,7 +71,7 @@ impl Channel {
     /// Takes in the next bytes of the connection. The text messages that are whole now are added to `typed`, each with
     /// LF behind it, and the frames that are due as replies to `replies`: pongs, the close that answers a close, and
     /// the close that an error asks for (RFC 6455, sections 5.5 and 7.1.7). After an error the channel takes nothing
-    /// more. Where the error is want of memory, `typed` and `replies` are of no use.
+    /// more. Where the error is out of memory, `typed` and `replies` are of no use.
     pub fn feed(
         &mut self,
         bytes: &[u8],
@@ -154,7 +154,7 @@ impl Channel {
         }
     }
 
-    // Adds the close that a fault asks for; the fault, or want of memory.
+    // Adds the close that a fault asks for; the fault, or out of memory.
     fn fail(&mut self, fault: Fault, replies: &mut Vec<u8>) -> Fault
         requires { IsNoEnd fault }
         ensures over { IfOver result (λ e. (fault ≡ Over e)

@@ -172,10 +172,9 @@ impl World {
         forget(&mut self.records, &mut self.links, &mut self.askers, object);
     }
 
-    /// Makes the world after a legal change (`after`). The only error is want of memory, and then
-    /// the world is the one that was. New objects get the next numbers, in the order room, exit,
-    /// exit back; a number is never given again (LambdaMOO Programmer's Manual, "Fundamental
-    /// Operations on Objects").
+    /// Makes the world after a legal change (`after`). The only error is out of memory, and then the world is the one
+    /// that was. New objects get the next numbers, in the order room, exit, exit back; a number is never given again
+    /// (LambdaMOO Programmer's Manual, "Fundamental Operations on Objects").
     pub fn apply(&mut self, change: &Change) -> Result<(), AllocError>
         requires { refusal self.old change.now ≡ None }
         ensures ok { OnOk result (self.new ≡ after self.old change.now) }

@@ -57,9 +57,9 @@ fn add_numbers(members: &mut IndexSet<u32>, numbers: &[u32]) -> Result<(), Alloc
 }
 
 impl World {
-    /// What an object carries at any depth, itself included; nothing, where it doesn't exist. It
-    /// goes downwards through contents, each object once (LambdaMOO Programmer's Manual,
-    /// "Fundamental Object Attributes": contents). Only want of memory is an error.
+    /// What an object carries at any depth, itself included; nothing, where it doesn't exist. It goes downwards through
+    /// contents, each object once (LambdaMOO Programmer's Manual, "Fundamental Object Attributes": contents). The only
+    /// error is out of memory.
     pub fn carried(&self, candidate: u32) -> Result<Holding, AllocError>
         ensures holding { IfOk result (IsHolding self.now candidate) }
         ensures members { IfOk result (λ held. (o : ℕ)

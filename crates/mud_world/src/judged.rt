@@ -89,9 +89,9 @@ impl World {
         self.judge_more(alloc, holding, &plain, &third)
     }
 
-    /// For each number whether its object is unlocked for the one whose holding it is (`unlocked`);
-    /// a number past the last names nothing. Each key is read once for each level, so what a key asks
-    /// costs a look in a table, however the keys nest. Only want of memory is an error.
+    /// For each number whether its object is unlocked for the one whose holding it is (`unlocked`); a number past the
+    /// last names nothing. Each key is read once for each level, so what a key asks costs a look in a table, however
+    /// the keys nest. The only error is out of memory.
     pub fn judge(&self, alloc: Global, holding: &Holding) -> Result<Vec<bool>, AllocError>
         ensures { IfOk result (λ answers. (c o : ℕ) → IsHolding self.now c holding.now
             → slice_index_or answers.items o false ≡ unlocked self.now c o) }

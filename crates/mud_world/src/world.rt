@@ -88,8 +88,8 @@ impl Model for World {
 impl World {
     ghost use Rattle.mud_world.specs.Opening.{opening_state};
 
-    /// The world at the beginning: #0, the room `The Hall`, and in it #1, the player `Wizard`, who
-    /// owns both (this project's profile). Only want of memory is an error.
+    /// The world at the beginning: #0, the room `The Hall`, and in it #1, the player `Wizard`, who owns both (this
+    /// project's profile). The only error is out of memory.
     pub fn opening(alloc: Global) -> Result<World, AllocError>
         ensures opening { IfOk result (λ w. w ≡ opening_state) }
         ensures sound { IfOk result IsSound }
@@ -188,7 +188,7 @@ impl World {
         self.owners.get(name)
     }
 
-    /// An equal world, that changes by itself from then on. Only want of memory is an error.
+    /// An equal world, that changes by itself from then on. The only error is out of memory.
     pub fn copy(&self) -> Result<World, AllocError>
         ensures { IfOk result (λ w. w ≡ self.now) }
     {

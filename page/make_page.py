@@ -87,7 +87,7 @@ def module():
     """The module that has the page."""
     return (
         "//! The page, as page/make_page.py writes it.\n\n"
-        "/// The whole answer to a browser that asks for the page: its head, and the page behind it.\n"
+        "/// The whole answer to a browser that asks for the page: its head, and the page after it.\n"
         f'pub const PAGE: &[u8] = b"\\\n{literal(answer())}";\n'
     )
 

@@ -70,7 +70,7 @@ unfolding exits_at
 exits-again One n rest zeroed h = ap (λ (k : ℕ). Some (k, rest)) (sym zeroed)
 exits-again Two n rest few h = rw (after-front (codes "/") (decimal n ++ rest)) (number-read n rest few h)
 
--- what stands behind a cost is no digit
+-- what stands after a cost is no digit
 exits-stop : (form : Form) (n : ℕ) (rest : List ℕ) → NoDigit rest → NoDigit (exits_text form n ++ rest)
 exits-stop One n rest h = h
 exits-stop Two n rest h = refl

@@ -91,7 +91,7 @@ moved entries others c d P same p =
     subst (λ (es : List Entry). P (world_at es c.version) c) (sym same.entries_same)
     (subst (λ (x : Certificate). P (world_at others x.version) x) (sym same.cert_same) p)
 
--- of a certificate behind these entries one thing is found
+-- of a certificate after these entries one thing is found
 one-tried : (entries others : List Entry) (c d : Certificate) (finding other : Finding)
     → AreSame entries others c d → IsCertificate c
     → IsTried entries c finding → IsTried others d other → finding ≡ other
@@ -132,13 +132,13 @@ one-tried entries others c d (Doubted e) (BadProof n) same is a b = absurd b
 one-tried entries others c d Accepted (BadHistory f) same is a b = absurd b
 one-tried entries others c d Accepted (BadProof n) same is a b = absurd b
 
--- what is read behind a history: a bad line, or a certificate of which this is found
+-- what is read after a history: a bad line, or a certificate of which this is found
 data Reading (entries : List Entry) (proof : List ℕ) (finding : Finding) : Type 0 where
   Bad : (n : ℕ) → IsBadLine proof n → finding ≡ BadProof n → Reading entries proof finding
   Read : (c : Certificate) → IsCertificate c → proof ≡ cert_text c → IsTried entries c finding
       → Reading entries proof finding
 
--- what is found of two texts: an unfit history, or a history and what is read behind it
+-- what is found of two texts: an unfit history, or a history and what is read after it
 data Sorted (history proof : List ℕ) (finding : Finding) : Type 0 where
   Unfit : (f : ChronFault) → IsUnfit (without_returns history) f → finding ≡ BadHistory f → Sorted history proof finding
   Fit : (entries : List Entry) → IsHistory (without_returns history) entries

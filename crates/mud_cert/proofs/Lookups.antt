@@ -7,7 +7,7 @@ use Rattle.std.proofs.lemmas.Bool.{ne_eqb}
 use Rattle.mud_roads.specs.declared.label.Label.{Label}
 use Rattle.mud_cert.specs.Lookup.{Rises, label_in}
 
--- the first label, or one behind it
+-- the first label, or one after it
 pub label-here : (e : ℕ × Label) (es : List (ℕ × Label)) (room : ℕ) → eqb e.0 room ≡ true
     → label_in (e ∷ es) room ≡ Some e.1
 label-here e es room is =

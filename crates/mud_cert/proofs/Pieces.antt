@@ -21,7 +21,7 @@ pub bind_some : {A B : Type 0} (o : Option A) (f : A → Option B) (y : B) → (
 bind_some (Some x) f y e = (x, refl, e)
 bind_some None f y e = absurd cc
 
--- a value with nothing behind it
+-- a value with nothing after it
 pub whole_some : {A : Type 0} (x : A) (rest : List ℕ) (y : A) → whole (x, rest) ≡ Some y → (x ≡ y) × (rest ≡ [])
 unfolding whole
 whole_some x [] y e = (cc, refl)

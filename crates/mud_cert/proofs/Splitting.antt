@@ -25,7 +25,7 @@ Apart b = b ≢ 10
 
 -- ---- one split
 
--- what stands before the first LF, and behind it
+-- what stands before the first LF, and after it
 pub cut : (a b x y : List ℕ) → IsLine a → IsLine b → a ++ 10 ∷ x ≡ b ++ 10 ∷ y → (a ≡ b) × (x ≡ y)
 cut [] [] x y la lb e = (refl, cc)
 cut [] (c ∷ b) x y la lb e =
@@ -126,7 +126,7 @@ number-plain n low = decimal-plain n (omega arith)
 amount-plain : (n : ℕ) → IsAmount n → ArePlain (decimal n)
 amount-plain n few = decimal-plain n (omega arith)
 
--- pieces one behind the other
+-- pieces one after the other
 pieces-plain : {A : Type 0} (text : A → List ℕ) (Fits : A → Type 0) (is : (x : A) → Fits x → ArePlain (text x))
     (xs : List A) → All Fits xs → ArePlain (flat_map text xs)
 pieces-plain text Fits is [] fits = All-nil Plain

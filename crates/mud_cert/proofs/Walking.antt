@@ -35,7 +35,7 @@ step-leads w x a e =
 source-of : (w : State) (x : ℕ) (a : Passage) → passage_of w x ≡ Some a → source_of w x ≡ Some a.source
 source-of w x a e = ap (option_map (λ (q : Passage). q.source)) e
 
--- behind this many that are as they should be one fails; the test counts from any number on
+-- after this many that are as they should be one fails; the test counts from any number on
 record Fails (IsSo : List ℕ → Type 0) (walk : List ℕ) (first place : ℕ) : Type 0 where
   count : ℕ
   number : place ≡ count + first

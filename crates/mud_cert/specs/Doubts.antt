@@ -52,7 +52,7 @@ Holds w form earlier m n (doubts.WalkCost p) =
     × ((to : ℕ) × (ss : List Step) × States w m to ss × (label_at m to ≢ Some (total (hop_of form) ss)))
 Holds w form earlier m n doubt = ⊥
 
--- test n of the member at this place, counted from 0, raises the doubt; or, behind the last, the conclusion does
+-- test n of the member at this place, counted from 0, raises the doubt; or, after the last, the conclusion does
 abbrev pub HoldsAt : State → Certificate → ℕ → ℕ → Doubt → Type 0
 HoldsAt w c at n d =
     ((m : Account) × (slice_get c.members at ≡ Some m) × Holds w c.form (take at c.members) m n d)

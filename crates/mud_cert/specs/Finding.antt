@@ -34,7 +34,7 @@ IsUnfit text fault =
     ⊎ ((n : ℕ) × (fault ≡ BadChange n) × ((entries : List Entry) × SpellsHistory text entries
     × IsFirstIllegal (changes_of entries) n))
 
--- what is found of a certificate behind these entries: its version is looked at, then it is tried in that world
+-- what is found of a certificate after these entries: its version is looked at, then it is tried in that world
 abbrev pub IsTried : List Entry → Certificate → Finding → Type 0
 IsTried entries c (NoVersion version) = (version ≡ c.version) × (length entries < version)
 IsTried entries c (Doubted doubt) = (c.version ≤ length entries) × IsFirstDoubt (world_at entries c.version) c doubt
@@ -42,7 +42,7 @@ IsTried entries c Accepted =
     (c.version ≤ length entries) × IsValid (world_at entries c.version) c × Optimal (world_at entries c.version) c
 IsTried entries c finding = ⊥
 
--- the proof, behind these entries, has this bad line, or is the text of a certificate of which this is found
+-- the proof, after these entries, has this bad line, or is the text of a certificate of which this is found
 abbrev pub IsRead : List Entry → List ℕ → Finding → Type 0
 IsRead entries proof (BadProof n) = IsBadLine proof n
 IsRead entries proof finding = (c : Certificate) × IsCertificate c × (proof ≡ cert_text c) × IsTried entries c finding

@@ -20,7 +20,7 @@ None >>= f = None
 abbrev pub is_digit : ℕ → Bool
 is_digit b = nat_le 48 b && nat_le b 57
 
--- the number that goes on with the digits at the front, and the bytes behind them
+-- the number that goes on with the digits at the front, and the bytes after them
 abbrev pub digits_on : ℕ → List ℕ → ℕ × List ℕ
 digits_on n [] = (n, [])
 digits_on n (b ∷ bs) = if is_digit b then digits_on (n * 10 + (b - 48)) bs else (n, b ∷ bs)
@@ -42,18 +42,18 @@ object_at bytes = do
 
 -- ---- pieces
 
--- what stands behind the literal text
+-- what stands after the literal text
 unfoldable pub after : List ℕ → List ℕ → Option (List ℕ)
 after [] bytes = Some bytes
 after (c ∷ cs) [] = None
 after (c ∷ cs) (b ∷ bs) = if b == c then after cs bs else None
 
--- the value, where nothing stands behind it
+-- the value, where nothing stands after it
 unfoldable pub whole : {A : Type 0} → A × List ℕ → Option A
 whole (x, []) = Some x
 whole (x, b ∷ bs) = None
 
--- pieces one behind the other, to the end of the bytes; as many as there are bytes, at most
+-- pieces one after the other, to the end of the bytes; as many as there are bytes, at most
 unfoldable pub pieces_at : {A : Type 0} → (List ℕ → Option (A × List ℕ)) → ℕ → List ℕ → Option (List A)
 pieces_at piece_at count [] = Some []
 pieces_at piece_at zero (b ∷ bs) = None

@@ -42,12 +42,12 @@ abbrev pub suits : ℕ → Conclusion → Bool
 suits count (Route to cost) = count == 1
 suits count (Meet meeting) = nat_le 2 count && nat_le count 8
 
--- a line behind the members that is no member's
+-- a line after the members that is no member's
 unfoldable pub conclude : Opening → Option Conclusion → Option Stage
 conclude p None = None
 conclude p (Some c) = if suits (length p.members) c then Some (Concluded (concluded p c)) else None
 
--- a line behind the members
+-- a line after the members
 unfoldable pub join : Opening → Option (ℕ × ℕ) → List ℕ → Option Stage
 join p None line = conclude p (conclusion_at line)
 join p (Some m) line = if nat_lt (length p.members) 8 then Some (Placed p m.0 m.1) else None

@@ -51,7 +51,7 @@ abbrev pub is_there_within : ℕ → ℕ → Option (ℕ × ℕ) → Bool
 is_there_within room cost None = false
 is_there_within room cost (Some a) = nat_eq a.0 room && nat_le a.1 cost
 
--- the cost and the room don't come behind the other ones
+-- the cost and the room don't come after the other ones
 abbrev pub is_no_worse : ℕ → ℕ → ℕ → Option ℕ → Bool
 is_no_worse cost room other None = true
 is_no_worse cost room other (Some c) = nat_lt cost c || (nat_eq cost c && nat_le room other)

@@ -22,7 +22,7 @@ abbrev pub entry_text : Form → ℕ × Label → List ℕ
 entry_text One e = codes " #" ++ decimal e.0 ++ codes ":" ++ decimal e.1.cost
 entry_text Two e = codes " #" ++ decimal e.0 ++ codes ":" ++ decimal e.1.cost ++ codes "/" ++ decimal e.1.exits
 
--- the exits of a walk, behind a word: ` #3 #5`, or ` nothing`
+-- the exits of a walk, after a word: ` #3 #5`, or ` nothing`
 abbrev pub exits_text : List ℕ → List ℕ
 exits_text [] = codes " nothing"
 exits_text exits = flat_map (λ exit. codes " #" ++ decimal exit) exits

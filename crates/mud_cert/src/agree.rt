@@ -61,7 +61,7 @@ fn gathered(members: &[Member], room: u32) -> Option<u32>
     Some(greatest)
 }
 
-// Whether the cost and the room don't come behind the other ones.
+// Whether the cost and the room don't come after the other ones.
 fn is_no_worse(cost: u32, room: u32, other: u32, gathered: Option<u32>) -> bool
     ensures { result ≡ is_no_worse cost room other gathered }
 {

@@ -11,7 +11,7 @@ use crate::numbers::{number_at, object_at};
 use mud_roads::Label;
 use std::alloc::{AllocError, Global};
 
-/// What stands behind the literal text.
+/// What stands after the literal text.
 fn after<'a>(literal: &[u8], bytes: &'a [u8]) -> Option<&'a [u8]>
     ensures { option_map (λ x. x.now) result ≡ after literal.now bytes.now }
 {
@@ -25,7 +25,7 @@ pub fn says(bytes: &[u8], literal: &[u8]) -> bool
     bytes == literal
 }
 
-/// The number, where nothing stands behind it.
+/// The number, where nothing stands after it.
 #[tactic(auto, unfolding(crate::specs::Reading::whole))]
 fn whole(number: u32, rest: &[u8]) -> Option<u32>
     ensures { result ≡ whole (number, rest.now) }
@@ -72,7 +72,7 @@ pub fn member_of(line: &[u8]) -> Option<(u32, u32)>
     }
 }
 
-/// The count of exits of a label, which form one leaves out, and the bytes behind it.
+/// The count of exits of a label, which form one leaves out, and the bytes after it.
 #[tactic(auto, unfolding(crate::specs::Reading::exits_at))]
 fn exits_at(form: Form, bytes: &[u8]) -> Option<(u32, &[u8])>
     ensures { option_map (λ x. (x.0, x.1.now)) result ≡ exits_at form bytes.now }
@@ -83,7 +83,7 @@ fn exits_at(form: Form, bytes: &[u8]) -> Option<(u32, &[u8])>
     }
 }
 
-/// A room and its label, and the bytes behind them.
+/// A room and its label, and the bytes after them.
 #[tactic(auto, unfolding(crate::specs::Reading::entry_at))]
 fn entry_at(form: Form, bytes: &[u8]) -> Option<((u32, Label), &[u8])>
     ensures { option_map (λ x. (x.0, x.1.now)) result ≡ entry_at form bytes.now }
@@ -94,7 +94,7 @@ fn entry_at(form: Form, bytes: &[u8]) -> Option<((u32, Label), &[u8])>
     Some(((room, Label { cost, exits }), rest))
 }
 
-/// An exit of a walk, and the bytes behind it.
+/// An exit of a walk, and the bytes after it.
 #[tactic(auto, unfolding(crate::specs::Reading::exit_at))]
 fn exit_at(bytes: &[u8]) -> Option<(u32, &[u8])>
     ensures { option_map (λ x. (x.0, x.1.now)) result ≡ exit_at bytes.now }

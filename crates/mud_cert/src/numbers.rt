@@ -22,7 +22,7 @@ fn small(number: u64, rest: &[u8]) -> Option<(u32, &[u8])>
 }
 
 /// The number that goes on with the digits at the front, where it has at most nine, and the bytes
-/// behind them.
+/// after them.
 fn digits_on(start: u8, bytes: &[u8]) -> Option<(u32, &[u8])>
     requires { start < 10 }
     ensures { option_map (λ x. (x.0, x.1.now)) result ≡ small (digits_on start bytes.now) }
@@ -40,7 +40,7 @@ fn digits_on(start: u8, bytes: &[u8]) -> Option<(u32, &[u8])>
     small(number, &bytes[bytes.len()..])
 }
 
-/// A number of at most nine digits, the first of which is 0 only in 0 itself, and the bytes behind
+/// A number of at most nine digits, the first of which is 0 only in 0 itself, and the bytes after
 /// it.
 #[tactic(auto, unfolding(crate::specs::Reading::number_at))]
 pub fn number_at(bytes: &[u8]) -> Option<(u32, &[u8])>
@@ -60,7 +60,7 @@ pub fn number_at(bytes: &[u8]) -> Option<(u32, &[u8])>
     }
 }
 
-/// The number of an object, and the bytes behind it.
+/// The number of an object, and the bytes after it.
 #[tactic(auto, unfolding(crate::specs::Reading::object_at))]
 pub fn object_at(bytes: &[u8]) -> Option<(u32, &[u8])>
     ensures { option_map (λ x. (x.0, x.1.now)) result ≡ object_at bytes.now }

@@ -11,7 +11,7 @@ use crate::stage::Stage;
 use memchr::memchr;
 use std::alloc::Global;
 
-/// The first line, without its LF, and the bytes behind it.
+/// The first line, without its LF, and the bytes after it.
 fn first_line(bytes: &[u8]) -> Option<(&[u8], &[u8])>
     ensures found { IfSome result (λ s. IsLine s.0.now × (bytes.now ≡ s.0.now ++ 10 ∷ s.1.now)) }
     ensures none { IfNone result (IsLine bytes.now) }

@@ -57,7 +57,7 @@ fn suits(count: usize, conclusion: Conclusion) -> bool
 }
 
 impl Party {
-    /// Behind the line of a conclusion.
+    /// After the line of a conclusion.
     #[tactic(auto, unfolding(crate::specs::Stages::conclude))]
     fn conclude(self, line: &[u8]) -> Option<Stage>
         requires { IsOpening self }
@@ -71,7 +71,7 @@ impl Party {
         }
     }
 
-    /// Behind a member's first line, or a conclusion.
+    /// After a member's first line, or a conclusion.
     #[tactic(auto, unfolding(crate::specs::Stages::join))]
     fn join(self, line: &[u8]) -> Option<Stage>
         requires { IsOpening self }
@@ -89,7 +89,7 @@ impl Party {
         }
     }
 
-    /// Behind a member's second line.
+    /// After a member's second line.
     #[tactic(auto, unfolding(crate::specs::Stages::next))]
     fn label(
         self,
@@ -110,7 +110,7 @@ impl Party {
         }
     }
 
-    /// Behind a member's third line.
+    /// After a member's third line.
     #[tactic(auto, unfolding(crate::specs::Stages::next))]
     fn walk(self, alloc: Global, member: Member, line: &[u8]) -> Result<Option<Stage>, AllocError>
         requires { IsAccount member }
@@ -129,7 +129,7 @@ impl Party {
     }
 }
 
-/// Behind the first line.
+/// After the first line.
 #[tactic(auto, unfolding(crate::specs::Stages::next))]
 fn head(line: &[u8]) -> Option<Stage>
     ensures { result ≡ next Stage.Nothing line.now }
@@ -138,7 +138,7 @@ fn head(line: &[u8]) -> Option<Stage>
     Some(Stage::Headed(form))
 }
 
-/// Behind the second line.
+/// After the second line.
 #[tactic(auto, unfolding(crate::specs::Stages::next))]
 fn open(alloc: Global, form: Form, line: &[u8]) -> Option<Stage>
     ensures { result ≡ next (Stage.Headed form) line.now }
@@ -151,7 +151,7 @@ fn open(alloc: Global, form: Form, line: &[u8]) -> Option<Stage>
     }))
 }
 
-/// Behind the last line.
+/// After the last line.
 #[tactic(auto, unfolding(crate::specs::Stages::next))]
 fn end(cert: Cert, line: &[u8]) -> Option<Stage>
     ensures { result ≡ next (Stage.Concluded cert) line.now }

@@ -27,7 +27,7 @@ text_of-push : (front : List (List ℕ)) (line : List ℕ)
 text_of-push front line =
     flat_map-append ended front (line ∷ []) ∙ ap (λ t. text_of front ++ t) (append-nil (line ++ 10 ∷ []))
 
--- the bytes, with a line parted from what stands behind it
+-- the bytes, with a line parted from what stands after it
 parted : (front line behind : List ℕ) → front ++ (line ++ 10 ∷ behind) ≡ front ++ (line ++ 10 ∷ []) ++ behind
 parted front line behind =
     ap (λ t. front ++ t) (sym (append_assoc line (10 ∷ []) behind)) ∙ sym (append_assoc front (line ++ 10 ∷ []) behind)
@@ -43,7 +43,7 @@ one-passed bytes rest line behind passed whole cut other = record {
       ∙ ap (λ t. t ++ behind) (sym (text_of-push passed.front line));
 }
 
--- the front of a list, by the length of what stands behind it
+-- the front of a list, by the length of what stands after it
 front-of : (front behind : List ℕ) → take (length (front ++ behind) - length behind) (front ++ behind) ≡ front
 front-of front behind =
     let count : length (front ++ behind) - length behind ≡ length front = omega (arith, length-append front behind) in

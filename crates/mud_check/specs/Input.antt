@@ -13,7 +13,7 @@ pub record IsInner (line : List ℕ) : Type 0 where
   pub whole : IsLine line
   pub other : begins_end line ≡ false
 
--- the history's text goes up to the LF of the first line that begins with `end `, and the proof's stands behind it
+-- the history's text goes up to the LF of the first line that begins with `end `, and the proof's stands after it
 abbrev pub EndsAtLine : List ℕ → List ℕ → List ℕ → Type 0
 EndsAtLine bytes history proof =
     (front : List (List ℕ)) × (line : List ℕ) × All IsInner front × IsLine line × (begins_end line ≡ true)

@@ -73,7 +73,7 @@ fn input<R: Read>(alloc: Global, source: &mut Source<R>) -> Result<Vec<u8>, Unre
     }
 }
 
-/// Reads a history's text and a proof's, one behind the other, to the source's end, and judges
+/// Reads a history's text and a proof's, one after the other, to the source's end, and judges
 /// them. The file `-` is the answer where the source failed, and nowhere else.
 pub fn judge_input<R: Read>(
     alloc: Global,

@@ -41,7 +41,7 @@ back_again (Some names) h =
     ap (λ (o : Option (List (List ℕ) × List ℕ)). o >>= (λ names. Some (Some names.0)))
     (ap names_before (sym (append-nil (listed names ++ codes "\""))) ∙ names_before_again names [] h)
 
--- behind the first quote stand the names of the exit, and then the exit back
+-- after the first quote stand the names of the exit, and then the exit back
 behind_again : (front : List ℕ) (doors : Doors) → AreDoors (Some doors)
     → doors_behind (Some (front, (listed doors.out ++ codes "\"") ++ back_text doors.back)) ≡ Some (Some doors)
 behind_again front doors h =
@@ -97,7 +97,7 @@ parts_again v word rest actor d le plain known found =
     (object_before_again actor rest le)
     ∙ ap (λ (o : Option Deed). o >>= (λ d. Some (record { actor = actor; deed = d }))) found
 
--- an object, and what stands behind it
+-- an object, and what stands after it
 then_again : {A B : Type 0} (n : ℕ) (rest : List ℕ) (find : List ℕ → Option A) (make : ℕ → A → B) (x : A) → n ≤ 8191
     → find rest ≡ Some x
     → (object_before (number_text n ++ 32 ∷ rest) >>= (λ p. find p.1 >>= (λ x. Some (make p.0 x)))) ≡ Some (make n x)
@@ -105,7 +105,7 @@ then_again {A = A} n rest find make x le found =
     ap (λ (o : Option (ℕ × List ℕ)). o >>= (λ p. find p.1 >>= (λ x. Some (make p.0 x)))) (object_before_again n rest le)
     ∙ ap (λ (o : Option A). o >>= (λ x. Some (make n x))) found
 
--- the word of a deed, and what stands behind the actor
+-- the word of a deed, and what stands after the actor
 abbrev pub deed_word : Deed → List ℕ
 deed_word (Dig target doors) = codes "dig"
 deed_word (Make names) = codes "make"

@@ -39,7 +39,7 @@ begun-push format es e more =
     ∙ ap (λ (x : List ℕ). head ++ x ++ more)
     (ap (λ v. entries_text 1 es ++ entry_text v e) now ∙ sym (entries_text-push 1 es e))
 
--- behind an entry's line the text has begun with that entry too
+-- after an entry's line the text has begun with that entry too
 pub next_entry : (format : Format) (es : List Accepted) (bytes rest line more : List ℕ) (count : ℕ) (e : Accepted)
     → Begins format es bytes rest → rest ≡ line ++ line_feed ++ more
     → count ≡ length es → IsLine format count line (Entry e) → length es < 65536
@@ -53,7 +53,7 @@ next_entry format es bytes rest line more count e b cut counted is few = record 
       ∙ begun-push format es e more;
 }
 
--- behind the last entry that a text can have stands one more
+-- after the last entry that a text can have stands one more
 pub too_long : (format : Format) (es : List Accepted) (bytes rest line more : List ℕ) (count : ℕ) (e : Accepted)
     → Begins format es bytes rest → rest ≡ line ++ line_feed ++ more
     → count ≡ length es → IsLine format count line (Entry e) → length es ≡ 65536 → IsTooLong bytes

@@ -65,7 +65,7 @@ same_word (Recycle object) = refl
 same_word (Say text) = refl
 same_word (Emote text) = refl
 
--- what is found behind the verb of a deed is that deed
+-- what is found after the verb of a deed is that deed
 pub deed_found : (d : Deed) (r : Result Deed Unread) → IsInRange d → HasParts d → FindsDeed (verb_of d) (rest_of d) r
     → Finds (λ x. x ≡ d) r
 deed_found (Dig target doors) r range parts f = f target doors range parts refl
@@ -105,7 +105,7 @@ word_lacks v = lacks_all 32 (word_of v) (go v)
 
 -- ---- fields
 
--- a text behind a sharp
+-- a text after a sharp
 pub behind_sharp : (digits : List ℕ) → take (length (35 ∷ digits) - 1) digits ≡ digits
 behind_sharp digits = take_all (length (35 ∷ digits) - 1) digits (omega arith)
 
@@ -141,7 +141,7 @@ pub doors-found : (doors : Option Doors) (text : List ℕ) (P : Option Doors →
 doors-found None text P h is none some = none is
 doors-found (Some d) text P h is none some = some (codes " out ") d (lacks_all 34 (codes " out ") refl) h is
 
--- behind the number of an old room stand its exits
+-- after the number of an old room stand its exits
 pub old-parts : (room : ℕ) (d : Doors)
     → number_text room ++ doors_text (Some d) ≡ number_text room ++ codes " "
     ++ (codes "out " ++ quoted d.out ++ back_text d.back)
@@ -191,7 +191,7 @@ change-parts actor d =
     shape (number_text actor) d ∙ ap (λ w. w ++ 32 ∷ (number_text actor ++ 32 ∷ rest_of d)) (same_word d)
     ∙ ap (λ x. word_of (verb_of d) ++ 32 ∷ x) (sym (spaced (number_text actor) (rest_of d)))
 
--- what is found behind the verb and the actor of a change is its deed
+-- what is found after the verb and the actor of a change is its deed
 pub deed_behind : (d : Deed) (r : Result Deed Unread) (v : Verb) (text : List ℕ) → IsInRange d → HasParts d
     → v ≡ verb_of d → text ≡ rest_of d
     → FindsDeed v text r → Finds (λ x. x ≡ d) r
@@ -220,7 +220,7 @@ dig-word (Old room) doors text P range is cut =
     cut (codes "old") (number_text room ++ doors_text doors) (lacks_all 32 (codes "old") refl)
     (is ∙ room-parts room (doors_text doors))
 
--- behind `new` stand the names of the room
+-- after `new` stand the names of the room
 pub dig-then : (target : Target) (doors : Option Doors) (text word rest : List ℕ) (r : Result Deed Unread)
     → IsInRange (Dig target doors) → HasParts (Dig target doors)
     → text ≡ target_text target ++ doors_text doors
@@ -236,7 +236,7 @@ dig-then (Old room) doors text word rest r range h is cut said found =
     let a = dig-word (Old room) doors text (λ front behind. (word ≡ front) × (rest ≡ behind)) range is cut in
     absurd (true≢false (said ∙ ap (λ w. bytes_eq w (codes "new")) a.0))
 
--- behind another word stands the number of an old room
+-- after another word stands the number of an old room
 pub dig-else : (target : Target) (doors : Option Doors) (text word rest : List ℕ) (r : Result Deed Unread)
     → IsInRange (Dig target doors) → HasParts (Dig target doors)
     → text ≡ target_text target ++ doors_text doors

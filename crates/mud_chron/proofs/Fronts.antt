@@ -190,7 +190,7 @@ behind_front (b ∷ h) x t (suc n) e =
     let k : n - length h ≡ suc n - length (b ∷ h) = omega arith in
     record { fits = omega (arith, more.fits); behind = more.behind ∙ ap (λ m. take m t) k }
 
--- a front ends in the first line, or goes on behind it
+-- a front ends in the first line, or goes on after it
 front_cases : (h t : List ℕ) (n : ℕ)
     → ((more : List ℕ) × (h ≡ take n (h ++ t) ++ more)) ⊎ ((rest : List ℕ) × (take n (h ++ t) ≡ h ++ rest))
 front_cases [] t n = inr (take n t, refl)

@@ -26,7 +26,7 @@ abbrev pub ◌>>=◌ : {A B : Type 0} → Option A → (A → Option B) → Opti
 (Some x) >>= f = f x
 None >>= f = None
 
--- what stands in front of the first such byte, and what stands behind it
+-- what stands in front of the first such byte, and what stands after it
 abbrev pub cut : ℕ → List ℕ → Option (List ℕ × List ℕ)
 cut b [] = None
 cut b (c ∷ text) = if nat_eq c b then Some ([], text) else option_map (λ p. (c ∷ p.0, p.1)) (cut b text)
@@ -35,7 +35,7 @@ cut b (c ∷ text) = if nat_eq c b then Some ([], text) else option_map (λ p. (
 abbrev pub number_up_to : ℕ → List ℕ → Option ℕ
 number_up_to most text = up_to most (digits_on 0 text)
 
--- the number of an object up to a space, and what stands behind it
+-- the number of an object up to a space, and what stands after it
 unfoldable pub object_before : List ℕ → Option (ℕ × List ℕ)
 object_before text = do
   p ← cut 32 text
@@ -61,14 +61,14 @@ number_key_in text = do
   key ← key_in text
   without_miss (resolved meaning key)
 
--- the names up to a quote, and what stands behind it
+-- the names up to a quote, and what stands after it
 unfoldable pub names_before : List ℕ → Option (List (List ℕ) × List ℕ)
 names_before text = do
   p ← cut 34 text
   names ← names_in p.0
   Some (names, p.1)
 
--- the names between the first two quotes, and what stands behind them
+-- the names between the first two quotes, and what stands after them
 unfoldable pub quoted_in : List ℕ → Option (List (List ℕ) × List ℕ)
 quoted_in text = do
   p ← cut 34 text
@@ -184,7 +184,7 @@ emote_in text = do
   speech ← speech_in text
   Some (deed.Emote speech)
 
--- the deed that stands behind a verb
+-- the deed that stands after a verb
 unfoldable pub deed_in : Verb → List ℕ → Option Deed
 deed_in Dig text = dig_in text
 deed_in Make text = make_in text

@@ -70,7 +70,7 @@ end_apart count version e fits same =
     (ap (cut 32) same ∙ two)).0 in
     true≢false (sym (digits version fits) ∙ ap (list_all is_digit) (sym words))
 
--- ---- what stands behind the entries
+-- ---- what stands after the entries
 
 data View (format : Format) (entries : List Accepted) (rest : List ℕ) : Result (List Accepted) ChronFault → Type 0 where
   unended : cut 10 rest ≡ None → View format entries rest (Err NoEnd)
@@ -83,7 +83,7 @@ data View (format : Format) (entries : List Accepted) (rest : List ℕ) : Result
   bad : (line behind : List ℕ) (n : ℕ) → cut 10 rest ≡ Some (line, behind) → IsBad format (length entries) line
       → n ≡ length entries + 2 → View format entries rest (Err (BadLine n))
 
--- the line of one more entry stands behind 65,536 alone
+-- the line of one more entry stands after 65,536 alone
 abbrev Stops : Format → ℕ → List ℕ → Type 0
 Stops format version rest =
     (e : Accepted) (more : List ℕ) → IsEntryOf format e → rest ≡ entry_line version e ++ line_feed ++ more
@@ -165,7 +165,7 @@ one_view format entries rest a b few v w = go v w
 
 -- ---- the entries in front
 
--- two lists of entries that begin one text, with nothing more behind them, are one
+-- two lists of entries that begin one text, with nothing more after them, are one
 same_entries : (format : Format) (version u w : ℕ) (es fs : List Accepted) (r s : List ℕ)
     → AllByRecursion (IsEntryOf format) es → AllByRecursion (IsEntryOf format) fs
     → version + length es ≡ u → version + length fs ≡ w → u ≤ 65537 → w ≤ 65537 → Stops format u r → Stops format w s

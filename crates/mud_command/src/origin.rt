@@ -10,7 +10,7 @@ fn is_host(text: &str) -> bool {
     text.as_bytes().iter().all(|byte| is_of_host(*byte))
 }
 
-// Whether this is a port that a browser writes behind a host: it leaves out the scheme's own.
+// Whether this is a port that a browser writes after a host: it leaves out the scheme's own.
 fn is_port(text: &str, own: u16) -> bool {
     match text.parse::<u16>() {
         Ok(port) => 0 < port && port != own && !text.starts_with('0') && !text.starts_with('+'),
@@ -18,7 +18,7 @@ fn is_port(text: &str, own: u16) -> bool {
     }
 }
 
-// Whether a host stands here, with a port behind it or without one. The colons of an address of IPv6 are in brackets.
+// Whether a host stands here, with a port after it or without one. The colons of an address of IPv6 are in brackets.
 fn is_authority(text: &str, own: u16) -> bool {
     if text.is_empty() || !is_host(text) {
         return false;
@@ -31,7 +31,7 @@ fn is_authority(text: &str, own: u16) -> bool {
 }
 
 /// Whether a browser may send this as the origin of a page (RFC 6454, section 6.2): a scheme, `://` and a host, with a
-/// port behind `:` where it is not the scheme's own.
+/// port after `:` where it is not the scheme's own.
 pub(crate) fn is_origin(text: &str) -> bool {
     match text.split_once("://") {
         Some(("http", authority)) => is_authority(authority, 80),

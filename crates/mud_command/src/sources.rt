@@ -13,7 +13,7 @@ use std::alloc::Global;
 pub enum Sources<'a> {
     /// In two files of these names.
     Files { history: &'a str, proof: &'a str },
-    /// One behind the other in standard input.
+    /// One after the other in standard input.
     Input,
 }
 

@@ -50,7 +50,7 @@ impl<R: Read> Source<R> {
         }
     }
 
-    /// Reads a piece, like `Read::read`, up to the first read that sees the end: none comes behind it.
+    /// Reads a piece, like `Read::read`, up to the first read that sees the end: none comes after it.
     pub fn read(&mut self, buf: &mut [u8]) -> io::Result<usize>
         requires few { self.old.reads < MAX_READS }
         requires no_end { self.old.at_end ≡ false }

@@ -28,7 +28,7 @@ goes_on-end Says input rest out on empty =
     let Q : List ℕ → Type 0 = λ o. Answers Says input o in
     subst Q (append-nil out) (on [] (subst P (sym empty) at_end))
 
--- the last line has no LF behind it
+-- the last line has no LF after it
 pub goes_on-last : (Says : List ℕ → List ℕ → Type 0) (input rest old new : List ℕ)
     → GoesOn Says input rest old → 0 < length rest → IsLine rest → AnswersOne Says rest old new → Answers Says input new
 goes_on-last Says input rest old new on some whole one =

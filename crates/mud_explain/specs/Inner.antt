@@ -7,7 +7,7 @@ use Rattle.mud_nvt.specs.Units.{Given}
 use Rattle.mud_explain.specs.Units.{hex_digit, unit_text}
 use Rattle.mud_explain.specs.Line.{prep_text}
 
--- a byte as two such digits, behind a space
+-- a byte as two such digits, after a space
 abbrev pub byte_text : ℕ → List ℕ
 byte_text b = 32 ∷ hex_digit (b / 16) ∷ hex_digit (b % 16) ∷ []
 

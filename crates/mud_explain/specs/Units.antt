@@ -7,7 +7,7 @@ use Rattle.mud_nvt.specs.Units.{Given, Text, TooLong, Ayt, Answer}
 abbrev pub hex_digit : ℕ → ℕ
 hex_digit n = if nat_lt n 10 then 48 + n else 55 + n
 
--- the line of a unit; a byte is two digits of sixteen, behind a space
+-- the line of a unit; a byte is two digits of sixteen, after a space
 abbrev pub unit_text : Given → List ℕ
 unit_text (Text text) = codes "text " ++ text
 unit_text TooLong = codes "too long"

@@ -21,7 +21,7 @@ front-member xs ys m x is =
     slice_get-get_or (xs ++ ys) m x fits
     ∙ ap Some (get_or_append_left xs ys x m h ∙ get_or_from_slice_get xs m x x is)
 
--- another stands behind them
+-- another stands after them
 back-member : {X : Type 0} → (xs ys : List X) (m : ℕ) (x : X) → slice_get ys m ≡ Some x
     → slice_get (xs ++ ys) (length xs + m) ≡ Some x
 back-member xs ys m x is =
@@ -73,7 +73,7 @@ members_back w labels first behind ts xs ys these parted at =
       few = omega (arith, are.few, at, length-append xs ys);
     }
 
--- two lists that agree place by place, and two more behind them
+-- two lists that agree place by place, and two more after them
 pub allzip-beside : {A B : Type 0} (R : A → B → Type 0) (us xs : List A) (vs ys : List B) → AllZip R us vs
     → AllZip R xs ys → AllZip R (us ++ xs) (vs ++ ys)
 allzip-beside R [] xs [] ys h k = k

@@ -44,7 +44,7 @@ abbrev pub nots_before : machine.Mode → ℕ
 nots_before (machine.Operand f) = f.nots
 nots_before _ = 0
 
--- how many spaces stand behind the name that is read
+-- how many spaces stand after the name that is read
 abbrev pub spaces_behind : machine.Mode → ℕ
 spaces_behind (machine.Named f a text n) = n
 spaces_behind _ = 0

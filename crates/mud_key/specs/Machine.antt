@@ -24,7 +24,7 @@ pub record Front : Type 0 where
 abbrev pub bare : Front
 bare = record { chain = None; nots = 0 }
 
--- the unary behind so many `!`
+-- the unary after so many `!`
 abbrev pub negated : ℕ → Reading → Reading
 negated zero k = k
 negated (suc n) k = negated n (Not k)
@@ -38,13 +38,13 @@ joined (Some c) k = Join c.1 c.0 k
 abbrev pub combined : Front → Reading → Reading
 combined f k = joined f.chain (negated f.nots k)
 
--- an object, or one behind `?`
+-- an object, or one after `?`
 abbrev pub atom : Bool → List ℕ → Reading
 atom true o = Asks o
 atom false o = Has o
 
--- where the machine stands: where a unary comes; where an object comes, behind `?`; behind a sharp and
--- digits; behind a name and so many spaces; behind a chain; behind a chain and half an operator
+-- where the machine stands: where a unary comes; where an object comes, after `?`; after a sharp and
+-- digits; after a name and so many spaces; after a chain; after a chain and half an operator
 pub data Mode : Type 0 where
   Operand : Front → Mode
   Asked : Front → Mode
@@ -57,7 +57,7 @@ pub data Mode : Type 0 where
 abbrev pub State : Type 0
 State = List Front × Mode
 
--- one byte further, from behind a chain
+-- one byte further, after a chain
 abbrev pub after_step : List Front → Reading → Class → Option State
 after_step outer k Space = Some (outer, After k)
 after_step outer k Ampersand = Some (outer, Half k And)
@@ -65,7 +65,7 @@ after_step outer k Bar = Some (outer, Half k Or)
 after_step (f ∷ outer) k Close = Some (outer, After (combined f k))
 after_step outer k _ = None
 
--- one byte further, from behind a chain and half an operator
+-- one byte further, after a chain and half an operator
 abbrev pub half_step : List Front → Reading → Operator → Class → Option State
 half_step outer k And Ampersand = Some (outer, Operand (record { chain = Some (k, And); nots = 0 }))
 half_step outer k Or Bar = Some (outer, Operand (record { chain = Some (k, Or); nots = 0 }))
@@ -90,13 +90,13 @@ asked_step outer f Digit b = Some (outer, Named f true (b ∷ []) 0)
 asked_step outer f Letter b = Some (outer, Named f true (b ∷ []) 0)
 asked_step outer f _ b = None
 
--- one byte further, from behind a sharp and digits
+-- one byte further, after a sharp and digits
 abbrev pub number_step : List Front → Front → Bool → List ℕ → Class → ℕ → Option State
 number_step outer f a ds Digit b = if nat_lt (length ds) 9 then Some (outer, Number f a (ds ++ b ∷ [])) else None
 number_step outer f a [] k b = None
 number_step outer f a (d ∷ ds) k b = after_step outer (combined f (atom a (35 ∷ d ∷ ds))) k
 
--- one byte further, from behind a name
+-- one byte further, after a name
 abbrev pub named_step : List Front → Front → Bool → List ℕ → ℕ → Class → ℕ → Option State
 named_step outer f a text n Space b = Some (outer, Named f a text (suc n))
 named_step outer f a text n Digit b = Some (outer, Named f a (text ++ replicate n 32 ++ b ∷ []) 0)

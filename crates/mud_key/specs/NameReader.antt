@@ -8,7 +8,7 @@ use Rattle.mud_key.specs.declared.class.Class.TheVariants.{Space, Digit, Letter,
 use Rattle.mud_key.specs.declared.name_reader.NameReader.{NameReader}
 use Rattle.mud_key.specs.Class.{class_of}
 
--- the names that are whole, the one that is read, and the spaces behind it
+-- the names that are whole, the one that is read, and the spaces after it
 pub record Stand : Type 0 where
   pub list : List (List ℕ)
   pub text : List ℕ
@@ -35,7 +35,7 @@ space_step s =
     else if nat_lt s.spaces 2 then record s { spaces = s.spaces + 1 }
     else s
 
--- behind a byte that a name may have
+-- after a byte that a name may have
 abbrev pub letter_step : Stand → ℕ → Option Stand
 letter_step s b =
     if nat_eq (length s.text) 0 then
@@ -46,14 +46,14 @@ letter_step s b =
     else None)
     else None
 
--- behind a comma, which ends a name
+-- after a comma, which ends a name
 abbrev pub comma_step : Stand → Option Stand
 comma_step s =
     if nat_eq (length s.text) 0 then None
     else if nat_lt (length s.list) 3 then Some (record { list = s.list ++ s.text ∷ []; text = []; spaces = 0 })
     else None
 
--- behind a byte of this class
+-- after a byte of this class
 abbrev pub name_step : Stand → Class → ℕ → Option Stand
 name_step s Space b = Some (space_step s)
 name_step s Sharp b = letter_step s b
@@ -62,7 +62,7 @@ name_step s Letter b = letter_step s b
 name_step s Foreign b = if nat_eq b 44 then comma_step s else None
 name_step s _ b = None
 
--- behind one more byte, unless no names text went on so
+-- after one more byte, unless no names text went on so
 abbrev pub name_next : Option Stand → ℕ → Option Stand
 name_next None b = None
 name_next (Some s) b = name_step s (class_of b) b

@@ -73,7 +73,7 @@ scan_of outer m = record {
   nots = outer_nots outer + mode_nots m;
 }
 
--- one byte further, from behind a chain
+-- one byte further, after a chain
 abbrev pub after_next : Scan → Class → Option Scan
 after_next s Space = Some (record s { place = place.After })
 after_next s Ampersand = Some (record s { place = place.Half And })
@@ -100,12 +100,12 @@ asked_next s Digit = Some (record s { place = place.Named; objects = s.objects +
 asked_next s Letter = Some (record s { place = place.Named; objects = s.objects + 1 })
 asked_next s _ = None
 
--- one byte further, from behind a sharp and n digits
+-- one byte further, after a sharp and n digits
 abbrev pub number_next : Scan → ℕ → Class → Option Scan
 number_next s n Digit = if nat_lt n 9 then Some (record s { place = place.Number (n + 1) }) else None
 number_next s n k = if nat_lt 0 n then after_next s k else None
 
--- one byte further, from behind a name
+-- one byte further, after a name
 abbrev pub named_next : Scan → Class → Option Scan
 named_next s Space = Some (record s { place = place.Named })
 named_next s Digit = Some (record s { place = place.Named })
@@ -113,7 +113,7 @@ named_next s Letter = Some (record s { place = place.Named })
 named_next s Sharp = Some (record s { place = place.Named })
 named_next s k = after_next s k
 
--- one byte further, from behind a chain and half an operator
+-- one byte further, after a chain and half an operator
 abbrev pub half_next : Scan → Operator → Class → Option Scan
 half_next s And Ampersand = Some (record s { place = place.Operand })
 half_next s Or Bar = Some (record s { place = place.Operand })

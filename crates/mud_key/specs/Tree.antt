@@ -2,7 +2,7 @@
 use Rattle.std.specs.Prelude.{ℕ, ◌+◌, ◌≤◌, List, [], ◌∷◌, ◌++◌}
 use Rattle.mud_key.specs.declared.operator.Operator.{Operator}
 
--- a key over texts, as it is written, or over numbers: an object, one behind `?`, `!` and a key, or two keys joined
+-- a key over texts, as it is written, or over numbers: an object, one after `?`, `!` and a key, or two keys joined
 pub data Tree (O : Type 0) : Type 0 where
   Has : O → Tree O
   Asks : O → Tree O
@@ -54,7 +54,7 @@ atoms_of (Asks n) = n ∷ []
 atoms_of (Not k) = atoms_of k
 atoms_of (Join op a b) = atoms_of a ++ atoms_of b
 
--- the objects of the key that stand behind `?`, in the order of the text
+-- the objects of the key that stand after `?`, in the order of the text
 abbrev pub asks_of : Tree ℕ → List ℕ
 asks_of (Has n) = []
 asks_of (Asks n) = n ∷ []

@@ -118,7 +118,7 @@ fn push_atoms(out: &mut Vec<u32>, node: &Node<u32>) -> Result<(), AllocError>
     }
 }
 
-/// The objects behind `?`, each as often as it stands there, in the order of the text.
+/// The objects after `?`, each as often as it stands there, in the order of the text.
 pub fn asks(alloc: Global, key: &Key) -> Result<Vec<u32>, AllocError>
     ensures { IfOk result (λ v. v.items ≡ asks_of key.now) }
 {

@@ -14,7 +14,7 @@
 //! | [`read`] | reads a key text: its objects stay texts |
 //! | [`resolve`] | replaces each text by the number of the object that a [`Namer`] gives |
 //! | [`print()`] | prints a key with the least parentheses |
-//! | [`atoms`], [`asks`] | lists the objects of a key, and those behind `?` |
+//! | [`atoms`], [`asks`] | lists the objects of a key, and those after `?` |
 //! | [`Key::node`], [`KeyText::node`] | the tree, to go down in |
 //! | [`Key::copy`] | an equal key |
 //!

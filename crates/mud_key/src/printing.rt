@@ -57,7 +57,7 @@ fn opening(node: &Node<u32>) -> &'static str
     }
 }
 
-/// The parenthesis behind a key where a unary is wanted, if it needs one.
+/// The parenthesis after a key where a unary is wanted, if it needs one.
 fn closing(node: &Node<u32>) -> &'static str
     ensures { result.now ≡ closing_of (by_text (key_of node.now)) }
 {

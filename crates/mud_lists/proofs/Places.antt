@@ -10,7 +10,7 @@ use Rattle.std.proofs.lemmas.List.Edits.{length-remove, get_or-remove_below, get
 use Rattle.std.proofs.lemmas.List.Sorted.{searched}
 use Rattle.mud_lists.specs.Rising.{inserted, without}
 
--- behind all that aren't above it, and before all that are
+-- after all that aren't above it, and before all that are
 pub placed : (n : ℕ) (xs : List ℕ) (i : ℕ) → i ≤ length xs → ((k : ℕ) → k < i → get_or xs k 0 ≤ n) → ((k : ℕ) → i ≤ k → k < length xs → n < get_or xs k 0)
     → insert xs i n ≡ inserted n xs
 placed n [] zero at low high = refl

@@ -25,7 +25,7 @@ impl Model for Rising {
     ghost invariant = { λ a. IsNonDecreasing a.numbers.items };
 }
 
-// Where the number goes in a rising list: behind all that aren't above it.
+// Where the number goes in a rising list: after all that aren't above it.
 fn place_for(numbers: &[u32], number: u32) -> usize
     requires { IsNonDecreasing numbers.now }
     ensures within { result ≤ length numbers.now }

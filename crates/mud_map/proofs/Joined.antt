@@ -1,4 +1,4 @@
--- The five parts of a node and of an edge, one behind the other.
+-- The five parts of a node and of an edge, one after the other.
 use Rattle.std.proofs.Common.{◌≡◌, ℕ, List, ◌++◌, ◌∙◌, refl, ap, append_assoc, codes}
 use Rattle.std.specs.Fmt.{decimal}
 use Rattle.mud_world.specs.declared.record.Passage.{Passage}

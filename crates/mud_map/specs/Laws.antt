@@ -2,6 +2,6 @@
 use Rattle.std.specs.Prelude.{◌≡◌, ℕ, List, ◌∷◌, ◌++◌, Some}
 use Rattle.mud_map.specs.Quoted.{escaped, read_quoted}
 
--- whatever stands behind the quote that ends it, an escaped text is read as it was meant
+-- whatever stands after the quote that ends it, an escaped text is read as it was meant
 abbrev pub IsReadAsMeant : Type 0
 IsReadAsMeant = (text rest : List ℕ) → read_quoted (escaped text ++ 34 ∷ rest) ≡ Some (text, rest)

@@ -3,7 +3,7 @@ use Rattle.std.specs.Prelude.{ℕ, nat_eq, ◌||◌, List, [], ◌∷◌, ◌++�
 use Rattle.std.specs.List.{flat_map}
 use Rattle.std.specs.Option.{option_map, option_and_then}
 
--- a byte as it is written between quotes: a quote and a backslash behind a backslash, and a line feed as `\n`
+-- a byte as it is written between quotes: a quote and a backslash after a backslash, and a line feed as `\n`
 abbrev pub escaped_byte : ℕ → List ℕ
 escaped_byte byte =
     if nat_eq byte 10 then codes "\\n" else if nat_eq byte 34 || nat_eq byte 92 then 92 ∷ byte ∷ [] else byte ∷ []
@@ -16,7 +16,7 @@ escaped text = flat_map escaped_byte text
 abbrev pub quoted : List ℕ → List ℕ
 quoted text = codes "\"" ++ escaped text ++ codes "\""
 
--- what a byte behind a backslash means; others than these DOT gives meanings that are no byte
+-- what a byte after a backslash means; others than these DOT gives meanings that are no byte
 abbrev pub meant : ℕ → Option ℕ
 meant byte =
     if nat_eq byte 110 then Some 10 else if nat_eq byte 34 || nat_eq byte 92 then Some byte else None
@@ -25,7 +25,7 @@ meant byte =
 abbrev pub before : ℕ → Option (List ℕ × List ℕ) → Option (List ℕ × List ℕ)
 before byte read = option_map (λ p. (byte ∷ p.0, p.1)) read
 
--- what is read behind a quote: the text up to the next quote, and what stands behind that
+-- what is read after a quote: the text up to the next quote, and what stands after that
 abbrev pub read_quoted : List ℕ → Option (List ℕ × List ℕ)
 read_quoted [] = None
 read_quoted (b ∷ []) = if nat_eq b 34 then Some ([], []) else None

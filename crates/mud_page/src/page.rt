@@ -1,6 +1,6 @@
 //! The page, as page/make_page.py writes it.
 
-/// The whole answer to a browser that asks for the page: its head, and the page behind it.
+/// The whole answer to a browser that asks for the page: its head, and the page after it.
 pub const PAGE: &[u8] = b"\
 HTTP/1.1 200 OK\r\nConnection: close\r\nContent-Type: text/html; charset=utf-8\r\nContent-Length: 26039\r\nCon\
 tent-Security-Policy: default-src 'none'; connect-src 'self'; style-src 'sha256-hgtxpVvdHLnGF86mULH4ChLjFAbDs1\

@@ -131,7 +131,7 @@ impl Row {
     }
 
     /// Sets the first cells that the pass does not know to these entries, in order. After a fault the
-    /// pass knows some first ones of them. It is `HistoryFull` only where they do not fit behind what
+    /// pass knows some first ones of them. It is `HistoryFull` only where they do not fit after what
     /// the pass knows, and `Unpublished` where a cell did not take its entry.
     pub fn fill(&self, alloc: Global, pass: &mut Pass, entries: Vec<Entry>) -> Result<(), FillFault>
         requires { pass.old.row ≡ self.now }

@@ -306,7 +306,7 @@ none_wait es ps n whole =
     let out : label_there es 0 (place_at ps r) ≡ None = grind (arith, nat_tests) in
     get_or-map (λ p. label_there es 0 p) ps r 0 None (omega arith) ∙ out ∙ sym (get_or-replicate n r None None within))
 
--- a room whose place is behind the front doesn't wait, and stays so
+-- a room whose place is after the front doesn't wait, and stays so
 pub absent_stays : (es : List Entry) (ps : List ℕ) (w r p : ℕ) → IsMatched es ps
     → r < length es → p ≡ get_or ps r p → w ≤ p
     → waiting_labels es ps w ≡ set (waiting_labels es ps w) r None

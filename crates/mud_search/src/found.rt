@@ -40,8 +40,7 @@ impl Labels {
         Labels { boards }
     }
 
-    // Puts the labels of further members behind these, which stay as they are where memory is
-    // wanting.
+    // Puts the labels of further members after these, which stay as they are where memory runs out.
     pub(crate) fn append(&mut self, other: Labels) -> Result<(), AllocError>
         ensures ok { OnOk result (lists_in self.new ≡ lists_in self.old ++ lists_in other) }
         ensures err { OnErr result (self.new ≡ self.old) }

@@ -30,7 +30,7 @@ impl Part {
         }
     }
 
-    /// The members behind so many, and the last workers: so many.
+    /// The members after so many, and the last workers: so many.
     pub(crate) fn back(self, members: usize, workers_behind: usize) -> Part {
         let before = self.workers.saturating_sub(workers_behind);
         Part {

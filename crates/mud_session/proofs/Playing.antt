@@ -1,4 +1,4 @@
--- Turns one behind the other.
+-- Turns one after the other.
 use Rattle.std.proofs.Common.{◌≡◌, List, [], ◌∷◌, ◌++◌, Option, Some, map, sym, ap, subst, ◌∙◌, append_assoc}
 use Rattle.std.proofs.lemmas.List.{map-append}
 use Rattle.std.proofs.lemmas.Grind.{flat_map-append}
@@ -20,7 +20,7 @@ text_of-append xs ys = flat_map-append text_of_turn xs ys
 abbrev pub retold : {T : TakingIn} {a b : Talk} {us vs : List Given} → vs ≡ us → Play T a us b → Play T a vs b
 retold e p = record { turns = p.turns; left = p.left; units_are = ap (map Some) e ∙ p.units_are; plays = p.plays }
 
--- turns, and behind them a play
+-- turns, and after them a play
 pub joined-units : (xs ys : List Turn) (us vs left : List Given) → map Some us ≡ map unit_of xs
     → map Some vs ≡ map unit_of ys ++ map Some left
     → map Some (us ++ vs) ≡ map unit_of (xs ++ ys) ++ map Some left

@@ -41,12 +41,12 @@ line-wide (b ∷ line) all =
     ap (λ (x : List ℕ). x ++ wide line) (other-wide b (All-head (λ b. b ≢ 10) b line all))
     ∙ ap (λ (x : List ℕ). b ∷ x) (line-wide line (All-tail (λ b. b ≢ 10) b line all))
 
--- a line that is ended, and what stands behind it
+-- a line that is ended, and what stands after it
 pub cut-wide : (line rest : List ℕ) → HasNoLineFeed line → wide (line ++ 10 ∷ rest) ≡ line ++ (13 ∷ 10 ∷ wide rest)
 cut-wide line rest all =
     flat_map-append on_wire line (10 ∷ rest) ∙ ap (λ (x : List ℕ). x ++ (13 ∷ 10 ∷ wide rest)) (line-wide line all)
 
--- a line more was sent, with its end, and what stood behind it is left
+-- a line more was sent, with its end, and what stood after it is left
 pub line-more : (bytes line ended out : List ℕ) → HasNoLineFeed line → bytes ≡ line ++ 10 ∷ drop 1 ended
     → ((out ++ line) ++ 13 ∷ 10 ∷ []) ++ wide (take (length ended - 1) (drop 1 ended)) ≡ out ++ wide bytes
 line-more bytes line ended out all is =

@@ -34,7 +34,7 @@ pub(crate) fn answer_on_wire(
     put_on_wire(&front, text.into_bytes())
 }
 
-// What stands in front, and behind it the text, which is widened where it stands.
+// What stands in front, and after it the text, which is widened where it stands.
 fn put_on_wire(front: &[u8], text: Vec<u8>) -> Result<Vec<u8>, AllocError>
     ensures { IfOk result (λ out. out.items ≡ front.now ++ flat_map on_wire text.items) }
 {

@@ -6,7 +6,7 @@ use Rattle.mud_web.specs.Asking.{LetsIn}
 use Rattle.mud_talk.specs.declared.head.Heard.{Heard}
 use Rattle.mud_talk.specs.declared.head.Heard.TheVariants.{Page, Play, Refused, Gone}
 
--- who plays sent a head that is let in; what is answered is the key's answer, and the rest is what came behind it
+-- who plays sent a head that is let in; what is answered is the key's answer, and the rest is what came after it
 abbrev pub WasLetIn : Heard → (origin : List ℕ) → Type 0
 WasLetIn (Play answer rest) origin =
     (bytes : List ℕ) × (accept : List ℕ) × (len : ℕ) × LetsIn bytes origin (Asked.Play accept len)
@@ -15,7 +15,7 @@ WasLetIn Page origin = Unit {0}
 WasLetIn (Refused refusal) origin = Unit {0}
 WasLetIn Gone origin = Unit {0}
 
--- somebody plays who is answered by this key, and this came behind his head. Only a private clause cites it
+-- somebody plays who is answered by this key, and this came after his head. Only a private clause cites it
 abbrev pub IsPlaying : Heard → (accept rest : List ℕ) → Type 0
 IsPlaying (Play answer behind) accept rest = (answer.items ≡ response_bytes accept []) × (behind.items ≡ rest)
 IsPlaying Page accept rest = ⊥

@@ -28,7 +28,7 @@ pub enum Heard {
     Play {
         /// What that is answered, which goes before the first frame (RFC 6455, section 4.2.2).
         answer: Vec<u8>,
-        /// What came behind the head: frames.
+        /// What came after the head: frames.
         rest: Vec<u8>,
     },
     /// Nothing that there is, or not in time.
@@ -86,7 +86,7 @@ fn asked_for(alloc: Global, head: &[u8], origin: &[u8], asked: Asked) -> Heard
     }
 }
 
-// That somebody plays who is answered by this key, and what came behind his head.
+// That somebody plays who is answered by this key, and what came after his head.
 fn let_in(alloc: Global, accept: &[u8; 28], rest: &[u8]) -> Result<Heard, AllocError>
     requires { is_graphic_text accept.now ≡ true }
     ensures { IfOk result (λ heard. IsPlaying heard accept.now rest.now) }

@@ -100,7 +100,7 @@ impl Parting {
         }
     }
 
-    /// How a web socket is closed at the end. Behind a text that was not taken whole no frame can follow, and a broken
+    /// How a web socket is closed at the end. After a text that was not taken whole no frame can follow, and a broken
     /// frame was answered by a close already.
     pub fn close(self) -> Option<Close> {
         match self {

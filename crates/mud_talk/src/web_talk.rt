@@ -83,7 +83,7 @@ impl<J: HallName> WebTalk<J> {
 
     /// Takes the next bytes of the socket in: what they type is added to `typed`, and is to be fed line by line. The
     /// replies of the protocol are to be sent before that. Where the frames end the session, what was typed before is
-    /// still to be fed, though it gets no answer, and the replies, with a close behind them, are the last to be sent.
+    /// still to be fed, though it gets no answer, and the replies, with a close after them, are the last to be sent.
     pub fn take_in(self, bytes: &[u8], typed: &mut Vec<u8>) -> Step<WebTalk<J>> {
         let WebTalk {
             alloc,
@@ -233,7 +233,7 @@ impl<J: HallName> WebTalk<J> {
     }
 
     /// What is said at the end, and the talk, which takes nothing more: why all sessions end, if that is why, and the
-    /// close. Nothing is said behind an earlier close; where memory runs out, less is said.
+    /// close. Nothing is said after an earlier close; where memory runs out, less is said.
     pub fn part(self, parting: Parting) -> (WebTalk<J>, Vec<u8>) {
         let WebTalk {
             alloc,

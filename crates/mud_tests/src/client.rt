@@ -29,7 +29,7 @@ fn send_line(mut stream: &TcpStream, line: &str) -> io::Result<()> {
     Ok(())
 }
 
-// Types lines, with a `;` between them, and reads a line behind each.
+// Types lines, with a `;` between them, and reads a line after each.
 fn talk(stream: &TcpStream, lines: &str, heard: &mut String) -> io::Result<()> {
     for line in lines.split(';') {
         send_line(stream, line)?;
@@ -48,7 +48,7 @@ fn connected<R: Net<Listener = TcpListener, Stream = TcpStream>>(
     Ok(stream)
 }
 
-/// What a client is sent who types these lines, with a `;` between them, and reads a line behind each: all of it, with
+/// What a client is sent who types these lines, with a `;` between them, and reads a line after each: all of it, with
 /// a `;` in place of each line's end. For an empty line he only reads; where there are none nobody comes.
 pub(crate) fn play<R: Net<Listener = TcpListener, Stream = TcpStream>>(
     rt: &R,

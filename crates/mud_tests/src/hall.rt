@@ -154,7 +154,7 @@ fn seen_at_last<J: HallName, R: Wait + Abort>(rt: &R, hall: &Hall<J>) -> Result<
     Ok(hall.desk(rt)?.seen())
 }
 
-// Sees how many lines of a crowd at a hall are accepted, and whether the history is full behind them; how many entries
+// Sees how many lines of a crowd at a hall are accepted, and whether the history is full after them; how many entries
 // there are. Where there is no crowd, one desk sees another.
 fn check_crowd_in<J: HallName + Send + Sync, R: Threads + Wait + Sync + Abort>(
     rt: &R,

@@ -300,14 +300,14 @@ fn served<
     Ok(heard)
 }
 
-// What is written behind the line of the port.
+// What is written after the line of the port.
 fn history_of(written: &[u8]) -> &str {
     let text = str::from_utf8(written).unwrap_or("");
     text.split_once('\n').unwrap_or(("", "")).1
 }
 
 // Sees what a client of a server over a disk is sent for the lines that he types, with how the server ends, and what it
-// writes behind the line of its port.
+// writes after the line of its port.
 fn check_served<
     R: Net<Listener = TcpListener, Stream = TcpStream>
         + AllocGlobal
@@ -389,7 +389,7 @@ const OF_HEARD: &str =
     "Welcome. Type: connect NAME;[1] welcome #2;[2] said;[2] bye;journal fault: disk";
 
 // Refused are a server that tells of a change before it is synced, or that the disk failed and goes on all the same.
-// Behind the two calls for each change are two of the server's end.
+// After the two calls for each change are two of the server's end.
 #[test]
 fn each_call_of_a_disk_fails_under_a_server(rt: HostRuntime) -> Result<(), Fail> {
     check_faults(&rt, 1, 3, "", "journal fault: disk", 0)?;

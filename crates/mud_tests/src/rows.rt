@@ -44,7 +44,7 @@ pub(crate) fn push_sent(alloc: Global, bytes: &[u8], out: &mut String) -> Result
     out.push_str(text.replace(alloc, "\r\n", ";")?.as_str())
 }
 
-/// The first word of a text, and what is behind it.
+/// The first word of a text, and what comes after it.
 pub(crate) fn parted(text: &str) -> (&str, &str) {
     match text.split_once(' ') {
         Some(parts) => parts,

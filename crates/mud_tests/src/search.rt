@@ -77,7 +77,7 @@ fn moves<J: Job>(
 }
 
 // The moves of the wizard alone, who begins at #0: each `MOVE ROOM COST EXITS`, with a task of his, and how many rooms
-// are open and held behind it.
+// are open and held after it.
 const MOVES: &str = "
 take 0 0 0 => 0 1
 back 0 0 1 => 0 1

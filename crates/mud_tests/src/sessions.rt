@@ -63,8 +63,8 @@ fn push_typed<J: HallName, R: Threads + Wait + Sync>(
     }
 }
 
-// Refused are a session that tells its guest nothing of what others did, late, twice, or behind its
-// reply; one that greets twice or not at all; and one that goes on behind `quit`.
+// Refused are a session that tells its guest nothing of what others did, late, twice, or after its
+// reply; one that greets twice or not at all; and one that goes on after `quit`.
 const GUESTS: &str = "
 1 => Welcome. Type: connect NAME;
 2 => Welcome. Type: connect NAME;

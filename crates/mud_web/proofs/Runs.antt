@@ -1,4 +1,4 @@
--- Steps, one behind the other, are a run over all that came.
+-- Steps, one after the other, are a run over all that came.
 use Rattle.std.proofs.Common.{◌≡◌, ℕ, zero, suc, ◌<◌, List, [], ◌∷◌, ◌++◌, length, drop, Result, Ok, Err, refl, sym, ◌∙◌, ap, arith, append-nil, append_assoc, length-drop}
 use Rattle.std.specs.Prelude.{option_map}
 use Rattle.websocket.specs.declared.error.Error.{Error}
@@ -94,7 +94,7 @@ pub goes_on : (line : Standing) (earlier bytes : List ℕ) → StandsAfter line 
     → read_all opened (earlier ++ bytes) ≡ prepend (read_all opened earlier).effects (read_all line.conn (line.unread ++ bytes))
 goes_on line earlier bytes stands = rw (sym (receive-read_all opened earlier bytes), stands.is) refl
 
--- ---- grows, one step behind the other
+-- ---- grows, one step after the other
 
 typed_more : (done : List Effect) (e : Effect) → typed (done ++ e ∷ []) ≡ typed done ++ typed_by e.message
 typed_more [] e = rw append-nil refl

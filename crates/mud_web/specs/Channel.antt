@@ -1,4 +1,4 @@
--- The server's side of a web socket behind its handshake (RFC 6455, sections 5 and 7): what the messages of the client
+-- The server's side of a web socket after its handshake (RFC 6455, sections 5 and 7): what the messages of the client
 -- type, what is replied by itself, and how a text leaves.
 use Rattle.std.specs.Prelude.{◌≡◌, ℕ, Bool, false, List, [], ◌∷◌, ◌++◌, Option, None, Some, Ok, Err}
 use Rattle.std.specs.List.{flat_map}
@@ -28,7 +28,7 @@ opened = record {
   };
 }
 
--- what a channel is: the state of the protocol, the bytes behind the last whole frame, and whether it has ended
+-- what a channel is: the state of the protocol, the bytes after the last whole frame, and whether it has ended
 pub record Standing : Type 0 where
   pub conn : Connection
   pub unread : List ℕ
@@ -67,7 +67,7 @@ pub record StandsAfter (channel : Standing) (bytes : List ℕ) : Type 0 where
   pub is : (read_all opened bytes).end ≡ Ok (channel.conn, channel.unread)
   pub goes_on : channel.has_ended ≡ false
 
--- these are the frames that the bytes finish, behind the earlier ones
+-- these are the frames that the bytes finish, after the earlier ones
 abbrev pub Finishes : (earlier bytes : List ℕ) → List Effect → Type 0
 Finishes earlier bytes fresh =
     (read_all opened (earlier ++ bytes)).effects ≡ (read_all opened earlier).effects ++ fresh

@@ -28,7 +28,7 @@ abbrev pub close_frame : CloseCode → List ℕ
 close_frame code = encode_frame (whole_header (Op.Control Close) None) (close_payload (Some (code, [])))
 
 -- the ending that an error of the protocol asks for: a broken rule 1002, a text that is not UTF-8 1007, a message or a
--- frame over the limit 1009; behind the close of the other side none is due
+-- frame over the limit 1009; after the close of the other side none is due
 abbrev pub ending_of : Error → Option Ending
 ending_of (Cause.Protocol e) = Some ProtocolError
 ending_of Cause.Utf8 = Some InvalidData
@@ -46,6 +46,6 @@ closes (Some ending) = close_frame (code_of ending)
 abbrev pub closes_for : Error → List ℕ
 closes_for e = closes (ending_of e)
 
--- a close is sent once: where one was sent already, or the connection has failed behind one, nothing is
+-- a close is sent once: where one was sent already, or the connection has failed after one, nothing is
 abbrev pub closes_once : WebSocketState → Ending → List ℕ
 closes_once state ending = if is_some (closing_state state) then close_frame (code_of ending) else []

@@ -31,7 +31,7 @@ pub enum Asked {
     Play {
         /// What is answered as `Sec-WebSocket-Accept` (RFC 6455, section 4.2.2).
         accept: [u8; 28],
-        /// The length of the head: what comes behind it are frames.
+        /// The length of the head: what comes after it are frames.
         len: usize,
     },
     /// Nothing that there is.

@@ -1,4 +1,4 @@
-//! A channel: the server's side of a web socket behind its handshake.
+//! A channel: the server's side of a web socket after its handshake.
 
 ghost use Rattle.std.specs.Prelude.{◌≡◌, ◌↔◌, ◌≤◌, ℕ, List, ◌++◌, ◌∷◌, [], length, drop, true, false, Err};
 ghost use Rattle.std.specs.Prelude.{IsUtf8, IfOk, IfErr, OnOk, OnErr, IfSome, option_map};
@@ -23,7 +23,7 @@ use websocket::protocol::{
 /// The most bytes that a message of the client may have, and each of its frames.
 pub const MOST_MESSAGE: usize = 4096;
 
-/// The server's side of a web socket behind its handshake: it does no input or output itself. It keeps at most what
+/// The server's side of a web socket after its handshake: it does no input or output itself. It keeps at most what
 /// came of one frame and of one message, besides the bytes that it is fed.
 #[derive(Drop)]
 pub struct Channel {
@@ -69,7 +69,7 @@ impl Channel {
     }
 
     /// Takes in the next bytes of the connection. The text messages that are whole now are added to `typed`, each with
-    /// LF behind it, and the frames that are due as replies to `replies`: pongs, the close that answers a close, and
+    /// LF after it, and the frames that are due as replies to `replies`: pongs, the close that answers a close, and
     /// the close that an error asks for (RFC 6455, sections 5.5 and 7.1.7). After an error the channel takes nothing
     /// more. Where the error is out of memory, `typed` and `replies` are of no use.
     pub fn feed(

@@ -38,7 +38,7 @@ impl Ending {
         }
     }
 
-    /// The ending that an error of the protocol asks for: none behind the close of the other side.
+    /// The ending that an error of the protocol asks for: none after the close of the other side.
     pub fn of(error: Error) -> Option<Ending>
         ensures { result ≡ ending_of error }
     {

@@ -63,7 +63,7 @@ pub record FeedsWeb (takes_in : TakingIn) (earlier bytes : List ℕ) (old new : 
   pub out : out_new ≡ out_old ++ replies fresh ++ framed said
 
 -- the same up to the frame that ends the connection with this error: the session takes what came before it. The replies
--- and the close that the error asks for are sent, and no message behind them
+-- and the close that the error asks for are sent, and no message after them
 pub record EndsWeb (takes_in : TakingIn) (earlier bytes : List ℕ) (old new : WebState) (old_door new_door : DoorState)
     (out_old out_new : List ℕ) (e : Error) : Type 0 where
   pub ends : (read_all opened (earlier ++ bytes)).end ≡ Err e

@@ -114,7 +114,7 @@ list_all-set_value p n r old (e ∷ es) at same =
     ap (λ b. list_all (λ e. p e.1) (cond b ((e.0, r) ∷ es) (e ∷ set_value (nat_eq n) es r))) past
     ∙ ap (λ b. p e.1 && b) (list_all-set_value p n r old es (sym (ap (λ b. cond b (Some e.1) (lookup (nat_eq n) es)) past) ∙ at) same))
 
--- ---- a record that stands behind others that rise
+-- ---- a record that stands after others that rise
 behind-low : (low high k : ℕ) (v : Record) (es fs : List (ℕ × Record)) → IsRising low (es ++ (k, v) ∷ fs) high → low ≤ k
 behind-low low high k v [] fs rises = rises.0
 behind-low low high k v (e ∷ es) fs rises = let rest = behind-low (e.0 + 1) high k v es fs rises.1 in omega (arith, rest, rises.0)
@@ -126,7 +126,7 @@ behind-missing low high k v (e ∷ es) fs rises =
     ap (λ b. cond b (Some e.1) (lookup (nat_eq k) es)) (ne_eqb k e.0 (λ same. omega (arith, above, same)))
     ∙ behind-missing (e.0 + 1) high k v es fs rises.1
 
--- what was put behind the others goes again
+-- what was put after the others goes again
 pub remove-last : (n : ℕ) (r : Record) (es : List (ℕ × Record)) → lookup (nat_eq n) es ≡ None → remove_entry (nat_eq n) (es ++ (n, r) ∷ []) ≡ es
 remove-last n r [] gone = ap (λ b. cond b [] ((n, r) ∷ [])) (eq-eqb n n refl)
 remove-last n r (e ∷ es) gone =

@@ -1,4 +1,4 @@
--- The reader stands behind the bytes gone over.
+-- The reader stands after the bytes gone over.
 use Rattle.std.proofs.Common.{◌≡◌, Some, take}
 use Rattle.mud_key.specs.NameReader.{name_run, name_start, stand_of}
 use Rattle.mud_key.proofs.names.Names.read_text.Given as goal

@@ -33,9 +33,9 @@ pub enum Conclusion {
     Meet(Option<Meeting>),
 }
 
-/// What a certificate claims of one member of the party: where he stands, a label for each room
-/// that he reaches, and his walk, if one is given (this project's profile). Numbers of objects are
-/// 0 to 8,191, costs and counts of exits at most 999,999,999, and the labels rise by room.
+/// What a certificate claims of one member of the party: where he stands, a label for each room that he reaches, and
+/// his walk, if one is given. Numbers of objects are 0 to 8,191, costs and counts of exits at most 999,999,999, and the
+/// labels rise by room.
 #[derive(Drop)]
 pub struct Member {
     pub(crate) player: u32,

@@ -3,9 +3,8 @@
 use std::alloc::AllocError;
 use thiserror::Error;
 
-/// Why a certificate is not accepted (this project's profile). The doubts of a member are tried in
-/// this order, member after member, and `Conclusion` last; the first that holds is given. Numbers
-/// of players and exits are those of the objects.
+/// Why a certificate is not accepted. The doubts of a member are tried in this order, member after member, and
+/// `Conclusion` last; the first that holds is given. Numbers of players and exits are those of the objects.
 #[derive(Clone, Copy, Debug, Error)]
 pub enum Doubt {
     /// Memory ran out; nothing is said of the certificate.

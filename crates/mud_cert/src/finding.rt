@@ -6,8 +6,8 @@ ghost use Rattle.mud_cert.specs.Verdict.{status_code};
 use crate::doubt::Doubt;
 use mud_chron::ChronFault;
 
-/// What a history's text and a proof's text come to (this project's profile; docs/CHECKER.md).
-/// `IsFinding` in specs/Finding.antt says of which texts each is found: of any two texts one is.
+/// What a history's text and a proof's text come to (docs/CHECKER.md). `IsFinding` in specs/Finding.antt says of which
+/// texts each is found: of any two texts one is.
 #[derive(Debug, Drop)]
 pub enum Finding {
     /// The certificate is valid in the world of which it speaks.
@@ -22,7 +22,7 @@ pub enum Finding {
     BadProof(usize),
 }
 
-/// How a checker ends (this project's profile).
+/// How a checker ends.
 #[derive(Clone, Copy, Debug, PartialEq, Eq)]
 pub enum Status {
     /// The certificate was accepted.

@@ -125,8 +125,7 @@ fn push_cert(out: &mut String, cert: &Cert) -> Result<(), AllocError>
 }
 
 impl Cert {
-    /// Appends the certificate's text (this project's profile). Each line ends with LF, and numbers
-    /// are decimal, without needless zeros:
+    /// Appends the certificate's text. Each line ends with LF, and numbers are decimal, without needless zeros:
     ///
     /// ```text
     /// mud proof 1             or 2, the form

@@ -13,9 +13,8 @@ fn begins_end(line: &[u8]) -> bool
     line.starts_with(b"end ")
 }
 
-/// The history's text and the proof's, which stand one after the other (this project's profile):
-/// the history's goes up to and with the first line that begins with `end `, whether or not LF
-/// ends it, and is all of the bytes where there is no such line.
+/// The history's text and the proof's, which stand one after the other: the history's goes up to and with the first
+/// line that begins with `end `, whether or not LF ends it, and is all of the bytes where there is no such line.
 pub fn split(bytes: &[u8]) -> (&[u8], &[u8])
     ensures { IsSplit bytes.now result.0.now result.1.now }
 {

@@ -3,8 +3,8 @@
 use std::alloc::{AllocError, AllocFailed};
 use thiserror::Error;
 
-/// Why bytes are no history, or a history can't be replayed (this project's profile;
-/// docs/HISTORY.md, "Faults"). Lines and entries are counted from 1.
+/// Why bytes are no history, or a history can't be replayed (docs/HISTORY.md, "Faults"). Lines and entries are counted
+/// from 1.
 #[derive(PartialEq, Eq, Debug, Drop, Error)]
 pub enum ChronFault {
     /// Memory ran out.

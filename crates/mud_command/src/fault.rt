@@ -43,8 +43,8 @@ pub(crate) fn told(alloc: Global, error: &Error) -> CommandFault {
     fault_of(text_of(alloc, error))
 }
 
-/// Writes the text of a fault to standard error, where that can be written, and answers the status of a
-/// command line that asks for nothing, which is 2 (this project's profile).
+/// Writes the text of a fault to standard error, where that can be written, and answers the status of a command line
+/// that asks for nothing, which is 2.
 pub fn show<R: Eprint>(rt: &R, text: &str) -> u8
     ensures { result ≡ 2 }
 {

@@ -10,7 +10,7 @@ ghost use Rattle.mud_ends.specs.Ends.{none_passed, unread};
 use std::io::{self, ErrorKind, Read};
 use std::marker::Model;
 
-/// How many pieces may be read of one source (this project's profile).
+/// How many pieces may be read of one source.
 pub const MAX_READS: u32 = 16_777_216;
 
 /// A reader, with how often a piece was read of it, whether its end was seen, and whether it failed

@@ -25,8 +25,8 @@ use std::alloc::{AllocError, Global};
 use std::slice;
 
 /// The canonical route of a player from his place to a room, or that no walk leads there. The certificate has the least
-/// label of every room that he reaches. `version` says how many changes the world has, at most 65,536 (this project's
-/// profile). The only error is out of memory.
+/// label of every room that he reaches. `version` says how many changes the world has, at most 65,536. The only error
+/// is out of memory.
 pub fn route_alone(
     alloc: Global,
     world: &World,
@@ -78,7 +78,7 @@ pub(crate) fn route_by(
 
 /// The room where a party meets and the canonical route of each member to it, or that there is no room where all come.
 /// The certificate has the least label of every room for each member. `version` says how many changes the world has, at
-/// most 65,536 (this project's profile). The only error is out of memory.
+/// most 65,536. The only error is out of memory.
 pub fn meet_alone(
     alloc: Global,
     world: &World,

@@ -11,9 +11,9 @@ use mud_world::World;
 use std::alloc::{AllocError, Global};
 use std::marker::Model;
 
-/// A player of a world, with where he stands and all that is open to him there. He is of the world
-/// that he was made from and does not follow later changes. Each key of the world is judged once,
-/// and each exit looked at once, when the traveller is made (this project's profile).
+/// A player of a world, with where he stands and all that is open to him there. He is of the world that he was made
+/// from and does not follow later changes. Each key of the world is judged once, and each exit looked at once, when the
+/// traveller is made.
 #[derive(Drop)]
 pub struct Traveller {
     access: Access,

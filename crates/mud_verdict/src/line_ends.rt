@@ -5,8 +5,8 @@ ghost use Rattle.mud_cert.specs.Finding.{without_returns};
 
 use std::alloc::{AllocError, Global};
 
-/// The bytes without each CR that stands directly before LF (this project's profile): of CR CR LF
-/// one CR is left. The only error is out of memory.
+/// The bytes without each CR that stands directly before LF: of CR CR LF one CR is left. The only error is out of
+/// memory.
 pub fn without_returns(alloc: Global, bytes: &[u8]) -> Result<Vec<u8>, AllocError>
     ensures { IfOk result (λ kept. kept.items ≡ without_returns bytes.now) }
 {

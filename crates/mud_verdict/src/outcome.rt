@@ -97,10 +97,9 @@ fn status_of(finding: &Finding) -> Status
     }
 }
 
-/// The line and the status of a history's text and a proof's (this project's profile;
-/// docs/CHECKER.md). Where the status is `Accepted`, the certificate is valid in the world after
-/// the first entries of that history, as many as it says, and its walks and what it concludes are
-/// the least there. The only error is out of memory.
+/// The line and the status of a history's text and a proof's (docs/CHECKER.md). Where the status is `Accepted`, the
+/// certificate is valid in the world after the first entries of that history, as many as it says, and its walks and
+/// what it concludes are the least there. The only error is out of memory.
 pub fn verdict(alloc: Global, history: &[u8], proof: &[u8]) -> Result<Outcome, AllocError>
     ensures finding { IfOk result (IsVerdict history.now proof.now) }
     ensures accepted { IfOk result

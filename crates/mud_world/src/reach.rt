@@ -66,8 +66,8 @@ impl World {
         false
     }
 
-    /// Whether following places from the object one arrives at the actor or at his room, passing
-    /// things alone (this project's profile). What another player carries is out of reach.
+    /// Whether following places from the object one arrives at the actor or at his room, passing things alone. What
+    /// another player carries is out of reach.
     pub fn in_reach(&self, actor: u32, object: u32) -> bool
         ensures reach { result ≡ in_reach self.now actor object }
         ensures reaches { IsTrue result ↔ InReach self.now actor object }

@@ -68,7 +68,7 @@ pub enum Refusal {
 }
 
 impl Refusal {
-    /// The refusal's number, 1 to 18 (this project's profile).
+    /// The refusal's number, 1 to 18.
     pub fn number(self) -> u32
         ensures { result ≡ number self }
     {

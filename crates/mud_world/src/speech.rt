@@ -9,8 +9,7 @@ ghost use Rattle.std.specs.Prelude.{nat_eq, false};
 use std::alloc::{AllocError, Global};
 use std::marker::Model;
 
-/// What a player says or emotes: 1 to 900 bytes from 32 to 126 without a space at an end (this
-/// project's profile). A contract sees its bytes.
+/// What a player says or emotes: 1 to 900 bytes from 32 to 126 without a space at an end. A contract sees its bytes.
 #[derive(Drop)]
 pub struct Speech {
     text: String,

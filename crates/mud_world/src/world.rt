@@ -88,8 +88,8 @@ impl Model for World {
 impl World {
     ghost use Rattle.mud_world.specs.Opening.{opening_state};
 
-    /// The world at the beginning: #0, the room `The Hall`, and in it #1, the player `Wizard`, who owns both (this
-    /// project's profile). The only error is out of memory.
+    /// The world at the beginning: #0, the room `The Hall`, and in it #1, the player `Wizard`, who owns both. The only
+    /// error is out of memory.
     pub fn opening(alloc: Global) -> Result<World, AllocError>
         ensures opening { IfOk result (λ w. w ≡ opening_state) }
         ensures sound { IfOk result IsSound }
@@ -157,7 +157,7 @@ impl World {
         self.links.contents.get(number)
     }
 
-    /// The exits whose source it is, by rising number (this project's profile).
+    /// The exits whose source it is, by rising number.
     pub fn leaving(&self, number: u32) -> &[u32]
         ensures { result.now ≡ leaving_of self.now number }
     {
@@ -171,8 +171,7 @@ impl World {
         }
     }
 
-    /// The player who has this name, ASCII case ignored. There is at most one (this project's
-    /// profile).
+    /// The player who has this name, ASCII case ignored. There is at most one.
     pub fn player_named(&self, name: &str) -> Option<u32>
         ensures named { result ≡ named_player self.now name.now }
         ensures player { IfSome result (λ n. IsTrue (is_player self.now n)) }

@@ -1,4 +1,4 @@
--- The first change that isn't legal stands alone, and where all are legal there is none.
+-- There is only one first change that isn't legal, and where all are legal there is none.
 use Rattle.std.proofs.Common.{◌≡◌, ℕ, zero, suc, ◌<◌, ◌≤◌, ◌⊎◌, List, [], ◌∷◌, take, arith, inl, inr}
 use Rattle.std.proofs.lemmas.Bool.{cases_order}
 use Rattle.mud_world.specs.State.{State}

@@ -1,4 +1,4 @@
--- The greatest of the costs that members claim of a room, as the tests find it. Private clauses alone cite this file.
+-- The greatest of the costs that members claim of a room, as the tests find it. Only private clauses cite this file.
 use Rattle.std.specs.Prelude.{ℕ, max, List, [], ◌∷◌, Option, None, Some}
 use Rattle.mud_roads.specs.declared.label.Label.{Label}
 use Rattle.mud_cert.specs.Certificate.{Account}

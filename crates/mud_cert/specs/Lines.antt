@@ -1,4 +1,4 @@
--- Lines of a certificate one by one, as they are written and read. Private clauses alone cite this file.
+-- Lines of a certificate one by one, as they are written and read. Only private clauses cite this file.
 use Rattle.std.specs.Prelude.{ℕ, List, [], ◌∷◌, ◌++◌, codes, decimal}
 use Rattle.std.specs.List.{flat_map}
 use Rattle.mud_roads.specs.declared.label.Label.{Label}

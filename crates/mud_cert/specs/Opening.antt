@@ -1,4 +1,4 @@
--- A certificate as far as its members go. Cited by private clauses alone.
+-- A certificate as far as its members go. Only private clauses cite this file.
 use Rattle.std.specs.Prelude.{ℕ, ◌≤◌, List, length, All}
 use Rattle.mud_cert.specs.declared.cert.Form.{Form}
 use Rattle.mud_cert.specs.Certificate.{Account, IsAmount, IsAccount, CountsBy}

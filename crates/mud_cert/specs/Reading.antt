@@ -1,4 +1,4 @@
--- What each reader of a line gives. Cited by private clauses alone: what a text is, Text says.
+-- What each reader of a line gives. Only private clauses cite this file: what a text is, Text says.
 use Rattle.std.specs.Prelude.{ℕ, zero, suc, ◌+◌, ◌-◌, ◌*◌, ◌==◌, nat_lt, nat_le, Bool, true, ◌&&◌, if◌then◌else◌}
 use Rattle.std.specs.Prelude.{List, [], ◌∷◌, length, Option, None, Some, codes}
 use Rattle.std.specs.Str.{bytes_eq}

@@ -1,4 +1,4 @@
--- What the lines so far say, and what one line more says. Cited by private clauses alone.
+-- What the lines so far say, and what one line more says. Only private clauses cite this file.
 use Rattle.std.specs.Prelude.{ℕ, ◌<◌, ◌==◌, nat_lt, nat_le, Bool, ◌&&◌, if◌then◌else◌}
 use Rattle.std.specs.Prelude.{List, [], ◌∷◌, ◌++◌, length, Option, None, Some, codes}
 use Rattle.std.specs.Str.{bytes_eq}

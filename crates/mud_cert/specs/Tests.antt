@@ -1,4 +1,4 @@
--- The tests of a certificate in their order. Cited by private clauses alone: what they find, Doubts and Valid say.
+-- The tests of a certificate in their order. Only private clauses cite this file: what they find, Doubts and Valid say.
 use Rattle.std.specs.Prelude.{ℕ, ◌+◌, nat_eq, nat_lt, nat_le, not, Bool, true, false, ◌&&◌, ◌||◌, if◌then◌else◌}
 use Rattle.std.specs.Prelude.{List, [], ◌∷◌, ◌++◌, find, Option, None, Some, option_map, option_and_then, is_none}
 use Rattle.std.specs.List.{list_any, list_all, range_with_len}

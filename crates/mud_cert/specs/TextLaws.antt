@@ -5,7 +5,7 @@ use Rattle.mud_cert.specs.Certificate.{Certificate, IsCertificate}
 use Rattle.mud_cert.specs.Text.{cert_text}
 use Rattle.mud_cert.specs.Faults.{IsBadLine}
 
--- a text is that of one certificate alone
+-- a text is that of only one certificate
 abbrev pub OneCertificate : Type 0
 OneCertificate = (c d : Certificate) → IsCertificate c → IsCertificate d → cert_text c ≡ cert_text d → c ≡ d
 

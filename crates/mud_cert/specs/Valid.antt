@@ -18,7 +18,7 @@ pub record States (w : State) (m : Account) (to : ℕ) (steps : List Step) : Typ
   pub stated : m.walk ≡ Some (exits_of steps)
   pub walk : Walk (roads_of w m.player) m.from steps to
 
--- a player who stands there, rooms alone are labelled, labels are valid, and a walk that is stated has its end's label
+-- a player who stands there, only rooms are labelled, labels are valid, and a walk that is stated has its end's label
 pub record IsMember (w : State) (form : Form) (m : Account) : Type 0 where
   pub player : IsTrue (is_player w m.player)
   pub place : place_of w m.player ≡ Some m.from

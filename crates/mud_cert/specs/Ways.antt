@@ -1,5 +1,5 @@
 -- Walks that are given as numbers of exits, as the tests go along them. All is defined for any numbers: a number that
--- is no exit's makes a step to #0 at no cost, but leaves no room and is open to nobody. Private clauses alone cite this
+-- is no exit's makes a step to #0 at no cost, but leaves no room and is open to nobody. Only private clauses cite this
 -- file.
 use Rattle.std.specs.Prelude.{ℕ, List, [], ◌∷◌, map, Option, None, Some}
 use Rattle.std.specs.Option.{option_map_or}

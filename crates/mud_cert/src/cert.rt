@@ -9,7 +9,7 @@ use std::marker::Model;
 /// How the labels of a certificate count.
 #[derive(Clone, Copy, Debug, PartialEq, Eq)]
 pub enum Form {
-    /// Costs alone; each label has 0 exits.
+    /// Only costs; each label has 0 exits.
     One,
     /// Costs, and then exits.
     Two,

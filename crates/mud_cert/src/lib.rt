@@ -18,7 +18,7 @@
 //! ```
 //!
 //! Proved is that `check` accepts exactly the valid certificates, unless memory runs out, that the doubt is the first
-//! one, and that what a valid certificate concludes is optimal. The laws of the definitions alone are the contracts of
+//! one, and that what a valid certificate concludes is optimal. The laws of the definitions are the contracts of
 //! [`laws`].
 #![tactic(auto)]
 

@@ -1,9 +1,8 @@
-//! What is known of the texts of certificates alone: each contract is a law, and its function does
-//! nothing.
+//! Facts about the texts of certificates only: each contract is a law, and its function does nothing.
 
 ghost use Rattle.mud_cert.specs.TextLaws.{OneCertificate, OneBadLine, EndsWithLf, HasNoReturn};
 
-/// A text is that of one certificate alone.
+/// A text is that of only one certificate.
 pub fn one_certificate()
     ensures { OneCertificate }
 {}

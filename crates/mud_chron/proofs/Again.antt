@@ -307,7 +307,7 @@ plain_deed actor d a r h =
     ∙ plain_behind (deed_word d) (actor ++ 32 ∷ rest_of d) (plain_word d)
     (plain_behind actor (rest_of d) a (plain_rest d r h))
 
--- a line has bytes from 32 to 126 alone
+-- a line has only bytes from 32 to 126
 pub plain_line : (version : ℕ) (e : Accepted) → version < 2 ^ 64 → IsEntry e
     → list_all plain (entry_line version e) ≡ true
 plain_line version e fits is =

@@ -1,4 +1,4 @@
--- A reader of lines as a function, apart from the code: by it a line is that of one entry alone.
+-- A reader of lines as a function, apart from the code: by it a line is that of only one entry.
 use Rattle.std.specs.Prelude.{ℕ, nat_eq, nat_le, List, [], ◌∷◌, codes, if◌then◌else◌, Option, None, Some, Result, Ok}
 use Rattle.std.specs.Prelude.{Err}
 use Rattle.std.specs.Option.{option_map, ok_or}

@@ -83,7 +83,7 @@ data View (format : Format) (entries : List Accepted) (rest : List ℕ) : Result
   bad : (line behind : List ℕ) (n : ℕ) → cut 10 rest ≡ Some (line, behind) → IsBad format (length entries) line
       → n ≡ length entries + 2 → View format entries rest (Err (BadLine n))
 
--- the line of one more entry stands after 65,536 alone
+-- the line of one more entry stands only after 65,536
 abbrev Stops : Format → ℕ → List ℕ → Type 0
 Stops format version rest =
     (e : Accepted) (more : List ℕ) → IsEntryOf format e → rest ≡ entry_line version e ++ line_feed ++ more
@@ -320,7 +320,7 @@ faults_are_no_texts bytes fault entries h k = go (told_fault bytes fault h)
         let same : ◌≡◌ {A = Result (List Accepted) ChronFault} (Err fault) (Ok entries) =
         one_told bytes (Err fault) (Ok entries) t (told_text bytes entries k) in absurd (cc)
 
--- bytes that begin with no first line have that fault alone
+-- bytes that begin with no first line have only that fault
 alone : (bytes : List ℕ) (fault : ChronFault) → IsNoHistory bytes → HasFault bytes fault → fault ≡ NotHistory
 alone bytes OutOfMemory none h = absurd h
 alone bytes (BadChange n) none h = absurd h

@@ -1,4 +1,4 @@
--- Names of parts of public definitions. Private clauses and proofs alone cite this file.
+-- Names of parts of public definitions. Only private clauses and proofs cite this file.
 use Rattle.std.specs.Prelude.{ℕ, ◌/◌, ◌%◌, List, [], ◌∷◌, ◌++◌, codes, Option}
 use Rattle.std.specs.Option.{option_map_or}
 use Rattle.std.specs.List.{flat_map}

@@ -10,7 +10,7 @@ pub data Answers (Says : List ℕ → List ℕ → Type 0) : List ℕ → List �
   next : {line answer rest out : List ℕ} → IsLine line → Says line answer → Answers Says rest out
       → Answers Says (line ++ 10 ∷ rest) (answer ++ 10 ∷ out)
 
--- one more line is answered; a clause of a private part alone cites it
+-- one more line is answered; only a clause of a private part cites it
 pub record AnswersOne (Says : List ℕ → List ℕ → Type 0) (line old new : List ℕ) : Type 0 where
   pub answer : List ℕ
   pub says : Says line answer

@@ -1,4 +1,4 @@
--- How the last step of each room's route is found from labels. Private clauses alone cite this file.
+-- How the last step of each room's route is found from labels. Only private clauses cite this file.
 use Rattle.std.specs.Prelude.{◌≡◌, ℕ, ◌+◌, ◌<◌, ◌≤◌, Bool, true, false, ◌==◌, ◌&&◌, nat_lt, if◌then◌else◌, List, []}
 use Rattle.std.specs.Prelude.{◌∷◌, length, slice_index_or, slice_set, Contains, Option, None, Some}
 use Rattle.mud_roads.specs.declared.label.Label.{Label}

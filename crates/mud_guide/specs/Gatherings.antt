@@ -1,4 +1,4 @@
--- How the meeting room is found from labels. Private clauses alone cite this file.
+-- How the meeting room is found from labels. Only private clauses cite this file.
 use Rattle.std.specs.Prelude.{◌≡◌, ℕ, ◌<◌, ◌≤◌, ◌⊎◌, Option, None, Some, nat_lt, if◌then◌else◌}
 use Rattle.mud_roads.specs.declared.label.Label.{Label}
 use Rattle.mud_cert.specs.declared.cert.Meeting.{Meeting}

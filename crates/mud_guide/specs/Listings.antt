@@ -1,4 +1,4 @@
--- How the accounts of a certificate are made from labels and journeys. Private clauses alone cite this file.
+-- How the accounts of a certificate are made from labels and journeys. Only private clauses cite this file.
 use Rattle.std.specs.Prelude.{◌≡◌, ℕ, ◌+◌, ◌<◌, List, Option, Some, All, AllPairs, Contains, IfSome, length}
 use Rattle.std.specs.Prelude.{slice_index_or}
 use Rattle.std.specs.Option.{option_map}

@@ -1,4 +1,4 @@
--- Parts of a party, whose members are worked for apart. Private clauses alone cite this file.
+-- Parts of a party, whose members are worked for apart. Only private clauses cite this file.
 use Rattle.std.specs.Prelude.{◌≡◌, ℕ, ◌+◌, ◌≤◌, List, map, length, Option, All}
 use Rattle.mud_world.specs.State.{State}
 use Rattle.mud_roads.specs.declared.label.Label.{Label}

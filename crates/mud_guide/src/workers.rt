@@ -17,9 +17,9 @@ use std::slice;
 use std::sync::Wait;
 use std::thread::{Threads, join};
 
-/// Answers as [`route_alone`](crate::route_alone), by so many workers, who share the rooms and pass the gate with each;
-/// the caller's thread is the first (see [`labels`]). It may wait, and ends if the gate lets all pass. The only error
-/// is out of memory.
+/// Answers as [`route_alone`](crate::route_alone), by N workers, who share the rooms and pass the gate with each; the
+/// caller's thread is the first (see [`labels`]). It may wait, and ends if the gate lets all pass. The only error is
+/// out of memory.
 pub fn route<R: Threads + Wait + Sync, G: Gate + Sync>(
     rt: &R,
     alloc: Global,
@@ -40,9 +40,9 @@ pub fn route<R: Threads + Wait + Sync, G: Gate + Sync>(
     route_by(alloc, world, version, &traveller, &labels, room)
 }
 
-/// Answers as [`meet_alone`](crate::meet_alone), by so many workers, who search for the members apart and pass the gate
-/// with each room; the caller's thread is the first (see [`labels`]). It may wait, and ends if the gate lets all pass.
-/// The only error is out of memory.
+/// Answers as [`meet_alone`](crate::meet_alone), by N workers, who search for the members apart and pass the gate with
+/// each room; the caller's thread is the first (see [`labels`]). It may wait, and ends if the gate lets all pass. The
+/// only error is out of memory.
 pub fn meet<R: Threads + Wait + Sync, G: Gate + Sync>(
     rt: &R,
     alloc: Global,

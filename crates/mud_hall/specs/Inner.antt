@@ -1,4 +1,4 @@
--- Names of parts of public definitions. Private clauses and proofs alone cite this file.
+-- Names of parts of public definitions. Only private clauses and proofs cite this file.
 use Rattle.std.specs.Prelude.{◌≡◌, ℕ, List, ◌++◌, length, Option, Some, None, codes, IsSomeAnd, IfSome, IsTrue, take, drop}
 use Rattle.std.specs.Option.{option_map, option_and_then, option_to_list}
 use Rattle.mud_world.specs.State.{State, is_player}

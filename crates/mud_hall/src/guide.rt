@@ -79,7 +79,7 @@ impl<F: Fn(Global, &World, u32, u32, &Journey) -> Result<Answer, AllocError>> Gu
     }
 }
 
-/// The guide's answer to a player's question about a journey, by so many workers, who pass a gate.
+/// The guide's answer to a player's question about a journey, by N workers, who pass a gate.
 pub(crate) fn by_workers<R: Threads + Wait + Sync, G: Gate + Sync>(
     rt: &R,
     workers: usize,

@@ -67,7 +67,7 @@ name_alone text name =
       few = omega arith;
     }
 
--- a names text of itself alone is a name
+-- a names text of only itself is a name
 pub alone_name : (text : List ℕ) (names : List (List ℕ)) → IsNamesText text names → is_only text names ≡ true
     → IsName text
 alone_name text [] h e = absurd (cc)

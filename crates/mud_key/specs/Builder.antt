@@ -1,5 +1,5 @@
--- What the builder's parts are to the machine. Clauses of private parts alone cite it, but for `outer_settled`, by
--- which `key_in` in Reading.antt ends; proofs/Building.antt ties it to the grammar of key texts.
+-- What the builder's parts are to the machine. Only clauses of private parts cite it, but for `outer_settled`, by which
+-- `key_in` in Reading.antt ends; proofs/Building.antt ties it to the grammar of key texts.
 use Rattle.std.specs.Prelude.{ℕ, List, [], ◌∷◌, Option, Some, None, String, map, reverse, string_bytes}
 use Rattle.std.specs.declared.alloc.Global.{Global}
 use Rattle.mud_key.specs.declared.operator.Operator.{Operator}

@@ -1,4 +1,4 @@
--- Words for clauses of private parts alone.
+-- Words for clauses of private parts only.
 use Rattle.std.specs.Prelude.{ℕ, ◌≤◌, List}
 use Rattle.mud_key.specs.Tree.{Tree}
 use Rattle.mud_key.specs.KeyText.{SpellsKey}

@@ -1,4 +1,4 @@
--- Which texts spell names, name by name. Clauses of private parts alone cite this file: the law `laws::names` says the
+-- Which texts spell names, name by name. Only clauses of private parts cite this file: the law `laws::names` says the
 -- same by the parts of a text.
 use Rattle.std.specs.Prelude.{◌≡◌, Bool, false, ℕ, ◌≤◌, List, [], ◌∷◌, ◌++◌, length, replicate, codes, Result, Ok, Err}
 use Rattle.std.specs.Prelude.{reverse}
@@ -42,7 +42,7 @@ NameReadsAs text (Ok name) = (name ≡ text) × IsName text
 NameReadsAs text (Err OutOfMemory) = Unit {0}
 NameReadsAs text (Err BadName) = IsName text → ⊥
 
--- the names are this text alone
+-- the names are only this text
 abbrev pub is_only : List ℕ → List (List ℕ) → Bool
 is_only text [] = false
 is_only text (name ∷ []) = bytes_eq name text

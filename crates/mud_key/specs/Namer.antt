@@ -39,7 +39,7 @@ ResolvesAs r (Err NoSuch) = r ≡ Err miss.NoSuch
 ResolvesAs r (Err Ambiguous) = r ≡ Err miss.Ambiguous
 ResolvesAs r (Err other) = ⊥
 
--- the same of a node, for private parts alone
+-- the same of a node, for private parts only
 abbrev pub NodeResolvesAs : Result (Tree ℕ) Miss → Result (Node ℕ) KeyFault → Type 0
 NodeResolvesAs r (Ok k) = r ≡ Ok (key_of k)
 NodeResolvesAs r (Err OutOfMemory) = Unit {0}

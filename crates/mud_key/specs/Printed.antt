@@ -40,7 +40,7 @@ pub record ReadsBack (text : List ℕ) (key : Tree ℕ) : Type 0 where
   pub again : (read : Tree (List ℕ)) → SpellsKey text read → (meaning : List ℕ → Result ℕ Miss)
       → ((n : ℕ) → n ≤ 8191 → meaning (number_text n) ≡ Ok n) → resolved meaning read ≡ Ok key
 
--- the parentheses that `enclosed` puts round a key, or none; clauses of private parts alone cite them
+-- the parentheses that `enclosed` puts round a key, or none; only clauses of private parts cite them
 abbrev pub opening_of : Tree (List ℕ) → List ℕ
 opening_of (Join op a b) = codes "("
 opening_of other = []

@@ -1,5 +1,5 @@
--- What the scan keeps of the machine: where it stands, and what it has counted. Clauses of private
--- parts alone cite it; proofs/Scanned.antt ties it to the grammar of key texts.
+-- What the scan keeps of the machine: where it stands, and what it has counted. Only clauses of private parts cite it;
+-- proofs/Scanned.antt ties it to the grammar of key texts.
 use Rattle.std.specs.Prelude.{ℕ, ◌+◌, ◌-◌, ◌≡◌, Option, Some, None, List, [], ◌∷◌, length, nat_lt, nat_eq}
 use Rattle.std.specs.Prelude.{if◌then◌else◌, Bool, true, false, ◌&&◌}
 use Rattle.mud_key.specs.declared.operator.Operator.{Operator}

@@ -1,4 +1,4 @@
-//! What is known of the definitions alone.
+//! Facts about definitions only.
 
 ghost use Rattle.mud_key.specs.Laws.{AreTheNames, IsTheName, IsTheKey};
 

@@ -66,7 +66,7 @@ impl Name {
     }
 }
 
-// Whether the names are this text alone.
+// Whether the names are only this text.
 fn is_only(text: &str, names: &[String]) -> bool
     ensures { result ≡ is_only text.now (map string_bytes names.now) }
 {

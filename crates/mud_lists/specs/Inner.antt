@@ -1,4 +1,4 @@
--- Names of parts of public definitions. Private clauses and proofs alone cite this file.
+-- Names of parts of public definitions. Only private clauses and proofs cite this file.
 use Rattle.std.specs.Prelude.{◌≡◌, ℕ, List, [], None, Vec, map}
 use Rattle.std.specs.declared.alloc.Global.{Global}
 use Rattle.mud_lists.specs.Lists.{list_at}

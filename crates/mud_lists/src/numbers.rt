@@ -47,7 +47,7 @@ fn remove_number(numbers: &mut Vec<u32>, number: u32)
 }
 
 impl Rising {
-    /// The number alone.
+    /// Only this number.
     pub(crate) fn of(alloc: Global, number: u32) -> Result<Rising, AllocError>
         ensures { IfOk result (λ list. list ≡ number ∷ []) }
     {

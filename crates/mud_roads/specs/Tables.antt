@@ -1,4 +1,4 @@
--- What a traveller has in memory. Private clauses alone cite this file.
+-- What a traveller has in memory. Only private clauses cite this file.
 use Rattle.std.specs.Prelude.{◌≡◌, ℕ, ◌-◌, ◌≤◌, Bool, false, List, [], ◌∷◌, length, take, drop, slice_index_or}
 use Rattle.mud_world.specs.State.{State, unlocked}
 use Rattle.mud_roads.specs.declared.label.Step.{Step}

@@ -1,4 +1,4 @@
-//! What is known of the definitions alone: each contract is a law, and its function does nothing.
+//! Facts about definitions only: each contract is a law, and its function does nothing.
 
 ghost use Rattle.mud_roads.specs.Laws.{LeastIsAlike, ValidIsLeast, LeastIsValid, IsOne, IsRoad, IsWalked};
 ghost use Rattle.mud_roads.specs.Laws.{RouteIsOne, MeetingIsOne, MeetingIsAlike};

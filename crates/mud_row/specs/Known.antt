@@ -36,7 +36,7 @@ known_front (suc k) (n ∷ ns) = entry_first n.known (known_front k ns)
 abbrev pub known_of : ℕ → List (Note Accepted) → Known
 known_of count notes = record { row = names_of notes; list = known_front count notes }
 
--- how notes stand in memory. A reader need not look into this: contracts speak of a `Known` alone
+-- how notes stand in memory. A reader need not look into this: contracts speak only of a `Known`
 abbrev pub AreCounted : ℕ → List (Note Accepted) → Type 0
 AreCounted count notes = (length notes ≤ 65536) × (length (known_front count notes) ≡ count)
 

@@ -136,7 +136,7 @@ begun-other : (n : ℕ) (t : Knowledge) (room : ℕ) → room ≢ t.place → sl
 begun-other n t room other =
     get_or-set_other (replicate n Unknown) t.place room (Open start_label) Unknown other ∙ blank-at n room
 
--- at first the place alone is labelled
+-- at first only the place is labelled
 pub begun-faithful : (w : State) (t : Knowledge) → t.place < w.next
     → IsBoardOf (roads_of w t.player) t.place w.next (begun_at w.next t)
 begun-faithful w t h =
@@ -372,7 +372,7 @@ frontier-rest w ts boards f opened held =
               absurd (cc)
         ]
 
--- at first the places alone are known
+-- at first only the places are known
 pub begun-is : (w : State) (ts : List Knowledge) → IsSound w → All (IsTraveller w) ts
     → IsBegun ts (slot_of (begun w.next ts))
 begun-is w ts g these = record {

@@ -1,4 +1,4 @@
--- The slots in memory, a list for each member, and what is done to them. Private clauses alone cite this file, but for
+-- The slots in memory, a list for each member, and what is done to them. Only private clauses cite this file, but for
 -- the invariant of a frontier, `IsKept`.
 use Rattle.std.specs.Prelude.{◌≡◌, ◌⊎◌, ℕ, ◌+◌, ◌*◌, ◌<◌, ◌≤◌, ◌^◌, Bool, true, ◌==◌, ◌&&◌, ◌||◌, nat_lt, if◌then◌else◌}
 use Rattle.std.specs.Prelude.{List, [], ◌∷◌, map, length, Option, None, Some, slice_get, slice_index_or, slice_set}

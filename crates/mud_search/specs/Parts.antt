@@ -1,4 +1,4 @@
--- What a search finds of a part of a party. Private clauses alone cite this file.
+-- What a search finds of a part of a party. Only private clauses cite this file.
 use Rattle.std.specs.Prelude.{◌≡◌, List, Option, length}
 use Rattle.mud_world.specs.State.{State}
 use Rattle.mud_roads.specs.declared.label.Label.{Label}

@@ -1,5 +1,5 @@
 -- The rooms that wait, in memory: a heap of entries, and where each room stands in it.
--- Private clauses alone cite this file.
+-- Only private clauses cite this file.
 use Rattle.std.specs.Prelude.{◌≡◌, ◌≢◌, ℕ, ◌-◌, ◌/◌, ◌^◌, ◌<◌, ◌≤◌, nat_lt, if◌then◌else◌, List, Option, None, Some}
 use Rattle.std.specs.Prelude.{length, map, slice_index, slice_index_or}
 use Rattle.mud_roads.specs.declared.label.Label.{Label}

@@ -13,7 +13,7 @@ table lists = record { lists = lists }
 abbrev pub table_code : {A : Type 0} → Coded A → Coded (Table A)
 table_code {A} code = code_by (List (List A)) (coded_list (coded_list code)) (λ t. t.lists) table (λ _. refl)
 
--- the lists in memory; private clauses alone cite them
+-- the lists in memory; only private clauses cite them
 abbrev pub lists_in : {A : Type 0} → Table A → List (List A)
 lists_in t = t.lists
 

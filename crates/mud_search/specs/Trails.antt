@@ -1,4 +1,4 @@
--- How the labels of a search were come by, from which no label is too great. Private clauses alone cite this file.
+-- How the labels of a search were come by, from which no label is too great. Only private clauses cite this file.
 use Rattle.std.specs.Prelude.{◌≡◌, ℕ, Bool, false, nat_eq, List, [], ◌∷◌, Option, Some, Contains}
 use Rattle.std.specs.List.{list_any}
 use Rattle.mud_roads.specs.declared.label.Label.{Label}

@@ -143,7 +143,7 @@ impl<J: Job> Frontier<J> {
         }
     }
 
-    /// The facts of the type, for contracts alone: whatever was taken and put, they hold.
+    /// The facts of the type, for contracts only: whatever was taken and put, they hold.
     pub fn facts(&self)
         ensures { IsFrontier J.world J.travellers (slot_in self.now) }
     {

@@ -1,9 +1,9 @@
-//! What a search is of, for contracts alone.
+//! What a search is of, for contracts only.
 
 use std::marker::Brand;
 
-/// One world and its travellers, for contracts alone: so the type of a [`Frontier`](crate::Frontier)
-/// says what its facts are of.
+/// One world and its travellers, for contracts only: so the type of a [`Frontier`](crate::Frontier) says what its facts
+/// are of.
 pub trait Job {
     ghost use Rattle.std.specs.Prelude.{List};
     ghost use Rattle.mud_world.specs.State.{State};

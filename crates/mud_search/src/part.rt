@@ -3,8 +3,8 @@
 use crate::gate::Gate;
 use crate::task::Task;
 
-/// Which workers search for which members: so many workers, from one number on, and members from
-/// one number on. Within the part both are counted from 0.
+/// Which workers search for which members: a number of workers, from one number on, and members from one number on.
+/// Within the part both are counted from 0.
 #[derive(Clone, Copy, Debug, Drop)]
 pub(crate) struct Part {
     pub(crate) workers: usize,
@@ -13,7 +13,7 @@ pub(crate) struct Part {
 }
 
 impl Part {
-    /// All members, and so many workers.
+    /// All members, and N workers.
     pub(crate) fn whole(workers: usize) -> Part {
         Part {
             workers,
@@ -22,7 +22,7 @@ impl Part {
         }
     }
 
-    /// The first members, and the first workers: all but so many.
+    /// The first members, and the first workers: all but the last N.
     pub(crate) fn front(self, workers_behind: usize) -> Part {
         Part {
             workers: self.workers.saturating_sub(workers_behind),
@@ -30,7 +30,7 @@ impl Part {
         }
     }
 
-    /// The members after so many, and the last workers: so many.
+    /// The members after the first M, and the last N workers.
     pub(crate) fn back(self, members: usize, workers_behind: usize) -> Part {
         let before = self.workers.saturating_sub(workers_behind);
         Part {

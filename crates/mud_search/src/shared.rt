@@ -20,7 +20,7 @@ use std::marker::Brand;
 use std::sync::Wait;
 use std::thread::{Threads, join};
 
-/// The least labels of up to eight travellers of this world, by so many workers; with none it does what
+/// The least labels of up to eight travellers of this world, by N workers; with none it does what
 /// [`labels_alone`](crate::labels_alone) does. The caller's thread is the first worker, and the others are threads of
 /// their own; it is no fault where they can't be started. Members are searched for apart as far as there are workers
 /// for them, and several workers for one member share his rooms. The labels are the same for every number of workers

@@ -1,4 +1,4 @@
--- Names of parts of public definitions. Private clauses and proofs alone cite this file.
+-- Names of parts of public definitions. Only private clauses and proofs cite this file.
 use Rattle.std.specs.Prelude.{ℕ, ◌==◌, Bool, false, List, [], ◌∷◌, ◌++◌, map, codes, is_some, Option, if◌then◌else◌}
 use Rattle.std.specs.Option.{option_map_or}
 use Rattle.mud_ends.specs.Ends.{Reader}

@@ -1,4 +1,4 @@
-//! A client of a server on this machine alone.
+//! A client of a server that only this machine reaches.
 
 use std::alloc::Global;
 use std::io;

@@ -265,7 +265,7 @@ fn ended(served: &Result<(), ListenFault>) -> &'static str {
     }
 }
 
-// A listener on a free port of this machine alone.
+// A listener on a free port that only this machine reaches.
 fn bound<R: Net<Listener = TcpListener, Stream = TcpStream>>(rt: &R) -> io::Result<TcpListener> {
     TcpListener::bind(rt, SocketAddr::from((Ipv4Addr::LOCALHOST, 0)))
 }

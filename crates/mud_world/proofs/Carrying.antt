@@ -140,7 +140,7 @@ any-all o (x ∷ xs) ks =
     ∙ ap (λ b. b || list_any (nat_eq o) xs) (any-one o x ks)
     ∙ sym (or-more (list_any (nat_eq o) ks) (nat_eq o x) (list_any (nat_eq o) xs))
 
--- nothing was looked into yet: there is c alone, if it exists
+-- nothing was looked into yet: there is only c, if it exists
 pub gathers-one : (w : State) (c : ℕ) (keys : List ℕ) → exists w c ≡ true → keys ≡ insert_key nat_eq [] c → Gathers w c keys 0
 gathers-one w c keys there is = record {
   inside = λ o among.

@@ -111,7 +111,7 @@ none-found p (h ∷ fs) none = ap (λ b. cond b (Some h) (find p fs)) (none h) �
 rise : Rise 0 refusals
 rise = (lit≤ tt, (lit≤ tt, (lit≤ tt, (lit≤ tt, (lit≤ tt, (lit≤ tt, (lit≤ tt, (lit≤ tt, (lit≤ tt, (lit≤ tt, (lit≤ tt, (lit≤ tt, (lit≤ tt, (lit≤ tt, (lit≤ tt, tt)))))))))))))))
 
--- ---- the refusals of lines alone refuse no change
+-- ---- refusals that only lines have refuse no change
 not_understood : (w : State) (a : ℕ) (d : Deed) → deed_fails w a d NotUnderstood ≡ false
 not_understood w a (Dig target doors) = refl
 not_understood w a d = refl

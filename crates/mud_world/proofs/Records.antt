@@ -81,7 +81,7 @@ IsRising-set_value low high n r (e ∷ es) rises =
     (λ here. subst (λ (b : Bool). IsRising low (cond b ((e.0, r) ∷ es) (e ∷ set_value (nat_eq n) es r)) high) (sym here) rises)
     (λ past. subst (λ (b : Bool). IsRising low (cond b ((e.0, r) ∷ es) (e ∷ set_value (nat_eq n) es r)) high) (sym past) (rises.0, IsRising-set_value (e.0 + 1) high n r es rises.1))
 
--- ---- nesting depends on the keys alone
+-- ---- nesting depends on the keys only
 pub list_all-agree : {X : Type 0} (f g : X → Bool) → ((x : X) → f x ≡ g x) → (xs : List X) → list_all f xs ≡ list_all g xs
 list_all-agree f g same [] = refl
 list_all-agree f g same (x ∷ xs) = ap (λ b. b && list_all f xs) (same x) ∙ ap (λ b. g x && b) (list_all-agree f g same xs)

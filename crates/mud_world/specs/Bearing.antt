@@ -1,4 +1,4 @@
--- Who meets a key, and what answers its questions. Private clauses alone cite this file.
+-- Who meets a key, and what answers its questions. Only private clauses cite this file.
 use Rattle.std.specs.Prelude.{ℕ, Bool, false, nat_eq, slice_index_or}
 use Rattle.std.specs.List.{list_any}
 use Rattle.mud_world.specs.declared.locks.Bearer.{Bearer}

@@ -1,4 +1,4 @@
--- Single edits of the records and of what stands beside them. Private clauses alone cite this file: the edits of
+-- Single edits of the records and of what stands beside them. Only private clauses cite this file: the edits of
 -- `Results` are what they come to.
 use Rattle.std.specs.Prelude.{◌≡◌, ℕ, Bool, false, not, ◌&&◌, List, [], nat_eq, Option, if◌then◌else◌}
 use Rattle.std.specs.List.{list_any}
@@ -84,7 +84,7 @@ AreMoved t q y old new =
 abbrev pub asked_by : ℕ → Option (Tree ℕ) → Bool
 asked_by n key = option_map_or (λ k. list_any (nat_eq n) (asks_of k)) key false
 
--- the asker is in the lists of what its new key asks, and no more in those of what its old one asked alone
+-- the asker is in the lists of what its new key asks, and no more in those of what only its old one asked
 abbrev pub AreRekeyed : ℕ → Option (Tree ℕ) → Option (Tree ℕ) → List (ℕ × List ℕ) → List (ℕ × List ℕ) → Type 0
 AreRekeyed asker old new l l' =
     (n : ℕ) → list_at l' n

@@ -1,5 +1,5 @@
--- When an object can get another place or another key, be added, or be taken away. Private clauses alone cite this
--- file: a legal change has what is asked here.
+-- When an object can get another place or another key, be added, or be taken away. Only private clauses cite this file:
+-- a legal change has what is asked here.
 use Rattle.std.specs.Prelude.{◌≡◌, ◌≢◌, ℕ, List, false, ◌<◌, [], ◌∷◌, Option, Some, None, IfSome, IsTrue}
 use Rattle.mud_key.specs.Tree.{Tree, IsKey}
 use Rattle.mud_world.specs.declared.record.Record.{Record}

@@ -1,4 +1,4 @@
--- Names of parts of public definitions. Private clauses and proofs alone cite this file.
+-- Names of parts of public definitions. Only private clauses and proofs cite this file.
 use Rattle.std.specs.Prelude.{◌≡◌, ◌≢◌, ℕ, ◌+◌, Bool, false, not, ◌&&◌, ◌||◌, nat_eq, nat_lt, List, Option, Some, None}
 use Rattle.std.specs.Prelude.{IfSome, IsTrue, is_none, if◌then◌else◌}
 use Rattle.std.specs.Option.{option_map_or}

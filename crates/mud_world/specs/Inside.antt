@@ -48,7 +48,7 @@ abbrev pub AreNames : List (List ℕ × ℕ) → State → Type 0
 AreNames owners w =
     (name : List ℕ) (n : ℕ) → is_number n (owner_of owners (str_to_ascii_lowercase name)) ≡ is_called w n name
 
--- how a world stands in memory. A reader need not look into this: contracts speak of a world by other definitions alone
+-- how a world stands in memory. A reader need not look into this: contracts speak of a world only by other definitions
 pub record IsKept (a : Inside) : Type 0 where
   pub sound : IsSound (state_of a)
   pub contents : AreOf lies_in a.links.contents (state_of a)

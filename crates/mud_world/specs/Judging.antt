@@ -1,4 +1,4 @@
--- How the answers of a level are made from those of no level. Private clauses alone cite this file.
+-- How the answers of a level are made from those of no level. Only private clauses cite this file.
 use Rattle.std.specs.Prelude.{◌≡◌, ℕ, Bool, true, false, List, [], ◌∷◌, length, slice_index_or, slice_set, is_none}
 use Rattle.std.specs.Prelude.{nat_eq}
 use Rattle.std.specs.List.{list_any}

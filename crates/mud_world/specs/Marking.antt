@@ -1,4 +1,4 @@
--- Marks for numbers. Private clauses alone cite this file.
+-- Marks for numbers. Only private clauses cite this file.
 use Rattle.std.specs.Prelude.{ℕ, Bool, true, List, [], ◌∷◌, slice_set}
 
 -- the marks after these numbers were marked

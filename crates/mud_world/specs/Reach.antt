@@ -4,7 +4,7 @@ use Rattle.std.proofs.Common.{zero, suc}
 use Rattle.std.specs.Option.{option_map_or}
 use Rattle.mud_world.specs.State.{State, place_of, follow, is_thing, is_number}
 
--- following places from o one arrives at the actor or at his room, passing things alone
+-- following places from o one arrives at the actor or at his room, passing only things
 pub record InReach (w : State) (actor o : ℕ) : Type 0 where
   -- how many things are passed
   pub passed : ℕ

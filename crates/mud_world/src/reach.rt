@@ -66,7 +66,7 @@ impl World {
         false
     }
 
-    /// Whether following places from the object one arrives at the actor or at his room, passing things alone. What
+    /// Whether following places from the object one arrives at the actor or at his room, passing only things. What
     /// another player carries is out of reach.
     pub fn in_reach(&self, actor: u32, object: u32) -> bool
         ensures reach { result ≡ in_reach self.now actor object }

@@ -5,10 +5,9 @@ ghost use Rattle.mud_world.specs.Refusals.{number, lesser, refused_if};
 
 use thiserror::Error;
 
-/// Why a line or a change is refused. Where several conditions hold, the refusal of least number
-/// is given (this project's profile; the names are those of the LambdaMOO error values where it
-/// has them). A change itself is never refused by `NotUnderstood`, `Ambiguous` or `PartyBad`:
-/// these are of lines alone.
+/// Why a line or a change is refused. Where several conditions hold, the refusal of least number is given (this
+/// project's profile; the names are those of the LambdaMOO error values where it has them). A change itself is never
+/// refused by `NotUnderstood`, `Ambiguous` or `PartyBad`: these are of lines only.
 #[derive(Clone, Copy, Debug, PartialEq, Eq, Error)]
 pub enum Refusal {
     /// The line is no command.

@@ -3,4 +3,5 @@ pub mod Typing
 pub mod Whole
 pub mod Cuts
 pub mod Sound
+pub mod Runs
 pub mod Stopping

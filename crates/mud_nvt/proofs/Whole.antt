@@ -1,12 +1,12 @@
 -- What comes a byte at a time is the units of all bytes.
 use Rattle.std.proofs.Common.{ℕ, ◌≡◌, refl, ap, sym, ◌∙◌, false, List, [], ◌∷◌, ◌++◌, Option, Some, None, append_assoc}
-use Rattle.std.proofs.Common.{append-nil, take, length, get_or, ◌<◌, ◌+◌}
-use Rattle.std.proofs.lemmas.List.{take_more}
+use Rattle.std.proofs.Common.{take, drop, ◌+◌}
+use Rattle.std.proofs.Math.Seq.{take-add}
 use Rattle.mud_nvt.specs.declared.telnet.Piece.{Piece}
 use Rattle.mud_nvt.specs.declared.telnet.Place.TheVariants.{Between}
 use Rattle.mud_nvt.specs.Units.{Given, units}
 use Rattle.mud_nvt.specs.History.{TakesIn}
-use Rattle.mud_nvt.specs.Machine.{Held, start, next, next_place, finished_piece, after_piece, piece_units, byte_units}
+use Rattle.mud_nvt.specs.Machine.{Held, start, next, next_place, finished_piece, after_piece, piece_units}
 use Rattle.mud_nvt.specs.Machine.{run, run_units}
 use Rattle.mud_nvt.proofs.Cutting.{put, scan, pieces_is}
 use Rattle.mud_nvt.proofs.Typing.{walk, walk_is}
@@ -49,22 +49,22 @@ takes_in old new before after bytes n a = record {
       (run_units old bytes, a, units-append earlier bytes ∙ ap (λ h. units earlier ++ run_units h bytes) (sym s.is));
 }
 
--- after one byte more
-pub one_more_state : (h g n : Held) (bytes : List ℕ) (i : ℕ) → i < length bytes → g ≡ run h (take i bytes)
-    → n ≡ next g (get_or bytes i 0) → n ≡ run h (take (i + 1) bytes)
-one_more_state h g n bytes i l e f =
-    rw (take_more bytes i 0 l)
-    (f ∙ (ap (λ s. next s (get_or bytes i 0)) e ∙ sym (run-append (take i bytes) (get_or bytes i 0 ∷ []) h)))
+-- after the bytes that are taken next
+pub more_state : (h g n : Held) (bytes : List ℕ) (i k : ℕ) → g ≡ run h (take i bytes)
+    → n ≡ run g (take k (drop i bytes)) → n ≡ run h (take (i + k) bytes)
+more_state h g n bytes i k e f =
+    rw (take-add i k bytes)
+    (f
+    ∙ (ap (λ s. run s (take k (drop i bytes))) e ∙ sym (run-append (take i bytes) (take k (drop i bytes)) h)))
 
-pub one_more_given : (h g : Held) (old mid new : List Given) (bytes : List ℕ) (i : ℕ) → i < length bytes
-    → g ≡ run h (take i bytes) → mid ≡ old ++ run_units h (take i bytes) → new ≡ mid ++ byte_units g (get_or bytes i 0)
-    → new ≡ old ++ run_units h (take (i + 1) bytes)
-one_more_given h g old mid new bytes i l e m n =
+pub more_given : (h g : Held) (old mid new : List Given) (bytes : List ℕ) (i k : ℕ) → g ≡ run h (take i bytes)
+    → mid ≡ old ++ run_units h (take i bytes) → new ≡ mid ++ run_units g (take k (drop i bytes))
+    → new ≡ old ++ run_units h (take (i + k) bytes)
+more_given h g old mid new bytes i k e m n =
     rw (
-      take_more bytes i 0 l,
+      take-add i k bytes,
       run_units-append (take i bytes)
-          (get_or bytes i 0 ∷ []) h,
-      append-nil,
+          (take k (drop i bytes)) h,
       ← e,
       n,
       m,

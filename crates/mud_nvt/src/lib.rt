@@ -38,9 +38,10 @@
 #![tactic(auto)]
 
 ghost use Rattle.std.specs.Prelude.{◌≡◌, ◌≤◌, List, ℕ, [], ◌∷◌, ◌++◌, length, OnOk, OnErr, IfOk, IfErr, IsTrue, take};
-ghost use Rattle.std.specs.Prelude.{◌<◌, slice_index, All};
+ghost use Rattle.std.specs.Prelude.{◌+◌, ◌<◌, slice_index, All, IfSome};
 ghost use Rattle.std.specs.List.{list_any};
-ghost use Rattle.mud_nvt.specs.Machine.{next, byte_units, byte_strokes, after_stroke, stroke_units};
+ghost use Rattle.mud_nvt.specs.Machine.{next, byte_units, byte_strokes, after_stroke, stroke_units, run, run_units};
+ghost use Rattle.mud_nvt.specs.Typed.{IsTyped, with_text};
 ghost use Rattle.mud_nvt.specs.Memory.{takes_memory, StopsBefore};
 ghost use Rattle.mud_nvt.specs.Shown.{shown, all_shown};
 ghost use Rattle.mud_nvt.specs.Lines.{IsPlain, IsPrintable, IsSound};
@@ -50,6 +51,7 @@ mod codes;
 pub mod laws;
 mod strokes;
 mod telnet;
+mod typed;
 
 use codes::{CR, IAC, LF};
 use std::alloc::{AllocError, Allocator, Global};
@@ -58,6 +60,7 @@ use std::mem;
 use strokes::{Stroke, is_return, stroke_of};
 use telnet::{Place, step};
 use thiserror::Error;
+use typed::printable_len;
 
 /// The most characters that may stand in a line at once. This project's profile: RFC 854 sets no
 /// limit.
@@ -156,12 +159,72 @@ impl<A: Allocator + Clone + Drop> Nvt<A> {
         // Each text is of printable characters, and of 1,000 at most.
         ensures sound { All IsSound (all_shown units.old.items) → All IsSound (all_shown units.new.items) }
     {
-        for (taken, byte) in bytes.iter().enumerate() {
-            match self.take_byte(*byte, units) {
-                Ok(()) => {}
+        let mut taken = 0;
+        while taken < bytes.len() {
+            match self.take_front(&bytes[taken..], units) {
+                Ok(count) => taken += count,
                 Err(_) => return Err(Stop { taken }),
             }
         }
+        Ok(())
+    }
+
+    // Takes in the characters that stand in front, or else the first byte, and says how many bytes that is.
+    fn take_front(&mut self, bytes: &[u8], units: &mut Vec<Unit<A>, A>) -> Result<usize, AllocError>
+        requires { 0 < length bytes.now }
+        ensures some { IfOk result (λ n. 0 < n) }
+        ensures within { IfOk result (λ n. n ≤ length bytes.now) }
+        ensures state { IfOk result (λ n. self.new ≡ run self.old (take n bytes.now)) }
+        ensures given { IfOk result (λ n.
+            all_shown units.new.items ≡ all_shown units.old.items ++ run_units self.old (take n bytes.now)) }
+        ensures sound { All IsSound (all_shown units.old.items) → All IsSound (all_shown units.new.items) }
+        ensures err { OnErr result (self.new ≡ self.old) }
+        ensures err_units { OnErr result (all_shown units.new.items ≡ all_shown units.old.items) }
+        ensures memory { OnErr result (IsTrue (list_any takes_memory
+            (byte_strokes self.old (slice_index bytes.now 0)))) }
+    {
+        match self.typed(bytes) {
+            Some(text) => {
+                self.add_text(text)?;
+                Ok(text.len())
+            }
+            None => {
+                self.take_byte(bytes[0], units)?;
+                Ok(1)
+            }
+        }
+    }
+
+    // The characters in front, if there are any and all go to the end of the line.
+    fn typed<'a>(&self, bytes: &'a [u8]) -> Option<&'a str>
+        ensures { IfSome result (λ text. IsTyped self.now bytes.now text.now) }
+    {
+        if self.is_too_long {
+            return None;
+        }
+        let Place::Between = self.place else {
+            return None;
+        };
+        let room = MOST - self.line.len();
+        let len = printable_len(&bytes[..bytes.len().min(room)]);
+        if len == 0 {
+            return None;
+        }
+        match str::from_utf8(&bytes[..len]) {
+            Ok(text) => Some(text),
+            Err(_) => None,
+        }
+    }
+
+    // Adds characters at the end of the line.
+    fn add_text(&mut self, text: &str) -> Result<(), AllocError>
+        requires printable { All IsPrintable text.now }
+        requires short { length self.old.text + length text.now ≤ MOST }
+        ensures state { OnOk result (self.new ≡ with_text self.old text.now) }
+        ensures err { OnErr result (self.new ≡ self.old) }
+    {
+        self.line.push_str(text)?;
+        self.after_cr = false;
         Ok(())
     }
 

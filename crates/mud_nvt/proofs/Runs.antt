@@ -1,0 +1,123 @@
+-- Characters that are typed one after the other are the machine's steps, a byte at a time.
+use Rattle.std.proofs.Common.{ℕ, ◌≡◌, refl, ap, sym, ◌∙◌, ◌+◌, ◌<◌, ◌≤◌, arith, Bool, true, false, List, [], ◌∷◌}
+use Rattle.std.proofs.Common.{◌++◌, length, All}
+use Rattle.std.proofs.Common.{◌==◌, nat_le, nat_lt, append_assoc, append-nil, IsTrue}
+use Rattle.std.proofs.Common.{◌≢◌, ◌-◌, take, length-append, length-take, length-take-le}
+use Rattle.std.specs.List.{list_any}
+use Rattle.std.proofs.lemmas.List.{take-take}
+use Rattle.std.proofs.lemmas.List.Elements.{All-head, All-tail}
+use Rattle.std.proofs.lemmas.Bool.Decides.{nat_tests}
+use Rattle.mud_nvt.specs.declared.codes.TheConstants.{IAC, NUL, BS, HT, LF, CR, DEL, SPACE, TILDE}
+use Rattle.mud_nvt.specs.declared.TheConstants.{MOST}
+use Rattle.mud_nvt.specs.declared.telnet.Piece.TheVariants.{Data}
+use Rattle.mud_nvt.specs.declared.telnet.Place.TheVariants.{Between}
+use Rattle.mud_nvt.specs.declared.strokes.Stroke.TheVariants.{Character}
+use Rattle.mud_nvt.specs.Lines.{IsPrintable}
+use Rattle.mud_nvt.specs.Editing.{stroke}
+use Rattle.mud_nvt.specs.Memory.{takes_memory}
+use Rattle.mud_nvt.specs.Machine.{Held, next, byte_units, byte_strokes, run, run_units}
+use Rattle.mud_nvt.specs.Typed.{IsTyped, with_text}
+
+-- a terminal that is between two pieces, with a line that isn't too long
+abbrev pub typing : Bool → List ℕ → Held
+typing after_cr text = record { place = Between; after_cr = after_cr; text = text; too_long = false }
+
+is_no_iac : (b : ℕ) → IsPrintable b → (b == IAC) ≡ false
+is_no_iac b p = let l : SPACE ≤ b = p.0 in let m : b ≤ TILDE = p.1 in grind (arith, nat_tests)
+
+is_no_cr : (b : ℕ) → IsPrintable b → (b == CR) ≡ false
+is_no_cr b p = let l : SPACE ≤ b = p.0 in let m : b ≤ TILDE = p.1 in grind (arith, nat_tests)
+
+is_character : (after_cr : Bool) (b : ℕ) → IsPrintable b → stroke after_cr (Data b) ≡ Character b
+is_character after_cr b p =
+    let l : SPACE ≤ b = p.0 in
+    let m : b ≤ TILDE = p.1 in
+    let nul : (b == NUL) ≡ false = grind (arith, nat_tests) in
+    let bs : (b == BS) ≡ false = grind (arith, nat_tests) in
+    let ht : (b == HT) ≡ false = grind (arith, nat_tests) in
+    let lf : (b == LF) ≡ false = grind (arith, nat_tests) in
+    let del : (b == DEL) ≡ false = grind (arith, nat_tests) in
+    let from : nat_le SPACE b ≡ true = grind (arith, nat_tests) in
+    let to : nat_le b TILDE ≡ true = grind (arith, nat_tests) in
+    elim after_cr as (λ v. stroke v (Data b) ≡ Character b) [
+      | true ↦ rw (lf, nul, is_no_cr b p, ht, bs, del, from, to) refl
+      | false ↦ rw (lf, is_no_cr b p, ht, bs, del, from, to) refl
+    ]
+
+one_typed : (after_cr : Bool) (text : List ℕ) (b : ℕ) → IsPrintable b → length text < MOST
+    → next (typing after_cr text) b ≡ typing false (text ++ b ∷ [])
+one_typed after_cr text b p l =
+    let room : nat_lt (length text) MOST ≡ true = grind (arith, nat_tests) in
+    rw (is_no_iac b p, is_character after_cr b p, is_no_cr b p, room) refl
+
+one_gives_none : (after_cr : Bool) (text : List ℕ) (b : ℕ) → IsPrintable b → byte_units (typing after_cr text) b ≡ []
+one_gives_none after_cr text b p = rw (is_no_iac b p, is_character after_cr b p) refl
+
+one_takes_memory : (after_cr : Bool) (text : List ℕ) (b : ℕ) → IsPrintable b
+    → IsTrue (list_any takes_memory (byte_strokes (typing after_cr text) b))
+one_takes_memory after_cr text b p = rw (is_no_iac b p, is_character after_cr b p) refl
+
+run_typing : (bs text : List ℕ) → All IsPrintable bs → length text + length bs ≤ MOST
+    → run (typing false text) bs ≡ typing false (text ++ bs)
+run_typing [] text p l = ap (typing false) (sym (append-nil text))
+run_typing (b ∷ bs) text p l =
+    ap (λ h. run h bs) (one_typed false text b (All-head IsPrintable b bs p) (omega arith))
+    ∙ (run_typing bs (text ++ b ∷ []) (All-tail IsPrintable b bs p) (omega (arith, length-append {A = ℕ}))
+    ∙ ap (typing false) (append_assoc text (b ∷ []) bs))
+
+run_any : (after_cr : Bool) (text bs : List ℕ) → 0 < length bs → All IsPrintable bs → length text + length bs ≤ MOST
+    → run (typing after_cr text) bs ≡ typing false (text ++ bs)
+run_any after_cr text [] s p l = absurd (omega arith)
+run_any after_cr text (b ∷ bs) s p l =
+    ap (λ h. run h bs) (one_typed after_cr text b (All-head IsPrintable b bs p) (omega arith))
+    ∙ (run_typing bs (text ++ b ∷ []) (All-tail IsPrintable b bs p) (omega (arith, length-append {A = ℕ}))
+    ∙ ap (typing false) (append_assoc text (b ∷ []) bs))
+
+gives_none : (after_cr : Bool) (text bs : List ℕ) → All IsPrintable bs → length text + length bs ≤ MOST
+    → run_units (typing after_cr text) bs ≡ []
+gives_none after_cr text [] p l = refl
+gives_none after_cr text (b ∷ bs) p l =
+    rw (
+      one_gives_none after_cr text b (All-head IsPrintable b bs p),
+      one_typed after_cr text b (All-head IsPrintable b bs p) (omega arith),
+    ) (gives_none false (text ++ b ∷ []) bs (All-tail IsPrintable b bs p) (omega (arith, length-append {A = ℕ})))
+
+held_is : (h : Held) → h.place ≡ Between → h.too_long ≡ false → h ≡ typing h.after_cr h.text
+held_is h p t =
+    ap (λ q. record { place = q; after_cr = h.after_cr; text = h.text; too_long = h.too_long }) p
+    ∙ ap (λ v. record { place = Between; after_cr = h.after_cr; text = h.text; too_long = v }) t
+
+-- what is held after a text that is typed
+pub typed_state : (h : Held) (bytes text : List ℕ) → IsTyped h bytes text
+    → with_text h text ≡ run h (take (length text) bytes)
+typed_state h bytes text k =
+    rw (← k.front)
+    (rw (k.between, k.fits) refl
+    ∙ (sym (run_any h.after_cr h.text text k.some k.printable k.short)
+    ∙ ap (λ g. run g text) (sym (held_is h k.between k.fits))))
+
+-- it gives nothing
+pub typed_given : (h : Held) (bytes text : List ℕ) → IsTyped h bytes text
+    → run_units h (take (length text) bytes) ≡ []
+typed_given h bytes text k =
+    rw (← k.front)
+    (ap (λ g. run_units g text) (held_is h k.between k.fits)
+    ∙ gives_none h.after_cr h.text text k.printable k.short)
+
+-- a text of printable characters, found among as many bytes as the line has room for
+pub is_typed : (h : Held) (bytes text : List ℕ) (m len : ℕ) → h.place ≡ Between → h.too_long ≡ false
+    → length h.text ≤ MOST → m ≤ MOST - length h.text → len ≤ length (take m bytes) → len ≢ 0
+    → All IsPrintable (take len (take m bytes)) → text ≡ take len bytes → IsTyped h bytes text
+is_typed h bytes text m len p t o room w some all e =
+    let taken : length (take m bytes) ≤ length bytes = omega (arith, length-take {A = ℕ}) in
+    let short : length (take m bytes) ≤ m = omega (arith, length-take {A = ℕ}) in
+    let n : length text ≡ len = ap length e ∙ length-take-le len bytes (omega arith) in
+    record {
+      front = rw n e;
+      some = omega arith;
+      within = omega arith;
+      printable = rw e (rw (take-take len m bytes (omega arith)) at all);
+      between = p;
+      fits = t;
+      short = omega arith;
+    }

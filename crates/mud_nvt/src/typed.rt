@@ -1,0 +1,20 @@
+//! Characters that are typed one after the other.
+
+ghost use Rattle.std.specs.Prelude.{◌≤◌, All, length, take};
+ghost use Rattle.mud_nvt.specs.Lines.{IsPrintable};
+
+use crate::codes::{SPACE, TILDE};
+
+/// How many printable characters stand in front.
+pub fn printable_len(bytes: &[u8]) -> usize
+    ensures within { result ≤ length bytes.now }
+    ensures printable { All IsPrintable (take result bytes.now) }
+{
+    for (at, byte) in bytes.iter().enumerate() {
+        match *byte {
+            SPACE..=TILDE => {}
+            _ => return at,
+        }
+    }
+    bytes.len()
+}

@@ -24,9 +24,26 @@ pub(crate) fn push_words(
     Ok(())
 }
 
-/// The word that a text begins with, and what stands behind the space that ends it. What lies
-/// between two marks is copied at once.
+/// The word that a text begins with, and what stands behind the space that ends it.
 pub(crate) fn first_word(alloc: Global, text: &str) -> Result<(String, &str), AllocError>
+    ensures words { IfOk result (λ r. rest_words (Some []) (pieces text.now)
+        ≡ string_bytes r.0 ∷ plain_words r.1.now) }
+    ensures rest { IfOk result (λ r. r.1.now ≡ after_first_word text.now) }
+{
+    let bytes = text.as_bytes();
+    for at in 0..bytes.len() {
+        match bytes[at] {
+            b' ' => return Ok((String::from_str(alloc, &text[..at])?, &text[at + 1..])),
+            b'"' | b'\\' => return marked_word(alloc, text),
+            _ => {}
+        }
+    }
+    Ok((String::from_str(alloc, text)?, ""))
+}
+
+// The same where quotes and backslashes may stand in the word. What lies between two marks is copied
+// at once.
+fn marked_word(alloc: Global, text: &str) -> Result<(String, &str), AllocError>
     ensures words { IfOk result (λ r. rest_words (Some []) (pieces text.now)
         ≡ string_bytes r.0 ∷ plain_words r.1.now) }
     ensures rest { IfOk result (λ r. r.1.now ≡ after_first_word text.now) }

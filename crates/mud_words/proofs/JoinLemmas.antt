@@ -1,6 +1,7 @@
 -- Words that are joined by spaces.
 use Rattle.std.proofs.Common.{◌≡◌, ℕ, List, [], ◌∷◌, ◌++◌, map, take, drop, Option, Some, None, option_map, refl, ap}
-use Rattle.std.specs.List.{join_by}
+use Rattle.std.proofs.Common.{◌∙◌, ◌<◌, ◌≤◌, length, get_or, take_all, arith}
+use Rattle.std.specs.List.{join_by, flat_map}
 use Rattle.std.proofs.lemmas.List.{append-nil, take-map, drop-map}
 use Rattle.mud_words.specs.declared.prepositions.Spot.{Spot}
 use Rattle.mud_words.specs.Prepositions.{Found, counted}
@@ -12,6 +13,17 @@ pub joined_by : {X : Type 0} (f : X → List ℕ) (xs : List X) → join_by f (3
 joined_by f [] = refl
 joined_by f (x ∷ []) = append-nil (f x)
 joined_by f (x ∷ y ∷ xs) = ap (λ (l : List ℕ). f x ++ (32 ∷ l)) (joined_by f (y ∷ xs))
+
+-- the first word, and each other one with a space in front
+pub joined_from : {X : Type 0} (f : X → List ℕ) (xs : List X) (x : X) (n : ℕ) (text : List ℕ) → 0 < length xs
+    → x ≡ get_or xs 0 x → length (drop 1 xs) ≤ n → text ≡ f x ++ flat_map (λ y. 32 ∷ f y) (take n (drop 1 xs))
+    → text ≡ joined (map f xs)
+joined_from f [] x n text some first all is = absurd (omega arith)
+joined_from f (y ∷ ys) x n text some first all is =
+    is
+    ∙ ap (λ (l : List ℕ). l ++ flat_map (λ y. 32 ∷ f y) (take n ys)) (ap f first)
+    ∙ ap (λ zs. f y ++ flat_map (λ y. 32 ∷ f y) zs) (take_all n ys all)
+    ∙ joined_by f (y ∷ ys)
 
 round_is : {X : Type 0} (f : X → List ℕ) (verb rest direct indirect : List ℕ) (xs : List X) (spot : Spot)
     (o : Option Found) → Some spot ≡ option_map spot_of o → direct ≡ joined (map f (take spot.start xs))

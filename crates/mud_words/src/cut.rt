@@ -32,7 +32,12 @@ pub(crate) fn first_word(alloc: Global, text: &str) -> Result<(String, &str), Al
 {
     let bytes = text.as_bytes();
     for at in 0..bytes.len() {
-        match bytes[at] {
+        let byte = bytes[at];
+        // Small letters stand behind all three in ASCII.
+        if byte > b'\\' {
+            continue;
+        }
+        match byte {
             b' ' => return Ok((String::from_str(alloc, &text[..at])?, &text[at + 1..])),
             b'"' | b'\\' => return marked_word(alloc, text),
             _ => {}

@@ -87,5 +87,23 @@ fn objects_of(alloc: Global, args: &[String]) -> Result<Objects, AllocError>
 fn joined(alloc: Global, words: &[String]) -> Result<String, AllocError>
     ensures { IfOk result (λ text. string_bytes text ≡ joined (map string_bytes words.now)) }
 {
-    words.join(alloc, " ")
+    let [first, others @ ..] = words else {
+        return Ok(String::new(alloc));
+    };
+    let mut text = String::with_capacity(alloc, room_for(words))?;
+    text.push_str(first.as_str())?;
+    for word in others {
+        text.push_str(" ")?;
+        text.push_str(word.as_str())?;
+    }
+    Ok(text)
+}
+
+// The bytes of the words and one more for each: room for them, joined.
+fn room_for(words: &[String]) -> usize {
+    let mut room: usize = 0;
+    for word in words {
+        room = room.saturating_add(word.len()).saturating_add(1);
+    }
+    room
 }

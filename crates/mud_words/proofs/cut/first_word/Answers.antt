@@ -1,4 +1,4 @@
-use Rattle.std.proofs.Common.{ℕ, ◌≡◌, ◌<◌, ap, sym, refl, ◌∙◌, [], false, length, get_or, arith}
+use Rattle.std.proofs.Common.{ap, sym, refl, ◌∙◌, [], false, arith}
 use Rattle.std.proofs.lemmas.Str.{IsCharBoundary-after_ascii}
 use Rattle.mud_words.specs.declared.piece.Piece.TheVariants.{Gap}
 use Rattle.mud_words.specs.Words.{piece, quoted_after, escaped_after}

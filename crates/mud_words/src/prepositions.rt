@@ -44,51 +44,68 @@ fn phrase_at(words: &[String]) -> Option<(Prep, usize)>
     first_said(phrases_with(letter.to_ascii_lowercase()), words)
 }
 
-// The phrases that begin with a letter, those of more words first.
+// The phrases that begin with each letter, those of more words first.
+const WITH_A: &[(Prep, &[&str])] = &[
+    (Prep::To, &["at"]),
+    (Prep::For, &["about"]),
+    (Prep::As, &["as"]),
+];
+
+const WITH_B: &[(Prep, &[&str])] = &[
+    (Prep::Under, &["beneath"]),
+    (Prep::Behind, &["behind"]),
+    (Prep::Beside, &["beside"]),
+];
+
+const WITH_F: &[(Prep, &[&str])] = &[
+    (Prep::OutOf, &["from", "inside"]),
+    (Prep::OutOf, &["from"]),
+    (Prep::For, &["for"]),
+];
+
+const WITH_I: &[(Prep, &[&str])] = &[
+    (Prep::InFrontOf, &["in", "front", "of"]),
+    (Prep::In, &["in"]),
+    (Prep::In, &["inside"]),
+    (Prep::In, &["into"]),
+    (Prep::Is, &["is"]),
+];
+
+const WITH_O: &[(Prep, &[&str])] = &[
+    (Prep::OnTopOf, &["on", "top", "of"]),
+    (Prep::OutOf, &["out", "of"]),
+    (Prep::Off, &["off", "of"]),
+    (Prep::OnTopOf, &["on"]),
+    (Prep::OnTopOf, &["onto"]),
+    (Prep::Over, &["over"]),
+    (Prep::Off, &["off"]),
+];
+
+const WITH_T: &[(Prep, &[&str])] = &[(Prep::To, &["to"]), (Prep::Through, &["through"])];
+
+const WITH_U: &[(Prep, &[&str])] = &[
+    (Prep::With, &["using"]),
+    (Prep::OnTopOf, &["upon"]),
+    (Prep::Under, &["under"]),
+    (Prep::Under, &["underneath"]),
+];
+
+const WITH_W: &[(Prep, &[&str])] = &[(Prep::With, &["with"])];
+
+// The phrases that begin with a letter.
 fn phrases_with(letter: u8) -> &'static [(Prep, &'static [&'static str])]
     ensures { (c : ℕ) (cs : List ℕ) (ws : List (List ℕ)) → to_ascii_lowercase c ≡ letter
         → find (λ p. begins ((c ∷ cs) ∷ ws) p.words) (map shown result.now) ≡ phrase_at ((c ∷ cs) ∷ ws) }
 {
     match letter {
-        b'a' => &[
-            (Prep::To, &["at"]),
-            (Prep::For, &["about"]),
-            (Prep::As, &["as"]),
-        ],
-        b'b' => &[
-            (Prep::Under, &["beneath"]),
-            (Prep::Behind, &["behind"]),
-            (Prep::Beside, &["beside"]),
-        ],
-        b'f' => &[
-            (Prep::OutOf, &["from", "inside"]),
-            (Prep::OutOf, &["from"]),
-            (Prep::For, &["for"]),
-        ],
-        b'i' => &[
-            (Prep::InFrontOf, &["in", "front", "of"]),
-            (Prep::In, &["in"]),
-            (Prep::In, &["inside"]),
-            (Prep::In, &["into"]),
-            (Prep::Is, &["is"]),
-        ],
-        b'o' => &[
-            (Prep::OnTopOf, &["on", "top", "of"]),
-            (Prep::OutOf, &["out", "of"]),
-            (Prep::Off, &["off", "of"]),
-            (Prep::OnTopOf, &["on"]),
-            (Prep::OnTopOf, &["onto"]),
-            (Prep::Over, &["over"]),
-            (Prep::Off, &["off"]),
-        ],
-        b't' => &[(Prep::To, &["to"]), (Prep::Through, &["through"])],
-        b'u' => &[
-            (Prep::With, &["using"]),
-            (Prep::OnTopOf, &["upon"]),
-            (Prep::Under, &["under"]),
-            (Prep::Under, &["underneath"]),
-        ],
-        b'w' => &[(Prep::With, &["with"])],
+        b'a' => WITH_A,
+        b'b' => WITH_B,
+        b'f' => WITH_F,
+        b'i' => WITH_I,
+        b'o' => WITH_O,
+        b't' => WITH_T,
+        b'u' => WITH_U,
+        b'w' => WITH_W,
         _ => &[],
     }
 }

@@ -94,7 +94,7 @@ stroke_units_is AreYouThere earlier too_long text k = refl
 stroke_units_is (Refuse verb option) earlier too_long text k = refl
 stroke_units_is Nothing earlier too_long text k = refl
 
--- what these pieces do, the first of them right behind a CR or not
+-- what these pieces do, the first of them right after a CR or not
 abbrev pub strokes_behind : Bool → List Piece → List Stroke
 strokes_behind after_cr ps = map (λ p. stroke p.0 p.1) (zip (after_cr ∷ map is_cr ps) ps)
 

@@ -1,5 +1,5 @@
 -- What the pieces do to the line that is being typed. Pieces lie side by side, commands, requests and subnegotiations
--- among them, and a CR, LF or NUL of data is a piece of one byte: so the very next byte behind a CR is a LF just where
+-- among them, and a CR, LF or NUL of data is a piece of one byte: so the very next byte after a CR is a LF just where
 -- the next piece is one, and in CR, IAC NOP, LF the command lies between.
 use Rattle.std.specs.Prelude.{ℕ, List, [], ◌∷◌, ◌++◌, length, take, map, ◌-◌, ◌==◌, ◌||◌, ◌&&◌, nat_lt, nat_le, Bool}
 use Rattle.std.specs.Prelude.{false, if◌then◌else◌}
@@ -18,7 +18,7 @@ abbrev pub is_cr : Piece → Bool
 is_cr (Data b) = b == CR
 is_cr other = false
 
--- what a piece does, right behind a CR or not: CR and LF end the line, but for a LF or NUL right behind a CR; DO is
+-- what a piece does, right after a CR or not: CR and LF end the line, but for a LF or NUL right after a CR; DO is
 -- refused by WONT, WILL by DONT, and WONT and DONT are never answered
 abbrev pub stroke : Bool → Piece → Stroke
 stroke after_cr (Data b) =

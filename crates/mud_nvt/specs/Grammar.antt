@@ -5,7 +5,7 @@ use Rattle.mud_nvt.specs.declared.telnet.Piece.{Piece}
 use Rattle.mud_nvt.specs.declared.telnet.Piece.TheVariants.{Data, Command, Request, Subnegotiation}
 use Rattle.mud_nvt.specs.Telnet.{is_verb}
 
--- what may stand inside a subnegotiation: bytes, and IAC with another byte than SE behind it
+-- what may stand inside a subnegotiation: bytes, and IAC with another byte than SE after it
 pub data IsInside : List ℕ → Type 0 where
   at_end : IsInside []
   a_byte : (b : ℕ) (bytes : List ℕ) → (b == IAC) ≡ false → IsInside bytes → IsInside (b ∷ bytes)

@@ -16,7 +16,7 @@ takes_memory EraseLine = false
 takes_memory Nothing = false
 takes_memory other = true
 
--- whatever came earlier, behind these bytes the byte finishes a piece whose stroke may take memory
+-- whatever came earlier, after these bytes the byte finishes a piece whose stroke may take memory
 pub record StopsBefore (old : Held) (bytes : List ℕ) (b : ℕ) : Type 0 where
   pub here : (earlier : List ℕ) → StandsAfter old earlier → (fresh : List Stroke)
       × (strokes (pieces ((earlier ++ bytes) ++ b ∷ [])) ≡ strokes (pieces (earlier ++ bytes)) ++ fresh)

@@ -4,7 +4,7 @@ use Rattle.mud_nvt.specs.declared.codes.TheConstants.{IAC, SE, SB, WILL, WONT, D
 use Rattle.mud_nvt.specs.declared.telnet.Piece.{Piece}
 use Rattle.mud_nvt.specs.declared.telnet.Piece.TheVariants.{Data, Command, Request, Subnegotiation}
 
--- what follows the IAC SE that ends a subnegotiation: IAC and the byte behind it belong together,
+-- what follows the IAC SE that ends a subnegotiation: IAC and the byte after it belong together,
 -- and where that byte is no SE both are skipped
 abbrev pub behind_end : List ℕ → Option (List ℕ)
 behind_end [] = None

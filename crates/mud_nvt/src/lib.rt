@@ -41,7 +41,7 @@ ghost use Rattle.std.specs.Prelude.{◌≡◌, ◌≤◌, List, ℕ, [], ◌∷�
 ghost use Rattle.std.specs.Prelude.{◌+◌, ◌<◌, slice_index, All, IfSome};
 ghost use Rattle.std.specs.List.{list_any};
 ghost use Rattle.mud_nvt.specs.Machine.{next, byte_units, byte_strokes, after_stroke, stroke_units, run, run_units};
-ghost use Rattle.mud_nvt.specs.Typed.{IsTyped, with_text};
+ghost use Rattle.mud_nvt.specs.Inner.{IsTyped, with_text};
 ghost use Rattle.mud_nvt.specs.Memory.{takes_memory, StopsBefore};
 ghost use Rattle.mud_nvt.specs.Shown.{shown, all_shown};
 ghost use Rattle.mud_nvt.specs.Lines.{IsPlain, IsPrintable, IsSound};
@@ -73,7 +73,7 @@ pub enum Unit<A: Allocator = Global> {
     /// at most 1,000 (RFC 854, "The NVT printer and keyboard").
     Text(String<A>),
     /// A line that was ended, and in which more than 1,000 characters stood at once since its
-    /// start or the last EL (this project's profile).
+    /// start or the last EL.
     TooLong,
     /// AYT: the other side asks for a visible sign that anyone is there (RFC 854, "Standard
     /// representation of control functions").

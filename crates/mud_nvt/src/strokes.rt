@@ -26,7 +26,7 @@ pub enum Stroke {
     Nothing,
 }
 
-/// What the piece does, where it stands right behind a CR or not.
+/// What the piece does, where it stands right after a CR or not.
 pub fn stroke_of(after_cr: bool, piece: Piece) -> Stroke
     ensures stroke { result ≡ stroke after_cr piece }
     ensures plain { IsPlain result }

@@ -23,13 +23,13 @@ pub enum Piece {
 pub enum Place {
     /// No piece has begun.
     Between,
-    /// Behind IAC.
+    /// After IAC.
     BehindIac,
-    /// Behind IAC and this verb.
+    /// After IAC and this verb.
     BehindVerb(u8),
     /// Inside a subnegotiation.
     Inside,
-    /// Inside a subnegotiation, behind IAC.
+    /// Inside a subnegotiation, after IAC.
     InsideBehindIac,
 }
 

@@ -55,7 +55,7 @@ found_none : (test : Phrase → Bool) (qs : List Phrase) (p : Phrase) → find t
 found_none test [] p is h = absurd h
 found_none test (q ∷ qs) p is h = none_step test q qs p (find test qs) (test q) refl is h (λ k. found_none test qs p k)
 
--- each phrase has as many words as any behind it
+-- each phrase has as many words as any after it
 abbrev below : Phrase → List Phrase → Bool
 below q qs = list_all (λ p. nat_le (length p.words) (length q.words)) qs
 

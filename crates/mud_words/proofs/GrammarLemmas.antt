@@ -37,7 +37,7 @@ byte_goes : (v : List ℕ) (b : ℕ) (rest : List ℕ) → b ≢ 34 → b ≢ 92
 byte_goes v b rest quote slash =
     rw (other b 34 quote, other b 92 slash) (onto v b (slice_split is_gap (pieces_from true false rest)))
 
--- a backslash and the byte behind it
+-- a backslash and the byte after it
 slash_goes : (v : List ℕ) (inside : Bool) (b : ℕ) (rest : List ℕ)
     → goes v inside false (92 ∷ b ∷ rest) ≡ goes (v ++ b ∷ []) inside false rest
 slash_goes v inside b rest =
@@ -143,8 +143,8 @@ with_quoted grammar.nothing more = more
 with_quoted (grammar.byte quote slash q) more = grammar.byte quote slash (with_quoted q more)
 with_quoted (grammar.guarded q) more = grammar.guarded (with_quoted q more)
 
--- the lines that end in this text, by where it begins: at the start of a line; in a word; behind a backslash; between
--- quotes; behind a backslash between quotes
+-- the lines that end in this text, by where it begins: at the start of a line; in a word; after a backslash; between
+-- quotes; after a backslash between quotes
 record Reads (text : List ℕ) : Type 0 where
   starts : HasWords text (plain_words text)
   in_word : {x w : List ℕ} → SpellsWord x w → HasWords (x ++ text) (goes w false false text)
@@ -196,7 +196,7 @@ go_on_with b rest {x} {w} (inr space) (inr quote) (inr slash) reads word =
     line_is (sym (append_assoc x (b ∷ []) rest)) (plain_goes w b rest space quote slash)
     (reads.in_word (grammar.more word (grammar.plain space quote slash)))
 
--- a byte behind a backslash in a word
+-- a byte after a backslash in a word
 slash_with : (b : ℕ) (rest : List ℕ) {x v : List ℕ} → Reads rest → Front x v
     → HasWords (x ++ 92 ∷ b ∷ rest) (goes v false true (b ∷ rest))
 slash_with b rest {x} {v} reads front =
@@ -223,7 +223,7 @@ quote_with b rest {x} {v} {y} {w} (inr quote) (inr slash) reads front q =
     (byte_goes (v ++ w) b rest quote slash ∙ ap (λ l. goes l true false rest) (append_assoc v w (b ∷ [])))
     (reads.quoted front (with_quoted q (grammar.byte quote slash grammar.nothing)))
 
--- a byte behind a backslash between quotes
+-- a byte after a backslash between quotes
 quote_slash_with : (b : ℕ) (rest : List ℕ) {x v y w : List ℕ} → Reads rest → Front x v → SpellsQuoted y w
     → HasWords (x ++ 34 ∷ (y ++ 92 ∷ b ∷ rest)) (goes (v ++ w) true true (b ∷ rest))
 quote_slash_with b rest {x} {v} {y} {w} reads front q =
@@ -248,8 +248,8 @@ reads_text (b ∷ rest) = reads_byte b rest (cases_eq b 32) (cases_eq b 34) (cas
 pub spelled : (line : List ℕ) (ws : List (List ℕ)) → plain_words line ≡ ws → HasWords line ws
 spelled line ws same = line_is refl (sym same) (reads_text line).starts
 
--- ---- what stands behind the first word
--- what stands behind the first gap of a text, with these flags
+-- ---- what stands after the first word
+-- what stands after the first gap of a text, with these flags
 abbrev behind : Bool → Bool → List ℕ → List ℕ
 behind quoted escaped text = from_gap (pieces_from quoted escaped text) text
 

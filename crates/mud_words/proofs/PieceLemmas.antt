@@ -1,4 +1,4 @@
--- What a byte is to its word, and the text behind it.
+-- What a byte is to its word, and the text after it.
 use Rattle.std.proofs.Common.{◌≡◌, ℕ, suc, ◌+◌, ◌<◌, Bool, true, false, not, ◌&&◌, ◌||◌, cond, eqb, List, ◌∷◌, drop}
 use Rattle.std.proofs.Common.{refl, inl, inr, arith}
 use Rattle.std.proofs.lemmas.Bool.Decides.{nat_tests}
@@ -32,7 +32,7 @@ of_char true gap b d e = cc
 of_char false true b d e = cc
 of_char false false b d e = cc
 
--- behind a gap nothing is open
+-- after a gap nothing is open
 open_tests : (quoted space quote slash : Bool) (b : ℕ)
     → Gap ≡ cond (slash || quote) Mark (cond (not quoted && space) Gap (Char b))
     → (cond quote (not quoted) quoted ≡ false) × (slash ≡ false)
@@ -46,7 +46,7 @@ pub after_gap : (quoted escaped : Bool) (b : ℕ) → Gap ≡ piece quoted escap
 after_gap quoted true b gap = cc
 after_gap quoted false b gap = open_tests quoted (eqb b 32) (eqb b 34) (eqb b 92) b gap
 
--- what stands behind the first gap
+-- what stands after the first gap
 abbrev pub from_gap : List Piece → List ℕ → List ℕ
 from_gap ps text = drop (position_or_len is_gap ps + 1) text
 

@@ -191,7 +191,7 @@ end_rest text word start at quoted escaped end read =
     sym (ap (λ (t : List ℕ). from_gap (pieces_from quoted escaped t) t) (drop_all at text end)) ∙ read.rest
 
 -- ---- the words of a text, one by one
--- a text that begins with no space has the word that it begins with, and those behind
+-- a text that begins with no space has the word that it begins with, and those after
 begun_with : (p : Piece) (parts : List (List Piece)) → texts_of (onto_first p parts) ≡ goes_on [] (onto_first p parts)
 begun_with p [] = refl
 begun_with p (part ∷ parts) = refl
@@ -233,7 +233,7 @@ without_front-length (b ∷ bs) = front b bs (is_space b) (without_front-length 
     front b bs true le = omega arith
     front b bs false le = omega arith
 
--- less is left behind the first word
+-- less is left after the first word
 pub less_left : (text rest text' : List ℕ) → 0 < length text → rest ≡ after_first_word text → text' ≡ without_front rest
     → length text' < length text
 less_left text rest text' some behind left =

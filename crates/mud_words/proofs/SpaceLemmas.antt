@@ -40,7 +40,7 @@ none_left r (Some n, h, u) =
 pub trimmed_in_front : (s r : List ℕ) → IsTrimStartMatches (FindsCharPrefix 32) s r → r ≡ without_front s
 trimmed_in_front s r ((ns, cuts), full) = sym (same_behind_cuts s ns r cuts ∙ none_left r full)
 
--- ---- behind
+-- ---- after
 
 last_space : (m : List ℕ) (n : ℕ) → FindsCharSuffix 32 m (Some n) → m ≡ take (length m - n) m ++ 32 ∷ []
 last_space m n h =

@@ -3,13 +3,13 @@
 -- quote, 92 a backslash.
 use Rattle.std.specs.Prelude.{◌≢◌, ℕ, List, [], ◌∷◌, ◌++◌, codes}
 
--- what stands between two quotes, and its characters: bytes but quotes and backslashes, and any byte behind a backslash
+-- what stands between two quotes, and its characters: bytes but quotes and backslashes, and any byte after a backslash
 pub data SpellsQuoted : List ℕ → List ℕ → Type 0 where
   nothing : SpellsQuoted [] []
   byte : {b : ℕ} {x text : List ℕ} → b ≢ 34 → b ≢ 92 → SpellsQuoted x text → SpellsQuoted (b ∷ x) (b ∷ text)
   guarded : {b : ℕ} {x text : List ℕ} → SpellsQuoted x text → SpellsQuoted (codes "\\" ++ b ∷ x) (b ∷ text)
 
--- a run of a word, and its characters: one plain byte, any byte behind a backslash, or what stands between quotes
+-- a run of a word, and its characters: one plain byte, any byte after a backslash, or what stands between quotes
 pub data SpellsRun : List ℕ → List ℕ → Type 0 where
   plain : {b : ℕ} → b ≢ 32 → b ≢ 34 → b ≢ 92 → SpellsRun (b ∷ []) (b ∷ [])
   escaped : {b : ℕ} → SpellsRun (codes "\\" ++ b ∷ []) (b ∷ [])

@@ -33,7 +33,7 @@ PlainLinesSplitAtSpaces =
 abbrev pub WordsAreSpelled : Type 0
 WordsAreSpelled = (line : List ℕ) (ws : List (List ℕ)) → (plain_words line ≡ ws) ↔ HasWords line ws
 
--- what stands behind the first word of a line is what follows the space that ends it, and nothing where there is none
+-- what stands after the first word of a line is what follows the space that ends it, and nothing where there is none
 pub record RestFollowsFirstWord : Type 0 where
   pub follows : {x w : List ℕ} → SpellsWord x w → (rest : List ℕ) → after_first_word (x ++ codes " " ++ rest) ≡ rest
   pub nothing : {x w : List ℕ} → SpellsLast x w → after_first_word x ≡ []

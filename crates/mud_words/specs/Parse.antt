@@ -6,7 +6,7 @@ use Rattle.mud_words.specs.Words.{words, after_first_word, without_front, withou
 use Rattle.mud_words.specs.Line.{Line}
 use Rattle.mud_words.specs.Prepositions.{Found, lower, counted}
 
--- the objects round a preposition: the words before it are direct, those behind it indirect; without one all are direct
+-- the objects round a preposition: the words before it are direct, those after it indirect; without one all are direct
 abbrev pub round : List ℕ → List (List ℕ) → List ℕ → Option Found → Line
 round verb args rest found = record {
   verb = verb;
@@ -22,7 +22,7 @@ abbrev pub said : List (List ℕ) → List ℕ → Line
 said [] rest = round [] [] rest None
 said (verb ∷ args) rest = round (lower verb) args rest (counted args)
 
--- what a line says: what its words say, with the text behind the first of them, without the spaces at its ends
+-- what a line says: what its words say, with the text after the first of them, without the spaces at its ends
 unfoldable pub parsed : List ℕ → Line
 parsed line =
     said (words line) (without_back (without_front (after_first_word (spelled_out (without_front line)))))

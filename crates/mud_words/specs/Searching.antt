@@ -9,7 +9,7 @@ use Rattle.mud_words.specs.declared.prepositions.Spot.{Spot}
 use Rattle.mud_words.specs.Parse.{round}
 use Rattle.std.specs.List.{join_with_byte}
 
--- which preposition it is, and the places before and behind its words
+-- which preposition it is, and the places before and after its words
 abbrev pub spot_of : Found → Spot
 spot_of f = record { prep = f.phrase.prep; start = f.place; end = f.place + length f.phrase.words }
 

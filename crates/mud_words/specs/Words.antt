@@ -16,7 +16,7 @@ piece quoted escaped b =
     else if not escaped && not quoted && b == 32 then Gap
     else Char b
 
--- whether a quote is open behind the byte
+-- whether a quote is open after the byte
 abbrev pub quoted_after : Bool → Bool → ℕ → Bool
 quoted_after quoted escaped b = if not escaped && b == 34 then not quoted else quoted
 
@@ -61,7 +61,7 @@ texts_of stretches = map text_of (filter is_word stretches)
 abbrev pub plain_words : List ℕ → List (List ℕ)
 plain_words line = texts_of (slice_split is_gap (pieces line))
 
--- what stands behind the first word of a line. A reader need not look into this: `laws::rest` says what it is
+-- what stands after the first word of a line. A reader need not look into this: `laws::rest` says what it is
 abbrev pub after_first_word : List ℕ → List ℕ
 after_first_word line = drop (position_or_len is_gap (pieces line) + 1) line
 

@@ -24,7 +24,7 @@ pub(crate) fn push_words(
     Ok(())
 }
 
-/// The word that a text begins with, and what stands behind the space that ends it.
+/// The word that a text begins with, and what stands after the space that ends it.
 pub(crate) fn first_word(alloc: Global, text: &str) -> Result<(String, &str), AllocError>
     ensures words { IfOk result (λ r. rest_words (Some []) (pieces text.now)
         ≡ string_bytes r.0 ∷ plain_words r.1.now) }
@@ -33,7 +33,7 @@ pub(crate) fn first_word(alloc: Global, text: &str) -> Result<(String, &str), Al
     let bytes = text.as_bytes();
     for at in 0..bytes.len() {
         let byte = bytes[at];
-        // Small letters stand behind all three in ASCII.
+        // Small letters stand after all three in ASCII.
         if byte > b'\\' {
             continue;
         }

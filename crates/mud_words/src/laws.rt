@@ -25,13 +25,13 @@ pub fn plain_words()
 {}
 
 /// The words of a line are those that the grammar gives it, and no others: a word is of characters
-/// that stand for themselves, of backslashes each with the character behind it, and of what stands
+/// that stand for themselves, of backslashes each with the character after it, and of what stands
 /// between two quotes; an open quote or a lone backslash stands at the end of the line alone.
 pub fn grammar()
     ensures { WordsAreSpelled }
 {}
 
-/// What stands behind the first word is what follows the space that ends it, to the last byte.
+/// What stands after the first word is what follows the space that ends it, to the last byte.
 pub fn rest()
     ensures { RestFollowsFirstWord }
 {}

@@ -17,8 +17,8 @@
 //!
 //! [`words`] gives the words, [`parse`] all that the line says, and [`is_blank`] tells whether it
 //! has words at all. Each takes a line of any length, in time that grows with it in proportion,
-//! and keeps every character of it, also past ASCII. The one error is [`AllocError`], for want of
-//! memory.
+//! and keeps every character of it, also past ASCII. The one error is [`AllocError`], where memory
+//! runs out.
 //!
 //! ```
 //! let parsed = parse(rt.alloc(), "@DIG north|south  to \"Big Library\"  ")?;
@@ -32,7 +32,7 @@
 //! Proved: the answers are exactly those of the definitions in `specs/`, [`words`] those of
 //! `Words.antt` and [`parse`] those of `Parse.antt` with the table in `Prepositions.antt`. The
 //! functions of [`laws`] prove that these definitions say what they are meant to: that a line has
-//! exactly the words that the grammar in `Grammar.antt` gives it, that what stands behind the first
+//! exactly the words that the grammar in `Grammar.antt` gives it, that what stands after the first
 //! word is what follows the space that ends it, that words written between quotes read back, that
 //! a line without quotes is cut at its spaces, and which preposition counts.
 #![tactic(auto)]
@@ -143,7 +143,7 @@ pub fn parse(alloc: Global, line: &str) -> Result<Parsed, AllocError>
     }
 }
 
-// The first word of a line, its shorthand spelled out, and the text behind it. A blank line has none.
+// The first word of a line, its shorthand spelled out, and the text after it. A blank line has none.
 #[tactic(auto, unfolding(crate::specs::Words::words))]
 fn verb_and_text(alloc: Global, line: &str) -> Result<Option<(String, &str)>, AllocError>
     ensures words { IfOk result (λ v. MatchOption v (without_front line.now ≡ [])

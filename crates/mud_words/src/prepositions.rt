@@ -7,7 +7,7 @@ ghost use Rattle.mud_words.specs.Searching.{shown, texts, spot_of, phrase_len};
 
 use crate::Prep;
 
-/// The words of a line that are a preposition: which, and the places before and behind them.
+/// The words of a line that are a preposition: which, and the places before and after them.
 #[derive(Clone, Copy)]
 pub(crate) struct Spot {
     pub prep: Prep,

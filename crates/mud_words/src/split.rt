@@ -10,7 +10,7 @@ use crate::spaces::{without_back, without_front};
 use crate::{Parsed, Prep};
 use std::alloc::{AllocError, Global};
 
-/// What a line says that has a verb, and this text behind it.
+/// What a line says that has a verb, and this text after it.
 pub(crate) fn said(alloc: Global, mut verb: String, text: &str) -> Result<Parsed, AllocError>
     ensures { IfOk result (λ p. line_of p
         ≡ said (string_bytes verb ∷ plain_words text.now) (without_back (without_front text.now))) }

@@ -7,10 +7,13 @@ ghost use Rattle.mud_world.specs.State.{is_number, key_of, place_of};
 ghost use Rattle.mud_rules.specs.Answers.{kind_text, look_text, inventory_text, key_of_text, show_text};
 
 use crate::View;
-use crate::listing::{push_entry, push_listed, push_listed_under};
+use crate::listing::{push_about, push_entry, push_listed, push_listed_under};
 use mud_key::print;
 use mud_world::{Kind, World};
 use std::alloc::{AllocError, Global};
+
+// Room for what most objects look like.
+const LOOK: usize = 240;
 
 /// What a player is shown of a world, its lines joined by LF (docs/COMMANDS.md, "What is answered"). Without
 /// a player there is no room to look at and nothing in hand: these two answers are empty then.
@@ -33,23 +36,16 @@ pub fn show(
     }
 }
 
-fn push_kind(
-    text: &mut String,
-    alloc: Global,
-    world: &World,
-    number: u32,
-    kind: Kind,
-) -> Result<(), AllocError>
+fn push_kind(text: &mut String, world: &World, number: u32, kind: Kind) -> Result<(), AllocError>
     ensures { OnOk result (string_bytes text.new
         ≡ string_bytes text.old ++ kind_text world.now number kind) }
 {
     match kind {
-        Kind::Room => push_listed_under(text, alloc, world, "exits ", world.leaving(number)),
+        Kind::Room => push_listed_under(text, world, "exits ", world.leaving(number)),
         Kind::Exit(passage) => {
-            let source = passage.source;
-            let destination = passage.destination;
-            let cost = passage.cost;
-            text.push_str(&format!(in alloc; "\n  from #{source} to #{destination} cost {cost}")?)
+            push_about(text, "\n  from #", passage.source)?;
+            push_about(text, " to #", passage.destination)?;
+            push_about(text, " cost ", passage.cost)
         }
         Kind::Thing { .. } | Kind::Player { .. } => Ok(()),
     }
@@ -63,12 +59,12 @@ fn look_text(
 ) -> Result<String, AllocError>
     ensures { IfOk result (λ text. string_bytes text ≡ look_text world.now player number) }
 {
-    let mut text = String::new(alloc);
-    push_entry(&mut text, alloc, world, number)?;
+    let mut text = String::with_capacity(alloc, LOOK)?;
+    push_entry(&mut text, world, number)?;
     let others = others_of(alloc, world.contents(number), player)?;
-    push_listed_under(&mut text, alloc, world, "contents ", &others)?;
+    push_listed_under(&mut text, world, "contents ", &others)?;
     if let Some(record) = world.get(number) {
-        push_kind(&mut text, alloc, world, number, record.kind)?;
+        push_kind(&mut text, world, number, record.kind)?;
     }
     Ok(text)
 }
@@ -87,11 +83,13 @@ fn others_of(alloc: Global, numbers: &[u32], player: Option<u32>) -> Result<Vec<
     ensures { IfOk result (λ others. others.items
         ≡ filter (λ o. not (is_number o player)) numbers.now) }
 {
-    numbers
-        .iter()
-        .copied()
-        .filter(|number| !is_player(*number, player))
-        .collect(alloc)
+    let mut others = Vec::with_capacity(alloc, numbers.len())?;
+    for number in numbers {
+        if !is_player(*number, player) {
+            others.push(*number)?;
+        }
+    }
+    Ok(others)
 }
 
 // The room that a player is in.
@@ -114,7 +112,7 @@ fn inventory_text(alloc: Global, world: &World, player: u32) -> Result<String, A
     if contents.is_empty() {
         text.push_str("nothing")?;
     } else {
-        push_listed(&mut text, alloc, world, contents)?;
+        push_listed(&mut text, world, contents)?;
     }
     Ok(text)
 }

@@ -108,8 +108,7 @@ fn heard_emote(
         ≡ heard_deed world.now player actor (deed.Emote text.now)) }
 {
     if together(world, actor, player) {
-        let who = first_name(world, actor);
-        let line = format!(in alloc; "{who} {text}")?;
+        let line = said(alloc, first_name(world, actor), " ", text, "")?;
         Ok(Some(line))
     } else {
         Ok(None)

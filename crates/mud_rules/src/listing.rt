@@ -1,11 +1,27 @@
 //! Names and lists of objects in texts.
 
-ghost use Rattle.std.specs.Prelude.{◌≡◌, ◌++◌, OnOk, codes, string_bytes};
+ghost use Rattle.std.specs.Prelude.{◌≡◌, ◌++◌, OnOk, codes, decimal, string_bytes};
 ghost use Rattle.std.specs.List.{flat_map};
 ghost use Rattle.mud_rules.specs.Listing.{first_name, entry_text, listed, listed_under};
 
+use itoa::Buffer;
 use mud_world::World;
-use std::alloc::{AllocError, Global};
+use std::alloc::AllocError;
+
+// Digits.
+fn push_number(text: &mut String, number: u32) -> Result<(), AllocError>
+    ensures { OnOk result (string_bytes text.new ≡ string_bytes text.old ++ decimal number) }
+{
+    text.push_str(Buffer::new().format(number))
+}
+
+// Words, and a number in digits.
+pub(crate) fn push_about(text: &mut String, words: &str, number: u32) -> Result<(), AllocError>
+    ensures { OnOk result (string_bytes text.new ≡ string_bytes text.old ++ words.now ++ decimal number) }
+{
+    text.push_str(words)?;
+    push_number(text, number)
+}
 
 // The name that is shown.
 pub(crate) fn first_name(world: &World, number: u32) -> &str
@@ -21,40 +37,29 @@ pub(crate) fn first_name(world: &World, number: u32) -> &str
 }
 
 // NAME #n
-pub(crate) fn push_entry(
-    text: &mut String,
-    alloc: Global,
-    world: &World,
-    number: u32,
-) -> Result<(), AllocError>
+pub(crate) fn push_entry(text: &mut String, world: &World, number: u32) -> Result<(), AllocError>
     ensures { OnOk result (string_bytes text.new
         ≡ string_bytes text.old ++ entry_text world.now number) }
 {
     text.push_str(first_name(world, number))?;
-    text.push_str(&format!(in alloc; " #{number}")?)
+    push_about(text, " #", number)
 }
 
 // The others of a list, each behind a comma.
-fn push_others(
-    text: &mut String,
-    alloc: Global,
-    world: &World,
-    numbers: &[u32],
-) -> Result<(), AllocError>
+fn push_others(text: &mut String, world: &World, numbers: &[u32]) -> Result<(), AllocError>
     ensures { OnOk result (string_bytes text.new
         ≡ string_bytes text.old ++ flat_map (λ n. codes ", "
         ++ entry_text world.now n) numbers.now) }
 {
     for number in numbers {
         text.push_str(", ")?;
-        push_entry(text, alloc, world, *number)?;
+        push_entry(text, world, *number)?;
     }
     Ok(())
 }
 
 pub(crate) fn push_listed(
     text: &mut String,
-    alloc: Global,
     world: &World,
     numbers: &[u32],
 ) -> Result<(), AllocError>
@@ -63,8 +68,8 @@ pub(crate) fn push_listed(
 {
     match numbers.split_first() {
         Some((first, others)) => {
-            push_entry(text, alloc, world, *first)?;
-            push_others(text, alloc, world, others)
+            push_entry(text, world, *first)?;
+            push_others(text, world, others)
         }
         None => Ok(()),
     }
@@ -73,7 +78,6 @@ pub(crate) fn push_listed(
 // A further line, where there is something to list.
 pub(crate) fn push_listed_under(
     text: &mut String,
-    alloc: Global,
     world: &World,
     heading: &str,
     numbers: &[u32],
@@ -86,5 +90,5 @@ pub(crate) fn push_listed_under(
     }
     text.push_str("\n  ")?;
     text.push_str(heading)?;
-    push_listed(text, alloc, world, numbers)
+    push_listed(text, world, numbers)
 }

@@ -6,9 +6,13 @@ ghost use Rattle.mud_world.specs.State.{destination_of};
 ghost use Rattle.mud_rules.specs.Replies.{refusal_text, welcome_text, exits_text, dug_text, move_text, deed_text};
 ghost use Rattle.mud_rules.specs.Replies.{reply_text};
 
+use crate::listing::push_about;
 use mud_key::{Key, print};
 use mud_world::{Change, Deed, Doors, Refusal, Target, World};
 use std::alloc::{AllocError, Global};
+
+// Room for the longest text of two numbers.
+const REPLY: usize = 40;
 
 /// What is said of a refused line (docs/COMMANDS.md, "Refusals").
 pub fn refusal_text(refusal: Refusal) -> &'static str
@@ -62,14 +66,16 @@ pub fn reply_text(alloc: Global, world: &World, change: &Change) -> Result<Strin
 pub fn welcome_text(alloc: Global, player: u32) -> Result<String, AllocError>
     ensures { IfOk result (λ text. string_bytes text ≡ welcome_text player) }
 {
-    format!(in alloc; "welcome #{player}")
+    about(alloc, "welcome #", player)
 }
 
 // Words, and an object's number.
 fn about(alloc: Global, words: &str, number: u32) -> Result<String, AllocError>
     ensures { IfOk result (λ text. string_bytes text ≡ words.now ++ decimal number) }
 {
-    Ok(format!(in alloc; "{words}{number}")?)
+    let mut text = String::with_capacity(alloc, REPLY)?;
+    push_about(&mut text, words, number)?;
+    Ok(text)
 }
 
 // The same twice.
@@ -84,7 +90,7 @@ fn about_two(
         ≡ words.now ++ decimal number ++ more.now ++ decimal other) }
 {
     let mut text = about(alloc, words, number)?;
-    text.push_str(&about(alloc, more, other)?)?;
+    push_about(&mut text, more, other)?;
     Ok(text)
 }
 

@@ -5,7 +5,7 @@ ghost use Rattle.mud_words.specs.Line.{line_of};
 ghost use Rattle.mud_rules.specs.Table.{command, journey_of, verb_named};
 
 use crate::actor::Actor;
-use crate::outcome::{asked_journey, asked_proof, on_found, shaped};
+use crate::outcome::{asked_journey, asked_proof, on_found, on_given, shaped};
 use crate::shapes::{all_of, is_aimed, joined, looked_at};
 use crate::verb::Verb;
 use crate::{Journey, Query, Verdict, View};
@@ -37,7 +37,7 @@ impl Actor<'_> {
         ensures { IfOk result (λ v. v
             ≡ command self.now.world.now self.now.player (line_of parsed.now) Verb.Key) }
     {
-        on_found!(self.object_behind(parsed)?, object => Ok(Verdict::Ask(Query::View(View::KeyOf(object)))))
+        on_given!(self.object_behind(parsed), object => Ok(Verdict::Ask(Query::View(View::KeyOf(object)))))
     }
 
     pub(crate) fn route(&self, parsed: &Parsed) -> Result<Verdict, AllocError>

@@ -14,7 +14,7 @@ use crate::actor::Actor;
 use crate::digging::{doors_in, has_empty_side, target_in};
 use crate::matching::number_in;
 use crate::naming::names_in;
-use crate::outcome::{on_found, unread};
+use crate::outcome::{on_found, on_given, unread};
 use crate::shapes::is_pair;
 use mud_words::{Parsed, Prep};
 use mud_world::{Deed, Doors, Refusal, Target};
@@ -39,7 +39,7 @@ impl Actor<'_> {
         ensures { IfOk result (λ v. v
             ≡ on_found (text_behind (line_of parsed.now)) (dig_room self.now.world.now self.now.player)) }
     {
-        on_found!(self.text_behind(parsed)?, text => self.dig_room(&text))
+        on_given!(self.text_behind(parsed), text => self.dig_room(&text))
     }
 
     #[tactic(auto, using(crate::proofs::Barred::room_barred))]
@@ -77,7 +77,7 @@ impl Actor<'_> {
         ensures { IfOk result (λ v. v
             ≡ command self.now.world.now self.now.player (line_of parsed.now) Verb.Create) }
     {
-        on_found!(self.text_behind(parsed)?, text => self.make(&text))
+        on_given!(self.text_behind(parsed), text => self.make(&text))
     }
 
     #[tactic(auto, using(crate::proofs::Barred::names_barred))]
@@ -131,6 +131,6 @@ impl Actor<'_> {
         ensures { IfOk result (λ v. v
             ≡ command self.now.world.now self.now.player (line_of parsed.now) Verb.Recycle) }
     {
-        on_found!(self.object_behind(parsed)?, object => Ok(self.does(None, Deed::Recycle { object })))
+        on_given!(self.object_behind(parsed), object => Ok(self.does(None, Deed::Recycle { object })))
     }
 }

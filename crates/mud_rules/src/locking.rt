@@ -11,7 +11,7 @@ ghost use Rattle.mud_rules.specs.declared.verb.Verb.{Verb};
 use crate::Verdict;
 use crate::actor::Actor;
 use crate::matching::local_match;
-use crate::outcome::{on_found, unread};
+use crate::outcome::{on_found, on_given, unread};
 use mud_key::{Key, KeyFault, Miss, Namer, read, resolve};
 use mud_words::{Parsed, Prep};
 use mud_world::{Deed, Refusal, World};
@@ -84,6 +84,6 @@ impl Actor<'_> {
         ensures { IfOk result (λ v. v
             ≡ command self.now.world.now self.now.player (line_of parsed.now) Verb.Unlock) }
     {
-        on_found!(self.object_behind(parsed)?, object => Ok(self.does(None, Deed::Unlock { object })))
+        on_given!(self.object_behind(parsed), object => Ok(self.does(None, Deed::Unlock { object })))
     }
 }

@@ -13,7 +13,7 @@ ghost use Rattle.mud_rules.specs.declared.verb.Verb.{Verb};
 use crate::Verdict;
 use crate::actor::Actor;
 use crate::matching::Match;
-use crate::outcome::{kind_then_here, on_found};
+use crate::outcome::{kind_then_here, on_found, on_given};
 use mud_words::{Parsed, Prep};
 use mud_world::{Deed, Refusal, World, refused_if};
 use std::alloc::AllocError;
@@ -23,14 +23,14 @@ impl Actor<'_> {
         ensures { IfOk result (λ v. v
             ≡ command self.now.world.now self.now.player (line_of parsed.now) Verb.Go) }
     {
-        on_found!(self.object_behind(parsed)?, exit => Ok(self.does(None, Deed::Walk { exit })))
+        on_given!(self.object_behind(parsed), exit => Ok(self.does(None, Deed::Walk { exit })))
     }
 
     pub(crate) fn take(&self, parsed: &Parsed) -> Result<Verdict, AllocError>
         ensures { IfOk result (λ v. v
             ≡ command self.now.world.now self.now.player (line_of parsed.now) Verb.Take) }
     {
-        on_found!(self.object_behind(parsed)?, thing => {
+        on_given!(self.object_behind(parsed), thing => {
             let to = self.player;
             Ok(self.does(None, Deed::Move { thing, to }))
         })
@@ -40,7 +40,7 @@ impl Actor<'_> {
         ensures { IfOk result (λ v. v
             ≡ command self.now.world.now self.now.player (line_of parsed.now) Verb.Drop) }
     {
-        on_found!(self.object_behind(parsed)?, thing => Ok(self.drop_down(thing)))
+        on_given!(self.object_behind(parsed), thing => Ok(self.drop_down(thing)))
     }
 
     // To his room, what he carries.

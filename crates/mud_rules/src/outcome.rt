@@ -105,7 +105,7 @@ pub(crate) fn asked_proof(found: Result<Journey, Refusal>) -> Verdict
     }
 }
 
-// What is done with what a line gives, or its refusal.
+// What is done with what was found, or its refusal.
 macro_rules! on_found {
     ($found:expr, $object:ident => $meaning:expr) => {
         match $found {
@@ -115,7 +115,19 @@ macro_rules! on_found {
     };
 }
 
+// The same with what a line gives, where there may be no memory for it.
+macro_rules! on_given {
+    ($given:expr, $object:ident => $meaning:expr) => {
+        match $given {
+            Ok(Ok($object)) => $meaning,
+            Ok(Err(refusal)) => Ok(Verdict::Refused(refusal)),
+            Err(AllocError) => Err(AllocError),
+        }
+    };
+}
+
 pub(crate) use on_found;
+pub(crate) use on_given;
 
 // The refusal of a text that can't be read: what bars the player already, or its own.
 pub(crate) fn unread(bar: Option<Refusal>, own: Refusal) -> Verdict

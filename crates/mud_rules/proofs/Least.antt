@@ -54,7 +54,7 @@ abbrev pub Either : Bool → Type 0 → Type 0 → Type 0
 Either true A B = A
 Either false A B = B
 
--- the own refusal stands in the list, those before it have lower numbers, and none behind it has
+-- the own refusal stands in the list, those before it have lower numbers, and none after it has
 abbrev pub InOrder : Refusal → List Refusal → Type 0
 InOrder own [] = ⊥
 InOrder own (f ∷ fs) = Either (nat_lt (number f) (number own)) (InOrder own fs) ((f ≡ own) × (is_late own fs ≡ true))

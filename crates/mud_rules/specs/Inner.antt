@@ -77,7 +77,7 @@ first_of l = get_or l.args 0 []
 abbrev pub has_empty_side : List ℕ → Bool
 has_empty_side text = list_any is_empty (slice_split is_bar text)
 
--- a text of some byte behind this, and none before it
+-- a text of some byte after this, and none before it
 abbrev pub is_aimed : Prep → Line → Bool
 is_aimed prep l = is_prep prep l.prep && (is_empty l.direct && not (is_empty l.indirect))
 
@@ -97,7 +97,7 @@ meet w p text = meeting (map (player_meant w p) (parts_of text))
 abbrev pub is_named : (List ℕ → Bool) → State → ℕ → Bool
 is_named test w n = has w n (λ r. list_any test r.names)
 
--- the number that a text of decimal digits alone writes, behind those of `start`
+-- the number that a text of decimal digits alone writes, after those of `start`
 abbrev pub digits_value : ℕ → List ℕ → Option ℕ
 digits_value start text =
     if list_all is_ascii_digit text then Some (fold (λ value digit. value * 10 + (digit - 48)) start text) else None

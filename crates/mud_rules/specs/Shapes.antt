@@ -40,7 +40,7 @@ is_pair prep l = is_prep prep l.prep && (not (is_empty l.direct) && not (is_empt
 
 -- ---- what a line gives
 
--- the text behind the verb
+-- the text after the verb
 abbrev pub text_behind : Line → Result (List ℕ) Refusal
 text_behind l = if is_empty (all_of l) then Err NotUnderstood else Ok (all_of l)
 

@@ -150,6 +150,6 @@ decision w (Some p) l = option_map_or (command w p l) (verb_named l.verb) (other
 abbrev pub is_question : Line → Bool
 is_question l = is_some (lookup (str_eq_ignore_ascii_case l.verb) question_verbs)
 
--- the line is `quit`, with no words behind
+-- the line is `quit`, with no words after
 abbrev pub is_quit : Line → Bool
 is_quit l = is_empty l.args && str_eq_ignore_ascii_case l.verb (codes "quit")

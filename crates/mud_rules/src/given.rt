@@ -14,7 +14,7 @@ use mud_world::Refusal;
 use std::alloc::AllocError;
 
 impl Actor<'_> {
-    // The text behind the verb.
+    // The text after the verb.
     pub(crate) fn text_behind(&self, parsed: &Parsed) -> Result<Result<String, Refusal>, AllocError>
         ensures { IfOk result (λ text. result_map_both string_bytes (λ f. f) text
             ≡ text_behind (line_of parsed.now)) }
@@ -38,7 +38,7 @@ impl Actor<'_> {
         }
     }
 
-    // The object that the text behind the verb means.
+    // The object that the text after the verb means.
     pub(crate) fn object_behind(&self, parsed: &Parsed) -> Result<Result<u32, Refusal>, AllocError>
         ensures { IfOk result (λ object. object
             ≡ object_named self.now.world.now self.now.player (all_of (line_of parsed.now))) }

@@ -18,15 +18,14 @@ use mud_world::{Refusal, World};
 use std::alloc::{AllocError, Global};
 
 /// Whether a line has the verb of a question, whatever its other words are (docs/COMMANDS.md,
-/// "Questions"; this project's profile).
+/// "Questions").
 pub fn is_question(parsed: &Parsed) -> bool
     ensures { result ≡ is_question (line_of parsed.now) }
 {
     Verb::asks(&parsed.verb)
 }
 
-/// Whether a line is `quit`, with no words behind: its answer is the last of a session (this project's
-/// profile).
+/// Whether a line is `quit`, with no words after: its answer is the last of a session.
 pub fn is_quit(parsed: &Parsed) -> bool
     ensures { result ≡ is_quit (line_of parsed.now) }
 {
@@ -39,7 +38,7 @@ pub fn is_quit(parsed: &Parsed) -> bool
 /// who has `connect` and `quit` alone.
 ///
 /// A given player is to be one of that world; the line of any other number is decided too, by the
-/// same table. The one error is want of memory.
+/// same table. The one error is out of memory.
 pub fn decide(
     alloc: Global,
     world: &World,

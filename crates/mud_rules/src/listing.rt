@@ -45,7 +45,7 @@ pub(crate) fn push_entry(text: &mut String, world: &World, number: u32) -> Resul
     push_about(text, " #", number)
 }
 
-// The others of a list, each behind a comma.
+// The others of a list, each after a comma.
 fn push_others(text: &mut String, world: &World, numbers: &[u32]) -> Result<(), AllocError>
     ensures { OnOk result (string_bytes text.new
         ≡ string_bytes text.old ++ flat_map (λ n. codes ", "

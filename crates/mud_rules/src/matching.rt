@@ -55,7 +55,7 @@ pub fn local_match(world: &World, player: u32, text: &str) -> Result<u32, Match>
 }
 
 /// The room that a text means to a player: as [`local_match`], with all rooms as candidates. By
-/// `#n`, `me` or `here` it may be an object of another kind (this project's profile).
+/// `#n`, `me` or `here` it may be an object of another kind.
 pub fn room_match(world: &World, player: u32, text: &str) -> Result<u32, Match>
     ensures { result ≡ room_match world.now player text.now }
 {
@@ -63,7 +63,7 @@ pub fn room_match(world: &World, player: u32, text: &str) -> Result<u32, Match>
 }
 
 /// The player that a text means to a player: as [`local_match`], with all players as candidates. By
-/// `#n` or `here` it may be an object of another kind (this project's profile).
+/// `#n` or `here` it may be an object of another kind.
 pub fn player_match(world: &World, player: u32, text: &str) -> Result<u32, Match>
     ensures { result ≡ player_match world.now player text.now }
 {

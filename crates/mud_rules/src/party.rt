@@ -5,8 +5,8 @@ ghost use Rattle.mud_rules.specs.Party.{IsParty};
 
 use std::marker::Model;
 
-/// The players who are to meet, by their numbers: 2 to 8, none of them twice, in the order given
-/// (this project's profile). A contract sees the list of the numbers.
+/// The players who are to meet, by their numbers: 2 to 8, none of them twice, in the order given.
+/// A contract sees the list of the numbers.
 #[derive(Drop)]
 pub struct Party {
     members: Vec<u32>,

@@ -75,7 +75,7 @@ pub(crate) fn is_pair(prep: Prep, parsed: &Parsed) -> bool
     is_prep(prep, parsed.prep) && !parsed.direct.is_empty() && !parsed.indirect.is_empty()
 }
 
-// Whether a text is behind this, and none before it.
+// Whether a text is after this, and none before it.
 pub(crate) fn is_aimed(prep: Prep, parsed: &Parsed) -> bool
     ensures { result ≡ is_aimed prep (line_of parsed.now) }
 {

@@ -5,6 +5,7 @@ use mud_hall::{Hall, HallName};
 use mud_house::{Bells, House, Places, rest};
 use mud_talk::{Ending, Entrance, Parting, Talk, Wire};
 use std::alloc::Global;
+use std::sync::atomic::{AtomicBool, Ordering};
 use std::sync::{Arc, Mutex, Wait};
 use std::time::Clock;
 
@@ -17,6 +18,8 @@ pub(crate) type HouseOf<J> = House<Hall<J>, Places<J>, Bells>;
 pub(crate) struct Connection<J: HallName> {
     wire: Arc<Wire>,
     talk: Mutex<Option<Talk<J>>>,
+    // Whether a line was answered since the notice thread asked last.
+    was_answered: AtomicBool,
 }
 
 // How often it is tried, a second long, to close a web socket whose session is busy, and how long between two tries.
@@ -35,6 +38,7 @@ impl<J: HallName> Connection<J> {
         Connection {
             wire,
             talk: Mutex::new(None),
+            was_answered: AtomicBool::new(false),
         }
     }
 
@@ -46,6 +50,16 @@ impl<J: HallName> Connection<J> {
     /// Its session, under the lock.
     pub(crate) fn talk(&self) -> &Mutex<Option<Talk<J>>> {
         &self.talk
+    }
+
+    /// A line was answered, and what others had done was told before.
+    pub(crate) fn note_answer(&self) {
+        self.was_answered.store(true, Ordering::Relaxed);
+    }
+
+    /// Whether a line was answered since this was asked last.
+    pub(crate) fn was_answered(&self) -> bool {
+        self.was_answered.swap(false, Ordering::Relaxed)
     }
 
     /// Lets a browser in by this answer to its head; whether it was taken.

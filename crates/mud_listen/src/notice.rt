@@ -8,13 +8,25 @@ use mud_talk::Parting;
 use std::sync::Wait;
 use std::time::Clock;
 
-// How long it sleeps between two looks at what others did.
-const REST_MILLISECONDS: u64 = 5;
+// How long it rests between two looks at what others did, where the player's own lines bring him notices, and where he
+// only listens.
+const TALKER_MILLISECONDS: u64 = 5;
+
+const LISTENER_MILLISECONDS: u64 = 1;
 
 /// What a notice thread sleeps on until a bell wakes it.
 #[derive(Drop)]
 pub(crate) struct Sleeper {
     pub(crate) parker: Parker,
+}
+
+// How long the notice thread of a session rests.
+fn rest_of<J: HallName>(connection: &Connection<J>) -> u64 {
+    if connection.was_answered() {
+        TALKER_MILLISECONDS
+    } else {
+        LISTENER_MILLISECONDS
+    }
 }
 
 /// The notice thread of a session: each time it is woken, the session looks for what others did. Where it fails, the
@@ -40,7 +52,7 @@ pub(crate) fn tell_all<J: HallName, R: Wait + Clock>(
             connection.part(rt, Parting::Left);
             break;
         }
-        rest(rt, REST_MILLISECONDS);
+        rest(rt, rest_of(connection));
     }
     connection.wire().shut();
 }

@@ -138,7 +138,7 @@ impl<'a, J: HallName, R: Threads + Wait + Log + Clock + Sync> Reading<'a, J, R> 
     }
 
     // Gives the session what the frames of a piece type; whether it goes on. The session's lock is held for the whole
-    // piece, so that nothing comes behind the close in which it may end.
+    // piece, so that nothing comes after the close in which it may end.
     fn serve_frames(&mut self, bytes: &[u8]) -> bool {
         let connection = self.connection;
         let mut guard = connection.talk().lock(self.rt);

@@ -1,5 +1,6 @@
 -- Names of parts of public definitions. Only private clauses and proofs cite this file.
-use Rattle.std.specs.Prelude.{◌≡◌, ℕ, List, ◌++◌, length, Option, Some, None, codes, IsSomeAnd, IfSome, IsTrue, take, drop}
+use Rattle.std.specs.Prelude.{◌≡◌, ℕ, List, ◌++◌, length, take, drop, codes}
+use Rattle.std.specs.Prelude.{Option, Some, None, IsSomeAnd, IfSome, IsTrue}
 use Rattle.std.specs.Option.{option_map, option_and_then, option_to_list}
 use Rattle.mud_world.specs.State.{State, is_player}
 use Rattle.mud_rules.specs.Hearing.{heard_line}

@@ -9,6 +9,7 @@ ghost use Rattle.mud_nvt.specs.Shown.{shown};
 use crate::door::Door;
 use crate::fault::SessionFault;
 use crate::wiring::{answer_on_wire, push_on_wire};
+use itoa::Buffer;
 use mud_hall::{Fault, Reply};
 use mud_nvt::{Nvt, Unit};
 use mud_rules::laws::questions;
@@ -18,6 +19,12 @@ use std::alloc::{AllocError, Global};
 use std::marker::Model;
 use std::sync::Wait;
 use std::thread::Threads;
+
+// Room for what is sent with a text: its number, and its end.
+const MORE: usize = 16;
+
+// The longest answer that is copied into what is sent.
+const SHORT: usize = 4096;
 
 /// One session: its terminal, whether it has ended, and what is to be sent.
 #[derive(Drop)]
@@ -325,8 +332,10 @@ impl Session {
     fn send_numbered(&mut self, version: u32, text: &str) -> Result<(), AllocError>
         ensures { OnOk result (self.new ≡ sends self.old (sent (numbered version text.now))) }
     {
-        let front = format!(in self.alloc; "[{version}] ")?;
-        push_on_wire(&mut self.out, front.as_bytes())?;
+        self.out.reserve(text.len().saturating_add(MORE))?;
+        push_on_wire(&mut self.out, b"[")?;
+        push_on_wire(&mut self.out, Buffer::new().format(version).as_bytes())?;
+        push_on_wire(&mut self.out, b"] ")?;
         self.send(text)
     }
 
@@ -334,7 +343,7 @@ impl Session {
     fn send_answer(&mut self, version: u32, text: String) -> Result<(), AllocError>
         ensures { OnOk result (self.new ≡ sends self.old (sent (numbered version (string_bytes text)))) }
     {
-        if text.len() <= self.out.len() {
+        if text.len() <= SHORT {
             return self.send_numbered(version, text.as_str());
         }
         let number = format!(in self.alloc; "[{version}] ")?;

@@ -10,7 +10,7 @@ use std::time::Clock;
 
 // How long it rests between two looks at what others did, where the player's own lines bring him notices, and where he
 // only listens.
-const TALKER_MILLISECONDS: u64 = 5;
+const TALKER_MILLISECONDS: u64 = 2;
 
 const LISTENER_MILLISECONDS: u64 = 1;
 

@@ -84,9 +84,9 @@ pub(crate) const LOAD: Argument = Argument {
     ..OPTION
 };
 
-// The argument of a row, of which only the name is set.
+// The argument of a row, of which only the name is set, and what is done where it is there.
 fn named<'a>(alloc: Global, argument: &Argument<'a>) -> Arg<'a> {
-    let arg = Arg::new(alloc, argument.name);
+    let arg = Arg::new(alloc, argument.name).action(argument.action);
     if argument.is_option {
         arg.long(argument.name)
     } else {
@@ -94,14 +94,18 @@ fn named<'a>(alloc: Global, argument: &Argument<'a>) -> Arg<'a> {
     }
 }
 
-// The argument of a row, as `clap` has it.
-pub(crate) fn arg_of<'a>(alloc: Global, argument: &Argument<'a>) -> Result<Arg<'a>, AllocError> {
+// That argument, with its values.
+fn valued<'a>(alloc: Global, argument: &Argument<'a>) -> Arg<'a> {
     named(alloc, argument)
-        .action(argument.action)
         .value_names(argument.value)
         .value_parser(argument.parser)
-        .required(argument.is_required)
         .default_values(argument.default)
+}
+
+// The argument of a row, as `clap` has it.
+pub(crate) fn arg_of<'a>(alloc: Global, argument: &Argument<'a>) -> Result<Arg<'a>, AllocError> {
+    valued(alloc, argument)
+        .required(argument.is_required)
         .help(argument.help)
         .requires_all(argument.beside)
 }

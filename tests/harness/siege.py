@@ -23,6 +23,8 @@ NAMES = 8
 # What is found of the hostile, of whom nobody keeps what they read.
 STRANGERS = re.compile(r'\(player #\d+ "Guest\d"\) was answered to nobody$')
 LIMITS = ["--idle", "20", "--unnamed", "2"]
+# As docs/HOSTING.md has a server run: each further arena of the C library keeps some of what is given back to it.
+AS_HOSTED = {"MALLOC_ARENA_MAX": "1"}
 
 
 def comes_and_leaves(client, chance):
@@ -154,7 +156,7 @@ def held_out(server, seconds):
 
 @part("siege", "sixty-four hostile clients for ten minutes, while two play", True, "SECONDS")
 def siege(count, seconds=SECONDS):
-    with Server(program("mud_serve"), LIMITS, console=True) as server:
+    with Server(program("mud_serve"), LIMITS, AS_HOSTED, console=True) as server:
         waits, sessions, before, after = held_out(server, float(seconds))
         server.type(b"stop\n")
         status, printed = server.end()

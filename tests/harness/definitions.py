@@ -8,8 +8,8 @@ of a law is no definition but a promise, as a contract's clause is: it is counte
 A definition whose comment says that a reader need not look into it counts, and what it cites does not: contracts hand
 it on from call to call, and whatever it says, what they claim of texts and worlds names other definitions only.
 
-A file whose name begins with `Inner` is private: what it has is cited by private clauses, by proofs, and by definitions
-that are closed in that way. No public clause may reach it otherwise.
+A file in a folder `inner` is private: what it has is cited by private clauses, by proofs, and by definitions that are
+closed in that way. No public clause may reach it otherwise.
 """
 import pathlib
 import re
@@ -31,7 +31,7 @@ COMMENT_OR_TEXT = re.compile(r'(?:--|//).*|"(?:\\.|[^"\\])*"')
 # A name, or the names of a dotted path. What follows a dot alone is a field.
 CITED = re.compile(rf"(?<![.\w'-]){NAME}(?:\.{NAME})*")
 CLOSED = "A reader need not look into this"
-PRIVATE = "Inner"
+PRIVATE = "inner"
 
 
 def imports(lines):
@@ -171,7 +171,7 @@ def statements_of(crate, definitions):
 
 def is_private(module):
     """Whether the module is a file that only private clauses and proofs may cite."""
-    return module.rpartition(".")[2].startswith(PRIVATE)
+    return PRIVATE in module.split(".")
 
 
 def strays(definitions, found):

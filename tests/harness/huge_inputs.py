@@ -1,5 +1,6 @@
 """Inputs of a million bytes and more, which are made here. A million of one byte without a line end is answered within
-a second of processor time, and sixteen million bytes by a script within half of that memory.
+a second of processor time, and so are lines that come together and have long answers. Sixteen million bytes are
+answered by a script within half of that memory.
 """
 import resource
 import subprocess
@@ -74,6 +75,15 @@ def floods():
         yield from ((what, ["mud_explain", word], text, right) for word, right in rights)
 
 
+def long_answers(changes=3_000, asked=400):
+    """What is shown of a history that is asked for in many lines at once, in the form of a row."""
+    told = b"[%d] history\n" % changes + history(changes, b"end %d\n" % changes)
+    lines = b"connect Wizard\n" + b"say hi\n" * changes + b"@history\n" * asked
+    said = b"[0] welcome #1\n" + b"".join(b"[%d] said\n" % n for n in range(1, changes + 1))
+    right = (said + told * asked).replace(b"\n", b"\r\n")
+    return "long answers to lines that come together", ["mud_serve", "script"], lines, right
+
+
 # What a script reads in constant memory; its input; its output.
 CONSTANT = [
     ("a line", b"A" * (16 * MILLION), TOO_LONG),
@@ -105,7 +115,7 @@ def why_wrong(command, text, right, seconds, memory=None):
 
 @part("huge-inputs", "inputs of millions of bytes are answered, soon and in little memory")
 def huge_inputs(count):
-    trials = [(*row, SECONDS) for row in ROWS] + [(*row, FLOOD_SECONDS) for row in floods()]
+    trials = [(*row, SECONDS) for row in ROWS] + [(*row, FLOOD_SECONDS) for row in [*floods(), long_answers()]]
     script = ["mud_serve", "script"]
     trials += [(f"{what} in constant memory", script, *texts, SECONDS, SCRIPT_MEMORY) for what, *texts in CONSTANT]
     for what, command, *rest in trials:

@@ -9,8 +9,9 @@ from harness.parts import PARTS, part
 from harness.programs import TOP
 
 LONGEST_LINE, README_LINES = 120, 100
-# What is read by people: pages, scripts, sources and specs. Proofs aren't.
+# What is read by people: pages, scripts, sources and specs. Of proofs only the lines are looked at.
 SOURCES = ["crates/*/src/**/*.rt", "crates/*/specs/**/*.antt"]
+PROOFS = ["crates/*/proofs/**/*.antt"]
 SCRIPTS = ["run", ".ci/run", "tests/run", "tests/*/*.py", "tests/*/*.c", "bench/*", "bench/*/*"]
 PAGES = ["*.md", "docs/*", "bench/*.md", "tests/*.md"]
 WRITTEN = [*PAGES, *SCRIPTS, *SOURCES]
@@ -21,7 +22,6 @@ SPAN = re.compile(r"`([^`\n]+)`")
 WORD = re.compile(r"\w+")
 NAME = re.compile(r"[A-Za-z_]\w*(?:::\w+)*")
 RULE = re.compile(r"^\|[ :|-]+$")
-IMPORT = re.compile(r"(?:ghost |pub )*use ")
 PLACEHOLDER = re.compile(r"\b(?:NAME|CRATE|SUBJECT|DOUBT|PROGRAM)\b")
 LOGIC = re.compile(r"logic ([0-9a-f]{8,})")
 
@@ -200,10 +200,8 @@ def count_wrong_bodies(count, page):
 
 
 def may_be_long(line):
-    """Whether a line is the row of a table with the address of a page elsewhere, or an import, which the toolchain lays
-    out.
-    """
-    return line.startswith("|") and "://" in line or IMPORT.match(line)
+    """Whether a line is the row of a table with the address of a page elsewhere."""
+    return line.startswith("|") and "://" in line
 
 
 def long_lines(path):
@@ -219,6 +217,8 @@ def count_lines(count):
     for path in files(WRITTEN):
         found = long_lines(path)
         count(f"{path}: lines", not found, f"too long: {' '.join(map(str, found[:9]))}")
+    found = [f"{path}:{n}" for path in files(PROOFS) for n in long_lines(path)]
+    count("proofs: lines", not found, f"too long: {' '.join(found[:9])}")
 
 
 def count_kit(count):

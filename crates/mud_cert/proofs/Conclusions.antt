@@ -17,9 +17,10 @@ use Rattle.mud_cert.specs.Certificate.{Account, hop_of}
 use Rattle.mud_cert.specs.declared.cert.Conclusion.{Conclusion}
 use Rattle.mud_cert.specs.declared.cert.Conclusion.TheVariants.{Route, Meet}
 use Rattle.mud_cert.specs.Lookup.{label_in, label_at}
-use Rattle.mud_cert.specs.Ways.{end_of, arrival, arrival_of}
-use Rattle.mud_cert.specs.Agreement.{with_label, gathered_from, gathered}
-use Rattle.mud_cert.specs.Tests.{is_there_within, is_there_at, is_no_worse, first_labels, stays, misses, concludes}
+use Rattle.mud_cert.specs.inner.Ways.{end_of, arrival, arrival_of}
+use Rattle.mud_cert.specs.inner.Agreement.{with_label, gathered_from, gathered}
+use Rattle.mud_cert.specs.inner.Tests.{is_there_within, is_there_at, is_no_worse, first_labels, stays, misses}
+use Rattle.mud_cert.specs.inner.Tests.{concludes}
 use Rattle.mud_cert.specs.declared.cert.Form.{Form}
 use Rattle.mud_cert.specs.Valid.{States, IsMember, GoesTo, Agrees}
 use Rattle.mud_cert.proofs.Lookups.{label-behind}

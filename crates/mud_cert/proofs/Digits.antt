@@ -6,7 +6,7 @@ use Rattle.std.proofs.lemmas.Fmt.{decimal_digit, decimal_step, decimal_by_steps}
 use Rattle.std.proofs.lemmas.Bool.{cond-true, cond-false, cases_Bool, and_parts, and_from, leb-true, le-leb, eqb-true}
 use Rattle.std.proofs.lemmas.Bool.{ne_eqb, eqb-false, ltb-true, lt-ltb, cases_eq}
 use Rattle.std.proofs.lemmas.Option.{cond_some}
-use Rattle.mud_cert.specs.Reading.{is_digit, digits_on, small, number_at}
+use Rattle.mud_cert.specs.inner.Reading.{is_digit, digits_on, small, number_at}
 
 step : (n b : ℕ) (bs : List ℕ) → is_digit b ≡ true → digits_on n (b ∷ bs) ≡ digits_on (n * 10 + (b - 48)) bs
 step n b bs e = cond-true (is_digit b) (digits_on (n * 10 + (b - 48)) bs) (n, b ∷ bs) e

@@ -15,9 +15,10 @@ use Rattle.mud_cert.specs.declared.doubt.Doubt.{Doubt}
 use Rattle.mud_cert.specs.declared.doubt.Doubt.TheVariants as doubts
 use Rattle.mud_cert.specs.Certificate.{Account, hop_of}
 use Rattle.mud_cert.specs.Lookup.{label_at}
-use Rattle.mud_cert.specs.Ways.{step_of, steps_of, end_of}
-use Rattle.mud_cert.specs.Tests.{◌or◌, unless, numbers, is_label, is_new, stands, is_started, is_kept, label_behind}
-use Rattle.mud_cert.specs.Tests.{breaks, broken, locked, given_doubt, member_doubt}
+use Rattle.mud_cert.specs.inner.Ways.{step_of, steps_of, end_of}
+use Rattle.mud_cert.specs.inner.Tests.{◌or◌, unless, numbers, is_label, is_new, stands, is_started, is_kept}
+use Rattle.mud_cert.specs.inner.Tests.{label_behind}
+use Rattle.mud_cert.specs.inner.Tests.{breaks, broken, locked, given_doubt, member_doubt}
 use Rattle.mud_chron.specs.Places.{FailsAt}
 use Rattle.mud_cert.specs.Doubts.{Breaks, IsUnbroken, Holds}
 use Rattle.mud_cert.proofs.Finds.{find-none, find-some}

@@ -17,9 +17,9 @@ use Rattle.mud_cert.specs.declared.cert.Form.{Form}
 use Rattle.mud_cert.specs.Certificate.{Account, hop_of}
 use Rattle.mud_cert.specs.declared.doubt.Doubt.{Doubt}
 use Rattle.mud_cert.specs.Lookup.{label_at}
-use Rattle.mud_cert.specs.Ways.{step_of, end_of, steps_of}
-use Rattle.mud_cert.specs.Tests.{is_at_most, is_label, leaves, broken, locked, ◌or◌, unless, numbers, is_kept}
-use Rattle.mud_cert.specs.Tests.{label_behind, breaks}
+use Rattle.mud_cert.specs.inner.Ways.{step_of, end_of, steps_of}
+use Rattle.mud_cert.specs.inner.Tests.{is_at_most, is_label, leaves, broken, locked, ◌or◌, unless, numbers, is_kept}
+use Rattle.mud_cert.specs.inner.Tests.{label_behind, breaks}
 use Rattle.mud_cert.proofs.Finds.{find-none, find-none-from}
 use Rattle.mud_cert.proofs.Ways.{IsWay, road-at, road-of, road-to, open-source}
 

@@ -5,7 +5,7 @@ use Rattle.mud_world.specs.State.{State}
 use Rattle.mud_world.specs.Sound.{IsSound}
 use Rattle.mud_world.specs.Legal.{refusal}
 use Rattle.mud_world.specs.History.{world_from}
-use Rattle.mud_world.specs.Inner.{stepped}
+use Rattle.mud_world.specs.inner.Parts.{stepped}
 use Rattle.mud_world.specs.Opening.{opening_state}
 use Rattle.mud_world.specs.declared.change.Change.{Change}
 use Rattle.mud_world.specs.declared.refusal.Refusal.{Refusal}
@@ -13,7 +13,7 @@ use Rattle.mud_world.proofs.Begun.{opening-sound}
 use Rattle.mud_world.proofs.Sounding.{soundness_law}
 use Rattle.mud_chron.specs.declared.fault.ChronFault.{ChronFault}
 use Rattle.mud_chron.specs.declared.fault.ChronFault.TheVariants.{BadChange}
-use Rattle.mud_chron.specs.Entry.{Accepted as Entry}
+use Rattle.mud_chron.specs.Entry.{Entry}
 use Rattle.mud_chron.specs.Laws.{SpellsOne, HasOneFault, FaultsAreNoTexts}
 use Rattle.mud_chron.specs.Replay.{changes_of, world_at, IsFirstIllegal}
 use Rattle.mud_cert.specs.declared.finding.Finding.TheVariants.{Accepted, NoVersion, Doubted, BadHistory, BadProof}

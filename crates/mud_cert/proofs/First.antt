@@ -10,7 +10,7 @@ use Rattle.mud_cert.specs.declared.cert.Form.{Form}
 use Rattle.mud_cert.specs.declared.doubt.Doubt.{Doubt}
 use Rattle.mud_cert.specs.declared.doubt.Doubt.TheVariants as doubts
 use Rattle.mud_cert.specs.Certificate.{Account, Certificate, IsCertificate}
-use Rattle.mud_cert.specs.Tests.{◌or◌, unless, concludes, member_doubt, members_doubt, first_doubt}
+use Rattle.mud_cert.specs.inner.Tests.{◌or◌, unless, concludes, member_doubt, members_doubt, first_doubt}
 use Rattle.mud_cert.specs.Doubts.{Holds, HoldsAt, IsFirstDoubt}
 use Rattle.mud_cert.specs.Valid.{IsValid}
 use Rattle.mud_cert.specs.Laws.{NoDoubtIsValid, ValidOrDoubted, OneFirstDoubt}

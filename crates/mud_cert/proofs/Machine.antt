@@ -18,11 +18,11 @@ use Rattle.mud_cert.specs.declared.cert.Conclusion.TheVariants.{Route, Meet}
 use Rattle.mud_cert.specs.declared.stage.Stage.{Stage}
 use Rattle.mud_cert.specs.declared.stage.Stage.TheVariants.{Nothing, Headed, Open, Placed, Labelled, Concluded, Whole}
 use Rattle.mud_cert.specs.Certificate.{Account, Certificate, IsNumber, IsAccount, CountsBy, IsConclusion, IsCertificate}
-use Rattle.mud_cert.specs.Opening.{Opening, IsOpening}
+use Rattle.mud_cert.specs.inner.Opening.{Opening, IsOpening}
 use Rattle.mud_cert.specs.Text.{head_line, walk_line, member_lines, conclusion_line, cert_lines}
-use Rattle.mud_cert.specs.Lines.{version_line, member_line, labels_line, opening_lines, IsEntry}
-use Rattle.mud_cert.specs.Reading.{◌>>=◌, head_at, version_at, member_at, labels_at, walk_at, conclusion_at}
-use Rattle.mud_cert.specs.Stages.{concluded, lines_of, IsStage, suits, conclude, join, next, run}
+use Rattle.mud_cert.specs.inner.Lines.{version_line, member_line, labels_line, opening_lines, IsEntry}
+use Rattle.mud_cert.specs.inner.Reading.{◌>>=◌, head_at, version_at, member_at, labels_at, walk_at, conclusion_at}
+use Rattle.mud_cert.specs.inner.Stages.{concluded, lines_of, IsStage, suits, conclude, join, next, run}
 use Rattle.mud_cert.proofs.Pieces.{bind_some, says-true}
 use Rattle.mud_cert.proofs.Entries.{IsRead, labels-take, labels-again, walk-takes, walk-again}
 use Rattle.mud_cert.proofs.Heads.{head-takes, head-again, version-takes, version-again, member-takes, member-again}

@@ -17,14 +17,15 @@ use Rattle.mud_world.specs.State.{State, is_player, is_room, place_of, is_number
 use Rattle.mud_world.specs.Sound.{IsSound}
 use Rattle.mud_roads.specs.Labels.{start_label}
 use Rattle.mud_cert.specs.Lookup.{label_at}
-use Rattle.mud_cert.specs.Ways.{end_of, steps_of}
+use Rattle.mud_cert.specs.inner.Ways.{end_of, steps_of}
 use Rattle.mud_roads.specs.Walks.{exits_of, total}
 use Rattle.mud_cert.specs.declared.cert.Form.{Form}
 use Rattle.mud_cert.specs.Certificate.{Account, hop_of}
 use Rattle.mud_cert.specs.declared.doubt.Doubt.{Doubt}
 use Rattle.mud_cert.specs.declared.doubt.Doubt.TheVariants as doubts
-use Rattle.mud_cert.specs.Tests.{is_label, broken, locked, ◌or◌, unless, numbers, is_new, stands, is_started, breaks}
-use Rattle.mud_cert.specs.Tests.{given_doubt, member_doubt, members_doubt}
+use Rattle.mud_cert.specs.inner.Tests.{is_label, broken, locked, ◌or◌, unless, numbers, is_new, stands, is_started}
+use Rattle.mud_cert.specs.inner.Tests.{breaks}
+use Rattle.mud_cert.specs.inner.Tests.{given_doubt, member_doubt, members_doubt}
 use Rattle.mud_cert.specs.Valid.{States, IsMember}
 use Rattle.mud_cert.proofs.Ways.{step-exit}
 use Rattle.mud_cert.proofs.Doubtless.{or-none, or-both, unless-none, unless-from, option-none, walk-from, IsTaken}

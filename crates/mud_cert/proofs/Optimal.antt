@@ -16,7 +16,7 @@ use Rattle.mud_cert.specs.Certificate.{Account, hop_of}
 use Rattle.mud_cert.specs.declared.cert.Conclusion.{Conclusion}
 use Rattle.mud_cert.specs.declared.cert.Conclusion.TheVariants.{Route, Meet}
 use Rattle.mud_cert.specs.Lookup.{label_at}
-use Rattle.mud_cert.specs.Ways.{end_of}
+use Rattle.mud_cert.specs.inner.Ways.{end_of}
 use Rattle.mud_cert.specs.Valid.{States, IsMember, GoesTo, Agrees}
 use Rattle.mud_cert.specs.Laws.{ValidIsOptimal}
 use Rattle.mud_cert.proofs.Members.{stated-steps, stated-end}

@@ -14,12 +14,13 @@ use Rattle.mud_cert.specs.declared.stage.Stage.{Stage}
 use Rattle.mud_cert.specs.declared.stage.Stage.TheVariants.{Nothing, Headed, Open, Placed, Labelled, Concluded, Whole}
 use Rattle.mud_cert.specs.Certificate.{Certificate, IsCertificate}
 use Rattle.mud_cert.specs.Text.{text_of, conclusion_line, cert_lines, cert_text}
-use Rattle.mud_cert.specs.Lines.{opening_lines, ended}
+use Rattle.mud_cert.specs.inner.Lines.{opening_lines, ended}
 use Rattle.mud_cert.specs.Faults.{IsLine, Begins, IsBadLine}
 use Rattle.mud_cert.specs.TextLaws.{OneCertificate, OneBadLine, EndsWithLf}
-use Rattle.mud_cert.specs.Reading.{after, head_at, version_at, member_at, labels_at, walk_at, route_at, meeting_at}
-use Rattle.mud_cert.specs.Reading.{conclusion_at}
-use Rattle.mud_cert.specs.Stages.{lines_of, IsStage, conclude, join, next, run}
+use Rattle.mud_cert.specs.inner.Reading.{after, head_at, version_at, member_at, labels_at, walk_at, route_at}
+use Rattle.mud_cert.specs.inner.Reading.{meeting_at}
+use Rattle.mud_cert.specs.inner.Reading.{conclusion_at}
+use Rattle.mud_cert.specs.inner.Stages.{lines_of, IsStage, conclude, join, next, run}
 use Rattle.mud_cert.proofs.Splitting.{cut, uncut, text-then, no-lines, split-longer, split-whole, cert-lines}
 use Rattle.mud_cert.proofs.Machine.{next-keeps, run-then, run-append, run-fails, run-none, cert-runs, Starts}
 use Rattle.mud_cert.proofs.Machine.{stage-begins}

@@ -16,7 +16,7 @@ use Rattle.mud_cert.specs.declared.cert.Conclusion.TheVariants.{Route, Meet}
 use Rattle.mud_cert.specs.Certificate.{Account, Certificate, IsNumber, IsAmount, IsAccount, IsConclusion, IsCertificate}
 use Rattle.mud_cert.specs.Text.{text_of, head_line, entry_text, walk_line, member_lines, conclusion_line, cert_lines}
 use Rattle.mud_cert.specs.Text.{cert_text}
-use Rattle.mud_cert.specs.Lines.{version_line, member_line, labels_line, IsEntry, ended, exit_text}
+use Rattle.mud_cert.specs.inner.Lines.{version_line, member_line, labels_line, IsEntry, ended, exit_text}
 use Rattle.mud_cert.specs.Faults.{IsLine}
 use Rattle.mud_cert.specs.TextLaws.{HasNoReturn}
 

@@ -8,7 +8,7 @@ use Rattle.mud_world.specs.Sound.{IsSound}
 use Rattle.mud_cert.specs.Certificate.{Certificate, IsCertificate, IsConclusion}
 use Rattle.mud_cert.specs.Valid.{IsValid}
 use Rattle.mud_cert.specs.declared.doubt.Doubt.TheVariants as doubts
-use Rattle.mud_cert.specs.Tests.{concludes, unless, members_doubt, first_doubt}
+use Rattle.mud_cert.specs.inner.Tests.{concludes, unless, members_doubt, first_doubt}
 use Rattle.mud_cert.proofs.Doubtless.{or-none, or-both, unless-none, unless-from}
 use Rattle.mud_cert.proofs.Members.{members-from, members-to}
 use Rattle.mud_cert.proofs.Conclusions.{concludes-from, concludes-to}

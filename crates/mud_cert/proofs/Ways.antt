@@ -10,11 +10,11 @@ use Rattle.mud_world.specs.Sound.{IsSound}
 use Rattle.mud_world.proofs.Records.{in_bounds}
 use Rattle.mud_roads.specs.declared.label.Step.{Step}
 use Rattle.mud_roads.specs.Open.{passable, roads_of}
-use Rattle.mud_roads.specs.Inner.{step_by}
+use Rattle.mud_roads.specs.inner.Steps.{step_by}
 use Rattle.mud_roads.specs.Laws.{IsRoad}
 use Rattle.mud_roads.proofs.Roads as roads
-use Rattle.mud_cert.specs.Ways.{step_of}
-use Rattle.mud_cert.specs.Tests.{leaves, numbers}
+use Rattle.mud_cert.specs.inner.Ways.{step_of}
+use Rattle.mud_cert.specs.inner.Tests.{leaves, numbers}
 use Rattle.mud_cert.proofs.Finds.{below-contained}
 
 -- the exit whose step it is

@@ -2,10 +2,10 @@
 
 ghost use Rattle.std.specs.Prelude.{◌≡◌, is_none};
 ghost use Rattle.std.specs.List.{list_any, list_all};
-ghost use Rattle.mud_cert.specs.Ways.{arrival_of};
-ghost use Rattle.mud_cert.specs.Agreement.{gathered};
-ghost use Rattle.mud_cert.specs.Tests.{is_there_within, is_there_at, is_no_worse, first_labels};
-ghost use Rattle.mud_cert.specs.Tests.{stays, misses, concludes};
+ghost use Rattle.mud_cert.specs.inner.Ways.{arrival_of};
+ghost use Rattle.mud_cert.specs.inner.Agreement.{gathered};
+ghost use Rattle.mud_cert.specs.inner.Tests.{is_there_within, is_there_at, is_no_worse, first_labels};
+ghost use Rattle.mud_cert.specs.inner.Tests.{stays, misses, concludes};
 
 use crate::look::label_at;
 use crate::steps::arrival_of;

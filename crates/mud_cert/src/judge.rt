@@ -7,8 +7,8 @@ ghost use Rattle.mud_world.specs.State.{IsHolding, is_room};
 ghost use Rattle.mud_world.specs.Sound.{IsSound};
 ghost use Rattle.mud_cert.specs.Certificate.{IsCertificate};
 ghost use Rattle.mud_cert.specs.declared.doubt.Doubt.TheVariants.{OutOfMemory, Arc};
-ghost use Rattle.mud_cert.specs.Tests.{is_label, ◌or◌, numbers, is_new, stands, is_started, breaks};
-ghost use Rattle.mud_cert.specs.Tests.{walk_doubt, given_doubt, member_doubt, members_doubt, first_doubt};
+ghost use Rattle.mud_cert.specs.inner.Tests.{is_label, ◌or◌, numbers, is_new, stands, is_started, breaks};
+ghost use Rattle.mud_cert.specs.inner.Tests.{walk_doubt, given_doubt, member_doubt, members_doubt, first_doubt};
 ghost use Rattle.mud_cert.specs.Valid.{IsValid, Optimal};
 ghost use Rattle.mud_cert.specs.Doubts.{IsFirstDoubt};
 

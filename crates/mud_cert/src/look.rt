@@ -3,7 +3,7 @@
 ghost use Rattle.std.specs.Prelude.{◌≡◌};
 ghost use Rattle.mud_roads.specs.Walks.{after};
 ghost use Rattle.mud_cert.specs.Lookup.{Rises, label_in, label_at};
-ghost use Rattle.mud_cert.specs.Tests.{is_at_most};
+ghost use Rattle.mud_cert.specs.inner.Tests.{is_at_most};
 
 use crate::Member;
 use mud_roads::{Label, Step};

@@ -1,13 +1,15 @@
 //! Numbers at the front of bytes.
 
 ghost use Rattle.std.specs.Prelude.{◌≡◌, ◌<◌, option_map};
-ghost use Rattle.mud_cert.specs.Reading.{is_digit, small, digits_on, number_at, object_at};
+ghost use Rattle.mud_cert.specs.inner.Reading.{is_digit, small, digits_on, number_at, object_at};
+
+use mud_world::LAST_NUMBER;
 
 /// Whether the byte is a digit.
 fn is_digit(byte: u8) -> bool
     ensures { result ≡ is_digit byte }
 {
-    48 <= byte && byte <= 57
+    b'0' <= byte && byte <= b'9'
 }
 
 /// The number and the rest, where it has at most nine digits.
@@ -35,24 +37,24 @@ fn digits_on(start: u8, bytes: &[u8]) -> Option<(u32, &[u8])>
         if number >= 1_000_000_000 {
             return None;
         }
-        number = number * 10 + u64::from(*digit - 48);
+        number = number * 10 + u64::from(*digit - b'0');
     }
     small(number, &bytes[bytes.len()..])
 }
 
 /// A number of at most nine digits, the first of which is 0 only in 0 itself, and the bytes after
 /// it.
-#[tactic(auto, unfolding(crate::specs::Reading::number_at))]
+#[tactic(auto, unfolding(crate::specs::inner::Reading::number_at))]
 pub fn number_at(bytes: &[u8]) -> Option<(u32, &[u8])>
     ensures { option_map (λ x. (x.0, x.1.now)) result ≡ number_at bytes.now }
 {
     match bytes {
         [] => None,
         [first, rest @ ..] => {
-            if *first == 48 {
+            if *first == b'0' {
                 Some((0, rest))
             } else if is_digit(*first) {
-                digits_on(*first - 48, rest)
+                digits_on(*first - b'0', rest)
             } else {
                 None
             }
@@ -61,12 +63,12 @@ pub fn number_at(bytes: &[u8]) -> Option<(u32, &[u8])>
 }
 
 /// The number of an object, and the bytes after it.
-#[tactic(auto, unfolding(crate::specs::Reading::object_at))]
+#[tactic(auto, unfolding(crate::specs::inner::Reading::object_at))]
 pub fn object_at(bytes: &[u8]) -> Option<(u32, &[u8])>
     ensures { option_map (λ x. (x.0, x.1.now)) result ≡ object_at bytes.now }
 {
     let (number, rest) = number_at(bytes)?;
-    if number <= 8191 {
+    if number <= LAST_NUMBER {
         Some((number, rest))
     } else {
         None

@@ -2,9 +2,9 @@
 
 ghost use Rattle.std.specs.Prelude.{◌≡◌, ◌++◌, ◌∷◌, [], ◌<◌, IfOk, length};
 ghost use Rattle.mud_cert.specs.Certificate.{IsNumber, IsCertificate, IsAccount, CountsBy};
-ghost use Rattle.mud_cert.specs.Opening.{IsOpening};
-ghost use Rattle.mud_cert.specs.Reading.{member_at, conclusion_at};
-ghost use Rattle.mud_cert.specs.Stages.{IsStage, concluded, suits, conclude, join, next};
+ghost use Rattle.mud_cert.specs.inner.Opening.{IsOpening};
+ghost use Rattle.mud_cert.specs.inner.Reading.{member_at, conclusion_at};
+ghost use Rattle.mud_cert.specs.inner.Stages.{IsStage, concluded, suits, conclude, join, next};
 
 use crate::cert::{Cert, Conclusion, Form, Member};
 use crate::lines::{conclusion_of, head_of, labels_of, member_of, says, version_of, walk_of};
@@ -20,7 +20,7 @@ pub struct Party {
 }
 
 impl Model for Party {
-    ghost use Rattle.mud_cert.specs.Opening.{Opening};
+    ghost use Rattle.mud_cert.specs.inner.Opening.{Opening};
 
     ghost Value = { Opening };
 
@@ -58,7 +58,7 @@ fn suits(count: usize, conclusion: Conclusion) -> bool
 
 impl Party {
     /// After the line of a conclusion.
-    #[tactic(auto, unfolding(crate::specs::Stages::conclude))]
+    #[tactic(auto, unfolding(crate::specs::inner::Stages::conclude))]
     fn conclude(self, line: &[u8]) -> Option<Stage>
         requires { IsOpening self }
         ensures { result ≡ conclude self (conclusion_at line.now) }
@@ -72,7 +72,7 @@ impl Party {
     }
 
     /// After a member's first line, or a conclusion.
-    #[tactic(auto, unfolding(crate::specs::Stages::join))]
+    #[tactic(auto, unfolding(crate::specs::inner::Stages::join))]
     fn join(self, line: &[u8]) -> Option<Stage>
         requires { IsOpening self }
         ensures { result ≡ join self (member_at line.now) line.now }
@@ -90,7 +90,7 @@ impl Party {
     }
 
     /// After a member's second line.
-    #[tactic(auto, unfolding(crate::specs::Stages::next))]
+    #[tactic(auto, unfolding(crate::specs::inner::Stages::next))]
     fn label(
         self,
         alloc: Global,
@@ -111,7 +111,7 @@ impl Party {
     }
 
     /// After a member's third line.
-    #[tactic(auto, unfolding(crate::specs::Stages::next))]
+    #[tactic(auto, unfolding(crate::specs::inner::Stages::next))]
     fn walk(self, alloc: Global, member: Member, line: &[u8]) -> Result<Option<Stage>, AllocError>
         requires { IsAccount member }
         ensures { IfOk result (λ s. s ≡ next (Stage.Labelled self member) line.now) }
@@ -130,7 +130,7 @@ impl Party {
 }
 
 /// After the first line.
-#[tactic(auto, unfolding(crate::specs::Stages::next))]
+#[tactic(auto, unfolding(crate::specs::inner::Stages::next))]
 fn head(line: &[u8]) -> Option<Stage>
     ensures { result ≡ next Stage.Nothing line.now }
 {
@@ -139,7 +139,7 @@ fn head(line: &[u8]) -> Option<Stage>
 }
 
 /// After the second line.
-#[tactic(auto, unfolding(crate::specs::Stages::next))]
+#[tactic(auto, unfolding(crate::specs::inner::Stages::next))]
 fn open(alloc: Global, form: Form, line: &[u8]) -> Option<Stage>
     ensures { result ≡ next (Stage.Headed form) line.now }
 {
@@ -152,7 +152,7 @@ fn open(alloc: Global, form: Form, line: &[u8]) -> Option<Stage>
 }
 
 /// After the last line.
-#[tactic(auto, unfolding(crate::specs::Stages::next))]
+#[tactic(auto, unfolding(crate::specs::inner::Stages::next))]
 fn end(cert: Cert, line: &[u8]) -> Option<Stage>
     ensures { result ≡ next (Stage.Concluded cert) line.now }
 {
@@ -165,7 +165,7 @@ fn end(cert: Cert, line: &[u8]) -> Option<Stage>
 
 impl Stage {
     /// What is said with one line more; nothing where no certificate goes on so.
-    #[tactic(auto, unfolding(crate::specs::Stages::next, crate::specs::Stages::IsStage))]
+    #[tactic(auto, unfolding(crate::specs::inner::Stages::next, crate::specs::inner::Stages::IsStage))]
     pub fn next(self, alloc: Global, line: &[u8]) -> Result<Option<Stage>, AllocError>
         requires { IsStage self }
         ensures { IfOk result (λ s. s ≡ next self line.now) }

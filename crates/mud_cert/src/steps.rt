@@ -4,9 +4,9 @@ ghost use Rattle.std.specs.Prelude.{◌≡◌, ℕ};
 ghost use Rattle.mud_roads.specs.Open.{passable};
 ghost use Rattle.mud_roads.specs.Walks.{total};
 ghost use Rattle.mud_world.specs.State.{IsHolding};
-ghost use Rattle.mud_cert.specs.Ways.{step_of, steps_of, end_of, arrival_of};
+ghost use Rattle.mud_cert.specs.inner.Ways.{step_of, steps_of, end_of, arrival_of};
 ghost use Rattle.mud_cert.specs.Certificate.{hop_of};
-ghost use Rattle.mud_cert.specs.Tests.{leaves, broken, locked};
+ghost use Rattle.mud_cert.specs.inner.Tests.{leaves, broken, locked};
 
 use crate::{Form, Member};
 use mud_roads::Step;

@@ -6,10 +6,10 @@ use Rattle.std.proofs.lemmas.List.{append-nil, length-append}
 use Rattle.std.proofs.lemmas.List.Elements.{All-nil, All-push}
 use Rattle.std.proofs.lemmas.Grind.{flat_map-append}
 use Rattle.mud_cert.specs.Text.{text_of}
-use Rattle.mud_cert.specs.Lines.{ended}
+use Rattle.mud_cert.specs.inner.Lines.{ended}
 use Rattle.mud_cert.specs.Faults.{IsLine}
 use Rattle.mud_check.specs.Input.{begins_end, IsInner}
-use Rattle.mud_check.specs.Inner.{IsSplit}
+use Rattle.mud_check.specs.inner.Split.{IsSplit}
 
 -- the bytes are lines that begin otherwise, and this rest
 pub record IsPassed (bytes rest : List ℕ) : Type 0 where

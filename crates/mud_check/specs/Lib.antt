@@ -1,3 +1,3 @@
 pub mod Input
 pub mod Said
-pub mod Inner
+pub mod inner

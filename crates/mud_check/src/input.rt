@@ -2,7 +2,7 @@
 
 ghost use Rattle.std.specs.Prelude.{◌≡◌, codes};
 ghost use Rattle.mud_check.specs.Input.{begins_end};
-ghost use Rattle.mud_check.specs.Inner.{IsSplit};
+ghost use Rattle.mud_check.specs.inner.Split.{IsSplit};
 
 use memchr::memchr;
 

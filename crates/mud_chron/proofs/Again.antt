@@ -16,11 +16,11 @@ use Rattle.mud_world.specs.declared.change.Deed.TheVariants.{Dig, Make, Lock, Un
 use Rattle.mud_world.specs.declared.change.Deed.TheVariants.{Recycle, Say, Emote}
 use Rattle.mud_chron.specs.declared.verb.Verb.{Verb}
 use Rattle.mud_chron.specs.declared.verb.Verb.TheVariants as verb
-use Rattle.mud_chron.specs.Entry.{Accepted, IsEntry, IsInRange, HasParts, IsTarget}
-use Rattle.mud_world.specs.Inner.{AreDoors, AreBackNames}
+use Rattle.mud_chron.specs.Entry.{Entry, IsEntry, IsInRange, HasParts, IsTarget}
+use Rattle.mud_world.specs.inner.Parts.{AreDoors, AreBackNames}
 use Rattle.mud_chron.specs.Text.{quoted, listed, target_text, deed_text, entry_line}
-use Rattle.mud_chron.specs.Inner.{back_text, doors_text, change_text}
-use Rattle.mud_chron.specs.Fields.{object_in}
+use Rattle.mud_chron.specs.inner.Texts.{back_text, doors_text, change_text}
+use Rattle.mud_chron.specs.inner.Fields.{object_in}
 use Rattle.mud_chron.proofs.Reader.{◌>>=◌, cut, object_before, number_up_to, number_key_in}
 use Rattle.mud_chron.proofs.Reader.{names_before, quoted_in, back_in, doors_behind, doors_in, new_in, way_to, old_in}
 use Rattle.mud_chron.proofs.Reader.{dig_in, make_in, player_in, lock_in, unlock_in, move_in, walk_in, cost_in}
@@ -209,7 +209,7 @@ desk_again desk lo hi =
     ap (λ (o : Option ℕ). o >>= (λ desk. cond (leb 1 desk) (Some desk) None)) (number_again 64 desk hi (omega arith))
     ∙ cond-true (leb 1 desk) (Some desk) None (le-leb 1 desk lo)
 
-pub line_shape : (version : ℕ) (e : Accepted)
+pub line_shape : (version : ℕ) (e : Entry)
     → entry_line version e ≡ decimal version ++ 32 ∷ (decimal e.desk ++ 32 ∷ change_text e.change)
 unfolding entry_line
 line_shape version e =
@@ -219,7 +219,7 @@ line_shape version e =
     ∙ append_assoc (decimal version) (codes " ") (decimal e.desk ++ 32 ∷ text)
 
 -- the entry of a line is found, whatever version it makes
-pub entry_again : (version : ℕ) (e : Accepted) → version < 2 ^ 64 → IsEntry e → entry_in (entry_line version e) ≡ Some e
+pub entry_again : (version : ℕ) (e : Entry) → version < 2 ^ 64 → IsEntry e → entry_in (entry_line version e) ≡ Some e
 unfolding entry_in
 entry_again version e fits is =
     let s = is.spellable in
@@ -308,7 +308,7 @@ plain_deed actor d a r h =
     (plain_behind actor (rest_of d) a (plain_rest d r h))
 
 -- a line has only bytes from 32 to 126
-pub plain_line : (version : ℕ) (e : Accepted) → version < 2 ^ 64 → IsEntry e
+pub plain_line : (version : ℕ) (e : Entry) → version < 2 ^ 64 → IsEntry e
     → list_all plain (entry_line version e) ≡ true
 plain_line version e fits is =
     let s = is.spellable in

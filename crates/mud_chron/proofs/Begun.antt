@@ -3,21 +3,21 @@ use Rattle.std.proofs.Common.{◌≡◌, ℕ, ◌+◌, ◌<◌, List, [], ◌∷
 use Rattle.std.proofs.lemmas.List.{append-nil, length-append}
 use Rattle.std.specs.List.{AllByRecursion}
 use Rattle.mud_chron.specs.declared.format.Format.{Format}
-use Rattle.mud_chron.specs.declared.line.Line.TheVariants.{Entry}
-use Rattle.mud_chron.specs.Entry.{Accepted}
+use Rattle.mud_chron.specs.declared.line.Line.TheVariants as lines
+use Rattle.mud_chron.specs.Entry.{Entry}
 use Rattle.mud_chron.specs.Text.{line_feed, head_line, entry_line, entries_text}
-use Rattle.mud_chron.specs.Inner.{entry_text, begun_text}
+use Rattle.mud_chron.specs.inner.Texts.{entry_text, begun_text}
 use Rattle.mud_chron.specs.History.{IsEntryOf}
 use Rattle.mud_chron.specs.Faults.{Begins, IsTooLong}
-use Rattle.mud_chron.specs.Lines.{IsLine}
+use Rattle.mud_chron.specs.inner.Lines.{IsLine}
 
-each-push : (format : Format) (es : List Accepted) (e : Accepted) → AllByRecursion (IsEntryOf format) es
+each-push : (format : Format) (es : List Entry) (e : Entry) → AllByRecursion (IsEntryOf format) es
     → IsEntryOf format e → AllByRecursion (IsEntryOf format) (es ++ e ∷ [])
 each-push format [] e h is = (is, tt)
 each-push format (f ∷ es) e h is = (h.0, each-push format es e h.1 is)
 
 -- one more line
-pub entries_text-push : (version : ℕ) (es : List Accepted) (e : Accepted)
+pub entries_text-push : (version : ℕ) (es : List Entry) (e : Entry)
     → entries_text version (es ++ e ∷ []) ≡ entries_text version es ++ entry_text (version + length es) e
 entries_text-push version [] e = let now : version ≡ version + 0 = omega arith in
     append-nil (entry_text version e) ∙ ap (λ v. entry_text v e) now
@@ -28,7 +28,7 @@ entries_text-push version (f ∷ es) e =
     ∙ sym (append_assoc (entry_text version f) (entries_text (version + 1) es)
     (entry_text (version + length (f ∷ es)) e))
 
-begun-push : (format : Format) (es : List Accepted) (e : Accepted) (more : List ℕ)
+begun-push : (format : Format) (es : List Entry) (e : Entry) (more : List ℕ)
     → begun_text format es (entry_line (length es + 1) e ++ line_feed ++ more) ≡ begun_text format (es ++ e ∷ []) more
 begun-push format es e more =
     let head : List ℕ = head_line format ++ line_feed in
@@ -40,9 +40,9 @@ begun-push format es e more =
     (ap (λ v. entries_text 1 es ++ entry_text v e) now ∙ sym (entries_text-push 1 es e))
 
 -- after an entry's line the text has begun with that entry too
-pub next_entry : (format : Format) (es : List Accepted) (bytes rest line more : List ℕ) (count : ℕ) (e : Accepted)
+pub next_entry : (format : Format) (es : List Entry) (bytes rest line more : List ℕ) (count : ℕ) (e : Entry)
     → Begins format es bytes rest → rest ≡ line ++ line_feed ++ more
-    → count ≡ length es → IsLine format count line (Entry e) → length es < 65536
+    → count ≡ length es → IsLine format count line (lines.Entry e) → length es < 65536
     → Begins format (es ++ e ∷ []) bytes more
 next_entry format es bytes rest line more count e b cut counted is few = record {
   allowed = record { each = each-push format es e b.allowed.each is.0; few = omega (arith, length-append es (e ∷ [])) };
@@ -54,9 +54,9 @@ next_entry format es bytes rest line more count e b cut counted is few = record 
 }
 
 -- after the last entry that a text can have stands one more
-pub too_long : (format : Format) (es : List Accepted) (bytes rest line more : List ℕ) (count : ℕ) (e : Accepted)
+pub too_long : (format : Format) (es : List Entry) (bytes rest line more : List ℕ) (count : ℕ) (e : Entry)
     → Begins format es bytes rest → rest ≡ line ++ line_feed ++ more
-    → count ≡ length es → IsLine format count line (Entry e) → length es ≡ 65536 → IsTooLong bytes
+    → count ≡ length es → IsLine format count line (lines.Entry e) → length es ≡ 65536 → IsTooLong bytes
 too_long format es bytes rest line more count e b cut counted is full = record {
   format = format;
   entries = es;

@@ -6,7 +6,7 @@ use Rattle.std.proofs.lemmas.Bool.Decides.{Decides-eqb}
 use Rattle.std.specs.Prelude.{not}
 use Rattle.std.specs.List.{AllByRecursion, list_all, position_or_len, before_first, after_first}
 use Rattle.std.specs.Option.{option_map}
-use Rattle.mud_chron.specs.Fields.{Lacks}
+use Rattle.mud_chron.specs.inner.Fields.{Lacks}
 use Rattle.mud_chron.proofs.Reader.{cut}
 
 eqb-refl : (c : ℕ) → eqb c c ≡ true

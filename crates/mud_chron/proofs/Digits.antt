@@ -11,7 +11,7 @@ use Rattle.std.proofs.lemmas.List.Folds.{list_all-append}
 use Rattle.std.proofs.lemmas.Bool.{cond-true, and_from, and_parts, le-leb, leb-true, lt-ltb, ne_eqb}
 use Rattle.mud_key.specs.Printed.{number_text}
 use Rattle.mud_chron.specs.declared.fields.Unread.{Unread}
-use Rattle.mud_chron.specs.Fields.{is_digit, digits_on, up_to, object_in, Gives, Finds}
+use Rattle.mud_chron.specs.inner.Fields.{is_digit, digits_on, up_to, object_in, Gives, Finds}
 use Rattle.mud_chron.proofs.Reader.{◌>>=◌, object_before}
 use Rattle.mud_chron.proofs.Cutting.{lacks, cut_again, implied}
 

@@ -26,10 +26,10 @@ use Rattle.mud_chron.specs.declared.verb.Verb.TheVariants as verb
 use Rattle.mud_chron.specs.declared.fields.Unread.{Unread}
 use Rattle.mud_chron.specs.declared.fields.Unread.TheVariants.{OutOfMemory}
 use Rattle.mud_chron.specs.Entry.{IsNumber, IsInRange, HasParts}
-use Rattle.mud_world.specs.Inner.{AreDoors, AreBackNames}
+use Rattle.mud_world.specs.inner.Parts.{AreDoors, AreBackNames}
 use Rattle.mud_chron.specs.Text.{quoted, listed, target_text}
-use Rattle.mud_chron.specs.Inner.{back_text, doors_text, change_text}
-use Rattle.mud_chron.specs.Fields.{Lacks, Finds, FindsDeed, word_of}
+use Rattle.mud_chron.specs.inner.Texts.{back_text, doors_text, change_text}
+use Rattle.mud_chron.specs.inner.Fields.{Lacks, Finds, FindsDeed, word_of}
 use Rattle.mud_chron.proofs.Cutting.{lacks, lacks_all}
 use Rattle.mud_chron.proofs.Digits.{decimal_lacks}
 use Rattle.mud_chron.proofs.Spelled.{key_text, key_limits}

@@ -11,9 +11,9 @@ use mathlib.Core.List.{IsPrefix}
 use Rattle.mud_chron.specs.declared.fault.ChronFault.TheVariants as fault
 use Rattle.mud_chron.specs.declared.format.Format.{Format}
 use Rattle.mud_chron.specs.declared.format.Format.TheVariants.{One, Two}
-use Rattle.mud_chron.specs.Entry.{Accepted, IsEntry}
+use Rattle.mud_chron.specs.Entry.{Entry, IsEntry}
 use Rattle.mud_chron.specs.Text.{line_feed, head_line, entry_line, entries_text, end_line, journal_text}
-use Rattle.mud_chron.specs.Inner.{entry_text}
+use Rattle.mud_chron.specs.inner.Texts.{entry_text}
 use Rattle.mud_chron.specs.History.{IsEntryOf, AreEntriesOf}
 use Rattle.mud_chron.specs.Faults.{HasNoLineFeed, IsNoHistory, Begins, IsNoEntryLine}
 use Rattle.mud_chron.specs.Fronts.{BeginsHead, EndsInHead, EndsInLine, Recovers, HasOtherLine}
@@ -31,7 +31,7 @@ IsPlain text = AllByRecursion (λ b. b ≢ 10) text
 plain_of : (text : List ℕ) → HasNoLineFeed text → IsPlain text
 plain_of text h = recursion_from_All (λ b. b ≢ 10) text h
 
-plain_entry : (version : ℕ) (e : Accepted) → version < 2 ^ 64 → IsEntry e → IsPlain (entry_line version e)
+plain_entry : (version : ℕ) (e : Entry) → version < 2 ^ 64 → IsEntry e → IsPlain (entry_line version e)
 plain_entry version e fits is = lacks_all 10 (entry_line version e) (entry_lacks version e fits is)
 
 -- two lines that end, of which the second may be cut
@@ -72,22 +72,22 @@ torn_line t (b ∷ y) s (suc n) h e =
 -- ---- the lines of entries
 
 -- an entry's line in front
-entry_front : (version : ℕ) (e : Accepted) (text : List ℕ)
+entry_front : (version : ℕ) (e : Entry) (text : List ℕ)
     → entry_text version e ++ text ≡ entry_line version e ++ 10 ∷ text
 entry_front version e text = append_assoc (entry_line version e) line_feed text
 
-line_front : (version : ℕ) (e : Accepted) (text rest : List ℕ)
+line_front : (version : ℕ) (e : Entry) (text rest : List ℕ)
     → (entry_text version e ++ text) ++ rest ≡ entry_line version e ++ 10 ∷ (text ++ rest)
 line_front version e text rest = append_assoc (entry_text version e) text rest ∙ entry_front version e (text ++ rest)
 
-length_entry : (version : ℕ) (e : Accepted) (text : List ℕ)
+length_entry : (version : ℕ) (e : Entry) (text : List ℕ)
     → length (entry_text version e ++ text) ≡ suc (length (entry_line version e)) + length text
 length_entry version e text =
     omega (arith, ap length (entry_front version e text), length-append (entry_line version e) (10 ∷ text))
 
 -- the lines of the entries got, and then this rest, are a front of the lines of these entries
-record Cuts (version : ℕ) (entries got : List Accepted) (n : ℕ) (rest : List ℕ) : Type 0 where
-  more : List Accepted
+record Cuts (version : ℕ) (entries got : List Entry) (n : ℕ) (rest : List ℕ) : Type 0 where
+  more : List Entry
   front : entries ≡ got ++ more
   fits : length (entries_text version got) ≤ n
   behind : rest ≡ take (n - length (entries_text version got)) (entries_text (version + length got) more)
@@ -98,14 +98,14 @@ nothing_taken zero (a ∷ line) rest e = cc
 nothing_taken (suc n) [] rest e = cc
 nothing_taken (suc n) (a ∷ line) rest e = cc
 
-one_entry : (version : ℕ) (e f : Accepted) → version < 2 ^ 64 → IsEntry e → IsEntry f
+one_entry : (version : ℕ) (e f : Entry) → version < 2 ^ 64 → IsEntry e → IsEntry f
     → entry_line version e ≡ entry_line version f → e ≡ f
 one_entry version e f fits is is' same =
-    let found : ◌≡◌ {A = Option Accepted} (Some e) (Some f) =
+    let found : ◌≡◌ {A = Option Entry} (Some e) (Some f) =
     sym (entry_again version e fits is) ∙ ap entry_in same ∙ entry_again version f fits is' in
     cc
 
-cuts : (format : Format) (version : ℕ) (entries got : List Accepted) (n : ℕ) (rest : List ℕ)
+cuts : (format : Format) (version : ℕ) (entries got : List Entry) (n : ℕ) (rest : List ℕ)
     → version + length entries < 2 ^ 64 → version + length got < 2 ^ 64
     → AllByRecursion (IsEntryOf format) entries → AllByRecursion (IsEntryOf format) got
     → entries_text version got ++ rest ≡ take n (entries_text version entries) → Cuts version entries got n rest
@@ -222,17 +222,17 @@ short_front h k t bytes more n same some whole e =
       length-append k t,
     )
 
-length_journal : (format : Format) (es : List Accepted)
+length_journal : (format : Format) (es : List Entry)
     → length (journal_text format es) ≡ length (head_text format) + length (entries_text 1 es)
 length_journal format es = length-append (head_text format) (entries_text 1 es)
 
 -- the bytes are a front of a journal of some entries, and begin with the text of these
-record BegunFront (f g : Format) (entries got : List Accepted) (n : ℕ) (rest : List ℕ) : Type 0 where
+record BegunFront (f g : Format) (entries got : List Entry) (n : ℕ) (rest : List ℕ) : Type 0 where
   same : f ≡ g
   head : length (head_text f) ≤ n
   cut : Cuts 1 entries got (n - length (head_text f)) rest
 
-begun_front : (f g : Format) (entries got : List Accepted) (bytes rest : List ℕ) (n : ℕ) → AreEntriesOf f entries
+begun_front : (f g : Format) (entries got : List Entry) (bytes rest : List ℕ) (n : ℕ) → AreEntriesOf f entries
     → Begins g got bytes rest → bytes ≡ take n (journal_text f entries) → BegunFront f g entries got n rest
 begun_front f g entries got bytes rest n allowed begins e = go (one_format g f heads)
   where
@@ -261,12 +261,12 @@ begun_front f g entries got bytes rest n allowed begins e = go (one_format g f h
               b.behind;
         }
 
-one_more : (format : Format) (got : List Accepted) (e : Accepted)
+one_more : (format : Format) (got : List Entry) (e : Entry)
     → length (journal_text format (got ++ e ∷ []))
     ≡ length (journal_text format got) + suc (length (entry_line (1 + length got) e))
 one_more format got e = omega (arith, grown got 1, length_journal format got, length_journal format (got ++ e ∷ []))
   where
-    grown : (es : List Accepted) (version : ℕ)
+    grown : (es : List Entry) (version : ℕ)
         → length (entries_text version (es ++ e ∷ []))
         ≡ length (entries_text version es) + suc (length (entry_line (version + length es) e))
     grown [] version =
@@ -290,7 +290,7 @@ more_to_come head bytes more unended whole none =
     unended head []
     (sym (append-nil bytes) ∙ ap (λ m. bytes ++ m) (sym none) ∙ whole ∙ sym (append-nil (head_text head)))
 
-whole_head : (format found : Format) (entries got : List Accepted) (n keep : ℕ) (bytes : List ℕ)
+whole_head : (format found : Format) (entries got : List Entry) (n keep : ℕ) (bytes : List ℕ)
     → bytes ≡ take n (journal_text format entries) → EndsInHead bytes found got keep
     → AreWhole format entries n found got keep
 whole_head format found entries got n keep bytes cut new =
@@ -308,7 +308,7 @@ whole_head format found entries got n keep bytes cut new =
       kept = inl (few, new.none, new.keep_is);
     }
 
-whole_line : (format found : Format) (entries got : List Accepted) (n keep : ℕ) (bytes : List ℕ)
+whole_line : (format found : Format) (entries got : List Entry) (n keep : ℕ) (bytes : List ℕ)
     → AreEntriesOf format entries → AreEntriesOf found got → bytes ≡ take n (journal_text format entries)
     → EndsInLine bytes found got keep → AreWhole format entries n found got keep
 whole_line format found entries got n keep bytes allowed these cut s =
@@ -338,7 +338,7 @@ whole_line format found entries got n keep bytes allowed these cut s =
       kept = inr (sym p.same, long);
     }
 
-pub recovers_whole : (format found : Format) (entries got : List Accepted) (n keep : ℕ) → AreEntriesOf format entries
+pub recovers_whole : (format found : Format) (entries got : List Entry) (n keep : ℕ) → AreEntriesOf format entries
     → Recovers (take n (journal_text format entries)) found got keep → AreWhole format entries n found got keep
 recovers_whole format found entries got n keep allowed r = go r.ends
   where
@@ -354,7 +354,7 @@ recovers_whole format found entries got n keep allowed r = go r.ends
 -- the bytes are no journal that was cut at a byte
 abbrev IsNoFront : List ℕ → Type 0
 IsNoFront bytes =
-    (format : Format) (entries : List Accepted) (n : ℕ) → AreEntriesOf format entries
+    (format : Format) (entries : List Entry) (n : ℕ) → AreEntriesOf format entries
     → bytes ≢ take n (journal_text format entries)
 
 not_history : (bytes : List ℕ) → IsNoHistory bytes → (BeginsHead bytes → ⊥) → IsNoFront bytes
@@ -367,13 +367,13 @@ not_history bytes other none = λ format entries n allowed e.
     go format (inl p) e = none (format, (p.0, ap (λ l. l ++ p.0) e ∙ sym p.1))
     go format (inr p) e = other format p.0 (e ∙ p.1)
 
-last_one : (format : Format) (got more : List Accepted) (f : Accepted)
+last_one : (format : Format) (got more : List Entry) (f : Entry)
     → AllByRecursion (IsEntryOf format) (got ++ f ∷ more) → IsEntryOf format f
 last_one format [] more f h = h.0
 last_one format (g ∷ got) more f h = last_one format got more f h.1
 
 -- the rest by its line
-cut_begins : (g : Format) (got : List Accepted) (bytes line more : List ℕ)
+cut_begins : (g : Format) (got : List Entry) (bytes line more : List ℕ)
     → Begins g got bytes (line ++ line_feed ++ more) → Begins g got bytes (line ++ 10 ∷ more)
 cut_begins g got bytes line more = subst (Begins g got bytes) (append_assoc line line_feed more)
 
@@ -386,8 +386,8 @@ no_line bytes n h = λ format entries n allowed e.
     go format p.same entries (n - length (head_text format) - length (entries_text 1 h.entries)) allowed p.cut.more
     p.cut.front p.cut.behind
   where
-    go : (format : Format) → format ≡ h.format → (entries : List Accepted) (at : ℕ) → AreEntriesOf format entries
-        → (es : List Accepted) → entries ≡ h.entries ++ es
+    go : (format : Format) → format ≡ h.format → (entries : List Entry) (at : ℕ) → AreEntriesOf format entries
+        → (es : List Entry) → entries ≡ h.entries ++ es
         → h.line ++ 10 ∷ h.rest ≡ take at (entries_text (1 + length h.entries) es) → ⊥
     go format same entries at allowed [] front e = nothing_taken at h.line h.rest e
     go format same entries at allowed (f ∷ es) front e =
@@ -402,7 +402,7 @@ no_line bytes n h = λ format entries n allowed e.
         h.other f (subst (λ x. IsEntryOf x f) same is) (one.same ∙ ap (λ w. entry_line w f) v)
 
 -- after the last entry that a text can have stands one more
-past_end : (g : Format) (got : List Accepted) (bytes line more : List ℕ)
+past_end : (g : Format) (got : List Entry) (bytes line more : List ℕ)
     → Begins g got bytes (line ++ line_feed ++ more) → length got ≡ 65536 → IsNoFront bytes
 past_end g got bytes line more begins full = λ format entries n allowed e.
     let p =
@@ -410,7 +410,7 @@ past_end g got bytes line more begins full = λ format entries n allowed e.
     go entries (n - length (head_text format) - length (entries_text 1 got)) allowed.few p.cut.more p.cut.front
     p.cut.behind
   where
-    go : (entries : List Accepted) (at : ℕ) → length entries ≤ 65536 → (es : List Accepted) → entries ≡ got ++ es
+    go : (entries : List Entry) (at : ℕ) → length entries ≤ 65536 → (es : List Entry) → entries ≡ got ++ es
         → line ++ 10 ∷ more ≡ take at (entries_text (1 + length got) es) → ⊥
     go entries at few [] front e = nothing_taken at line more e
     go entries at few (f ∷ es) front e = absurd (omega (arith, full, ap length front, length-append got (f ∷ es)))
@@ -427,14 +427,14 @@ faults_are_no_fronts bytes fault.NoEnd h = absurd h
 -- ---- nothing is lost
 
 -- of two fronts of one list the first begins the second, or goes on after it
-record GoesOn (synced got more : List Accepted) : Type 0 where
-  e : Accepted
-  rest : List Accepted
-  x : List Accepted
+record GoesOn (synced got more : List Entry) : Type 0 where
+  e : Entry
+  rest : List Entry
+  x : List Entry
   more_is : more ≡ e ∷ rest
   synced_is : synced ≡ (got ++ e ∷ []) ++ x
 
-compare : (synced after got more : List Accepted) → got ++ more ≡ synced ++ after
+compare : (synced after got more : List Entry) → got ++ more ≡ synced ++ after
     → IsPrefix synced got ⊎ GoesOn synced got more
 compare [] after got more e = inl (got, refl)
 compare (s ∷ synced) after [] more e =
@@ -455,7 +455,7 @@ compare (s ∷ synced) after (g ∷ got) more e = go (compare synced after got m
       synced_is = ap (λ l. s ∷ l) p.synced_is ∙ ap (λ h. h ∷ ((got ++ p.e ∷ []) ++ p.x)) head;
     })
 
-longer : (xs ys : List Accepted) (version : ℕ)
+longer : (xs ys : List Entry) (version : ℕ)
     → length (entries_text version xs) ≤ length (entries_text version (xs ++ ys))
 longer [] ys version = omega arith
 longer (x ∷ xs) ys version =
@@ -489,7 +489,7 @@ nothing_is_lost format found synced after got n keep allowed long recovered =
 
 -- ---- the answers of recovery
 
-pub found_in_head : (bytes : List ℕ) (got : List Accepted) → IsNoHistory bytes → BeginsHead bytes → got ≡ []
+pub found_in_head : (bytes : List ℕ) (got : List Entry) → IsNoHistory bytes → BeginsHead bytes → got ≡ []
     → Recovers bytes Two got 0
 found_in_head bytes got unended begins none = record {
   allowed = subst (AreEntriesOf Two) (sym none) (record { each = tt; few = omega arith });
@@ -497,7 +497,7 @@ found_in_head bytes got unended begins none = record {
   ends = inl (record { unended = unended; begins = begins; format_is = refl; none = none; keep_is = refl });
 }
 
-pub found_in_line : (found : Format) (bytes torn : List ℕ) (got : List Accepted) (keep : ℕ)
+pub found_in_line : (found : Format) (bytes torn : List ℕ) (got : List Entry) (keep : ℕ)
     → Begins found got bytes torn → HasNoLineFeed torn → keep ≡ length bytes - length torn
     → Recovers bytes found got keep
 found_in_line found bytes torn got keep b unended is = record {
@@ -511,7 +511,7 @@ found_in_line found bytes torn got keep b unended is = record {
   });
 }
 
-pub other_line : (g : Format) (got : List Accepted) (bytes rest line more : List ℕ) (count n : ℕ)
+pub other_line : (g : Format) (got : List Entry) (bytes rest line more : List ℕ) (count n : ℕ)
     → Begins g got bytes rest → rest ≡ line ++ line_feed ++ more → HasNoLineFeed line → count ≡ length got
     → IsNoEntryLine g (count + 1) line → n ≡ count + 2 → HasOtherLine bytes n
 other_line g got bytes rest line more count n begins cut plain counted other number = record {

@@ -7,12 +7,12 @@ use Rattle.mud_world.specs.State.{State}
 use Rattle.mud_world.specs.Opening.{opening_state}
 use Rattle.mud_world.specs.Legal.{refusal, after}
 use Rattle.mud_world.specs.History.{world_from, world_of}
-use Rattle.mud_world.specs.Inner.{stepped}
+use Rattle.mud_world.specs.inner.Parts.{stepped}
 use Rattle.mud_world.proofs.Histories.{world_of-legal}
 use Rattle.mud_world.specs.declared.change.Change.{Change}
 use Rattle.mud_world.specs.declared.refusal.Refusal.{Refusal}
 use Rattle.mud_chron.specs.Replay.{changes_of, AreLegalFrom, AreLegal, IsFirstIllegal}
-use Rattle.mud_chron.specs.Entry.{Accepted}
+use Rattle.mud_chron.specs.Entry.{Entry}
 
 -- a legal change is made
 made : (w : State) (c : Change) → refusal w c ≡ None → stepped w c ≡ after w c
@@ -27,10 +27,10 @@ legal_from-push w (c ∷ changes) e h legal = (
       (subst (λ s. refusal (world_from s changes) e ≡ None) (made w c h.0) legal),
 )
 
-changes-more : (es : List Accepted) (i : ℕ) (d : Accepted) → i < length es
+changes-more : (es : List Entry) (i : ℕ) (d : Entry) → i < length es
     → changes_of (take (i + 1) es) ≡ changes_of (take i es) ++ (get_or es i d).change ∷ []
 changes-more es i d h =
-    ap changes_of (take_more es i d h) ∙ map-append (λ (e : Accepted). e.change) (take i es) (get_or es i d ∷ [])
+    ap changes_of (take_more es i d h) ∙ map-append (λ (e : Entry). e.change) (take i es) (get_or es i d ∷ [])
 
 -- where all are legal, each is
 legal-at : (w : State) (before : List Change) (e : Change) (behind : List Change)
@@ -40,12 +40,12 @@ legal-at w (b ∷ before) e behind legal =
     ap (λ v. refusal (world_from v before) e) (made w b legal.0) ∙ legal-at (after w b) before e behind legal.1
 
 -- what is known of a history that is legal so far
-pub record IsMade (es : List Accepted) (w : State) : Type 0 where
+pub record IsMade (es : List Entry) (w : State) : Type 0 where
   pub legal : AreLegal (changes_of es)
   pub world : w ≡ world_of (changes_of es)
 
 -- the next change is legal
-pub grown : (es : List Accepted) (i : ℕ) (d : Accepted) (w : State) → i < length es
+pub grown : (es : List Entry) (i : ℕ) (d : Entry) (w : State) → i < length es
     → AreLegal (changes_of (take i es)) → w ≡ world_of (changes_of (take i es))
     → refusal w (get_or es i d).change ≡ None
     → record {
@@ -64,7 +64,7 @@ grown es i d w h legal is next =
     }
 
 -- the next change is not legal
-pub refused : (es : List Accepted) (i : ℕ) (d : Accepted) (w : State) (f : Refusal) → i < length es
+pub refused : (es : List Entry) (i : ℕ) (d : Entry) (w : State) (f : Refusal) → i < length es
     → AreLegal (changes_of (take i es)) → w ≡ world_of (changes_of (take i es))
     → refusal w (get_or es i d).change ≡ Some f → IsFirstIllegal (changes_of es) (i + 1)
 refused es i d w f h legal is next =

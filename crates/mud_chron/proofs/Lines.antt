@@ -5,7 +5,7 @@ use Rattle.std.specs.List.{list_all}
 use Rattle.std.specs.Str.{IsUtf8}
 use Rattle.std.proofs.lemmas.Str.{IsUtf8-from_ascii}
 use Rattle.std.proofs.lemmas.Bool.{and_parts, ltb-false}
-use Rattle.mud_chron.specs.Entry.{Accepted, IsEntry}
+use Rattle.mud_chron.specs.Entry.{Entry, IsEntry}
 use Rattle.mud_chron.specs.Text.{entry_line}
 use Rattle.mud_chron.proofs.Cutting.{not_true}
 use Rattle.mud_chron.proofs.Spelled.{plain}
@@ -18,6 +18,6 @@ ascii (b ∷ text) h zero =
     omega (arith, ltb-false 126 b (not_true (ltb 126 b) p.1))
 ascii (b ∷ text) h (suc i) = ascii text (and_parts (plain b) (list_all plain text) h).1 i
 
-pub utf8_line : (version : ℕ) (e : Accepted) → version < 2 ^ 64 → IsEntry e → IsUtf8 (entry_line version e)
+pub utf8_line : (version : ℕ) (e : Entry) → version < 2 ^ 64 → IsEntry e → IsUtf8 (entry_line version e)
 utf8_line version e fits is =
     IsUtf8-from_ascii (entry_line version e) (λ i. ascii (entry_line version e) (plain_line version e fits is) i)

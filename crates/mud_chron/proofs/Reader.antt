@@ -17,8 +17,8 @@ use Rattle.mud_world.specs.declared.change.Deed.TheVariants as deed
 use Rattle.mud_chron.specs.declared.verb.Verb.{Verb}
 use Rattle.mud_chron.specs.declared.verb.Verb.TheVariants.{Dig, Make, Lock, Unlock, Move, Walk, Cost, Player, Rename}
 use Rattle.mud_chron.specs.declared.verb.Verb.TheVariants.{Recycle, Say, Emote}
-use Rattle.mud_chron.specs.Entry.{Accepted}
-use Rattle.mud_chron.specs.Fields.{digits_on, up_to, object_in}
+use Rattle.mud_chron.specs.Entry.{Entry}
+use Rattle.mud_chron.specs.inner.Fields.{digits_on, up_to, object_in}
 
 infixl 10 ◌>>=◌
 -- what is found next, where something was found
@@ -232,7 +232,7 @@ desk_in text = do
   if nat_le 1 desk then Some desk else None
 
 -- the entry of a line, whatever version it makes
-unfoldable pub entry_in : List ℕ → Option Accepted
+unfoldable pub entry_in : List ℕ → Option Entry
 entry_in line = do
   version ← cut 32 line
   p ← cut 32 version.1

@@ -5,9 +5,9 @@ use Rattle.std.specs.Prelude.{not, ◌&&◌, ◌^◌}
 use Rattle.std.specs.List.{AllByRecursion, list_all}
 use Rattle.mud_chron.specs.declared.format.Format.{Format}
 use Rattle.mud_chron.specs.declared.format.Format.TheVariants.{One, Two}
-use Rattle.mud_chron.specs.Entry.{Accepted}
+use Rattle.mud_chron.specs.Entry.{Entry}
 use Rattle.mud_chron.specs.Text.{line_feed, head_line, entry_line, entries_text, end_line}
-use Rattle.mud_chron.specs.Inner.{entry_text}
+use Rattle.mud_chron.specs.inner.Texts.{entry_text}
 use Rattle.mud_chron.specs.History.{IsEntryOf, SpellsHistory}
 use Rattle.mud_chron.specs.Laws.{HasNoReturns}
 use Rattle.mud_chron.proofs.Cutting.{implied, lacks_all}
@@ -21,7 +21,7 @@ plain_passes b h = go (ltb b 32) (ltb 126 b) (eqb b 13) refl refl refl h
     go : (x y z : Bool) → ltb b 32 ≡ x → ltb 126 b ≡ y → eqb b 13 ≡ z → (not x && not y) ≡ true → not z ≡ true
     go x y z e f g p = grind arith
 
-entries_pass : (format : Format) (version : ℕ) (entries : List Accepted) → version + length entries < 2 ^ 64
+entries_pass : (format : Format) (version : ℕ) (entries : List Entry) → version + length entries < 2 ^ 64
     → AllByRecursion (IsEntryOf format) entries
     → list_all (λ b. not (eqb b 13)) (entries_text version entries) ≡ true
 entries_pass format version [] few is = refl
@@ -40,7 +40,7 @@ head_passes : (format : Format) → list_all (λ b. not (eqb b 13)) (head_line f
 head_passes One = refl
 head_passes Two = refl
 
-without_return : (text : List ℕ) (entries : List Accepted) → SpellsHistory text entries
+without_return : (text : List ℕ) (entries : List Entry) → SpellsHistory text entries
     → list_all (λ b. not (eqb b 13)) text ≡ true
 without_return text entries (format, are, is) =
     let p : ℕ → Bool = λ b. not (eqb b 13) in

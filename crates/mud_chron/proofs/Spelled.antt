@@ -1,6 +1,6 @@
 -- The parts of a line: their bytes, and that each is found again.
 use Rattle.std.proofs.Common.{◌≡◌, ℕ, ◌+◌, ◌<◌, ◌≤◌, Bool, true, List, [], ◌∷◌, ◌++◌, length, Option, Some, None}
-use Rattle.std.proofs.Common.{Result, Ok, Err, refl, sym, ◌∙◌, ap, subst, arith, eqb, leb, ltb, cond, append_assoc}
+use Rattle.std.proofs.Common.{Ok, refl, sym, ◌∙◌, ap, subst, arith, eqb, leb, ltb, cond, append_assoc}
 use Rattle.std.proofs.Common.{codes}
 use Rattle.std.specs.Prelude.{not, ◌&&◌, ◌^◌}
 use Rattle.std.specs.List.{AllByRecursion, list_all, flat_map}
@@ -11,12 +11,12 @@ use Rattle.std.proofs.lemmas.List.Elements.{recursion_from_All}
 use Rattle.std.specs.Fmt.{decimal}
 use Rattle.mud_key.specs.Name.{IsName, IsNameByte}
 use Rattle.mud_key.specs.Names.{AreNames}
-use Rattle.mud_key.specs.InnerNames.{SpellsName, SpellsNames, one, more}
+use Rattle.mud_key.specs.inner.NamesTexts.{SpellsName, SpellsNames, one, more}
 use Rattle.mud_key.specs.Reading.{names_in, name_in}
 use Rattle.mud_key.specs.Tree.{Tree, Has, Asks, Not, Join, objects_of, nots_of, AllObjects, IsWithinLimits, IsKey}
 use Rattle.mud_key.specs.KeyText.{sign, SpellsKey}
 use Rattle.mud_key.specs.Printed.{number_text, by_text, enclosed, printed}
-use Rattle.mud_key.specs.Namer.{result_map, joined_result, resolved}
+use Rattle.mud_key.specs.Namer.{resolved}
 use Rattle.mud_key.specs.declared.namer.Miss.{Miss}
 use Rattle.mud_key.specs.declared.namer.Miss.TheVariants.{NoSuch}
 use Rattle.std.specs.Option.{ok_or}
@@ -24,10 +24,11 @@ use Rattle.mud_key.specs.declared.operator.Operator.{Operator}
 use Rattle.mud_key.specs.declared.operator.Operator.TheVariants.{And, Or}
 use Rattle.mud_key.proofs.Found.{names_law, name_law, key_law}
 use Rattle.mud_key.proofs.LeastParentheses.{reads_back}
+use Rattle.mud_key.proofs.Resolving.{CountsAs, resolved_counts}
 use Rattle.mud_world.specs.Speech.{is_trimmed, is_speech}
-use Rattle.mud_world.specs.Inner.{is_printable}
+use Rattle.mud_world.specs.inner.Parts.{is_printable}
 use Rattle.mud_chron.specs.Text.{listed, quoted}
-use Rattle.mud_chron.specs.Fields.{Lacks, is_digit}
+use Rattle.mud_chron.specs.inner.Fields.{Lacks, is_digit}
 use Rattle.mud_chron.proofs.Reader.{◌>>=◌, cut, without_miss, number_key_in, speech_in, meaning, names_before}
 use Rattle.mud_chron.proofs.Reader.{quoted_in, quoted_name_in}
 use Rattle.mud_chron.proofs.Cutting.{lacks, lacks_all, cut_again, implied, tested}
@@ -166,37 +167,6 @@ plain_key (Join op a b) h =
     (both plain (left ++ codes " ") (sign op) (both plain left (codes " ") (plain_key a h.0) refl)
     (plain_sign op)) refl)
     (plain_enclosed (by_text b) (printed (by_text b)) (plain_key b h.1))
-
-abbrev CountsAs : ℕ → ℕ → Result (Tree ℕ) Miss → Type 0
-CountsAs objects nots (Ok k) = (objects_of k ≡ objects) × (nots_of k ≡ nots)
-CountsAs objects nots (Err e) = Unit {0}
-
-has_counts : (r : Result ℕ Miss) → CountsAs 1 0 (result_map Has r)
-has_counts (Ok n) = (refl, refl)
-has_counts (Err e) = tt
-
-asks_counts : (r : Result ℕ Miss) → CountsAs 1 0 (result_map Asks r)
-asks_counts (Ok n) = (refl, refl)
-asks_counts (Err e) = tt
-
-not_counts : (o n : ℕ) (r : Result (Tree ℕ) Miss) → CountsAs o n r → CountsAs o (n + 1) (result_map Not r)
-not_counts o n (Ok k) h = (h.0, omega (arith, h.1))
-not_counts o n (Err e) h = tt
-
-join_counts : (op : Operator) (o n p m : ℕ) (r s : Result (Tree ℕ) Miss) → CountsAs o n r → CountsAs p m s
-    → CountsAs (o + p) (n + m) (joined_result op r s)
-join_counts op o n p m (Ok a) (Ok b) h i = (omega (arith, h.0, i.0), omega (arith, h.1, i.1))
-join_counts op o n p m (Ok a) (Err e) h i = tt
-join_counts op o n p m (Err e) s h i = tt
-
-resolved_counts : (meaning : List ℕ → Result ℕ Miss) (t : Tree (List ℕ))
-    → CountsAs (objects_of t) (nots_of t) (resolved meaning t)
-resolved_counts meaning (Has o) = has_counts (meaning o)
-resolved_counts meaning (Asks o) = asks_counts (meaning o)
-resolved_counts meaning (Not k) = not_counts (objects_of k) (nots_of k) (resolved meaning k) (resolved_counts meaning k)
-resolved_counts meaning (Join op a b) =
-    join_counts op (objects_of a) (nots_of a) (objects_of b) (nots_of b) (resolved meaning a) (resolved meaning b)
-    (resolved_counts meaning a) (resolved_counts meaning b)
 
 -- a key counts what its text counts
 counted : (t : Tree (List ℕ)) (k : Tree ℕ) → CountsAs (objects_of t) (nots_of t) (Ok k) → IsKey k → IsWithinLimits t

@@ -15,14 +15,14 @@ use Rattle.mud_chron.specs.declared.fault.ChronFault.TheVariants.{OutOfMemory, N
 use Rattle.mud_chron.specs.declared.fault.ChronFault.TheVariants.{NoEnd}
 use Rattle.mud_chron.specs.declared.format.Format.{Format}
 use Rattle.mud_chron.specs.declared.format.Format.TheVariants.{One, Two}
-use Rattle.mud_chron.specs.Entry.{Accepted, IsEntry}
+use Rattle.mud_chron.specs.Entry.{Entry, IsEntry}
 use Rattle.mud_chron.specs.Text.{line_feed, head_line, entry_line, entries_text, end_line}
 use Rattle.mud_chron.specs.Text.{history_text}
-use Rattle.mud_chron.specs.Inner.{change_text, entry_text, begun_text, IsBad}
+use Rattle.mud_chron.specs.inner.Texts.{change_text, entry_text, begun_text, IsBad}
 use Rattle.mud_chron.specs.History.{HasLine, IsEntryOf, AreEntriesOf, SpellsHistory}
 use Rattle.mud_chron.specs.Faults.{IsNoHistory, Begins, HasFault}
 use Rattle.mud_chron.specs.Laws.{SpellsOne, HasOneFault, FaultsAreNoTexts, IsWrittenAgain}
-use Rattle.mud_chron.specs.Fields.{is_digit}
+use Rattle.mud_chron.specs.inner.Fields.{is_digit}
 use Rattle.mud_chron.proofs.Reader.{cut, entry_in}
 use Rattle.mud_chron.proofs.Cutting.{lacks, cut_again, cut_lacks, lacks_from, implied}
 use Rattle.mud_chron.proofs.Digits.{digits, decimal_lacks}
@@ -48,7 +48,7 @@ plain_lacks b h = go (ltb b 32) (ltb 126 b) (eqb b 10) refl refl refl h
     go : (x y z : Bool) → ltb b 32 ≡ x → ltb 126 b ≡ y → eqb b 10 ≡ z → (not x && not y) ≡ true → not z ≡ true
     go x y z e f g p = grind arith
 
-pub entry_lacks : (version : ℕ) (e : Accepted) → version < 2 ^ 64 → IsEntry e → lacks 10 (entry_line version e) ≡ true
+pub entry_lacks : (version : ℕ) (e : Entry) → version < 2 ^ 64 → IsEntry e → lacks 10 (entry_line version e) ≡ true
 entry_lacks version e fits is =
     implied plain (λ b. not (eqb b 10)) plain_lacks (entry_line version e) (plain_line version e fits is)
 
@@ -57,7 +57,7 @@ unfolding end_line
 end_lacks count fits = decimal_lacks 10 count (omega arith) fits
 
 -- the last line is no entry's
-pub end_apart : (count version : ℕ) (e : Accepted) → version < 2 ^ 64 → end_line count ≡ entry_line version e → ⊥
+pub end_apart : (count version : ℕ) (e : Entry) → version < 2 ^ 64 → end_line count ≡ entry_line version e → ⊥
 unfolding end_line
 end_apart count version e fits same =
     let one : cut 32 (end_line count) ≡ Some (codes "end", decimal count) = refl in
@@ -72,13 +72,13 @@ end_apart count version e fits same =
 
 -- ---- what stands after the entries
 
-data View (format : Format) (entries : List Accepted) (rest : List ℕ) : Result (List Accepted) ChronFault → Type 0 where
+data View (format : Format) (entries : List Entry) (rest : List ℕ) : Result (List Entry) ChronFault → Type 0 where
   unended : cut 10 rest ≡ None → View format entries rest (Err NoEnd)
   whole : (line : List ℕ) → cut 10 rest ≡ Some (line, []) → line ≡ end_line (length entries)
       → View format entries rest (Ok entries)
   more : (line behind : List ℕ) (n : ℕ) → cut 10 rest ≡ Some (line, behind) → line ≡ end_line (length entries)
       → behind ≢ [] → n ≡ length entries + 3 → View format entries rest (Err (BadLine n))
-  long : (line behind : List ℕ) (e : Accepted) → cut 10 rest ≡ Some (line, behind) → IsEntryOf format e
+  long : (line behind : List ℕ) (e : Entry) → cut 10 rest ≡ Some (line, behind) → IsEntryOf format e
       → length entries ≡ 65536 → line ≡ entry_line (length entries + 1) e → View format entries rest (Err TooLong)
   bad : (line behind : List ℕ) (n : ℕ) → cut 10 rest ≡ Some (line, behind) → IsBad format (length entries) line
       → n ≡ length entries + 2 → View format entries rest (Err (BadLine n))
@@ -86,13 +86,13 @@ data View (format : Format) (entries : List Accepted) (rest : List ℕ) : Result
 -- the line of one more entry stands only after 65,536
 abbrev Stops : Format → ℕ → List ℕ → Type 0
 Stops format version rest =
-    (e : Accepted) (more : List ℕ) → IsEntryOf format e → rest ≡ entry_line version e ++ line_feed ++ more
+    (e : Entry) (more : List ℕ) → IsEntryOf format e → rest ≡ entry_line version e ++ line_feed ++ more
     → version ≡ 65537
 
 uncut : (cut_of : Option (List ℕ × List ℕ)) (p : List ℕ × List ℕ) → cut_of ≡ None → cut_of ≡ Some p → ⊥
 uncut cut_of p h k = let both : ◌≡◌ {A = Option (List ℕ × List ℕ)} None (Some p) = sym h ∙ k in absurd (cc)
 
-stops : (format : Format) (entries : List Accepted) (rest : List ℕ) (a : Result (List Accepted) ChronFault)
+stops : (format : Format) (entries : List Entry) (rest : List ℕ) (a : Result (List Entry) ChronFault)
     → length entries ≤ 65536 → View format entries rest a → Stops format (length entries + 1) rest
 stops format entries rest a few view e behind is same = go view
   where
@@ -100,7 +100,7 @@ stops format entries rest a few view e behind is same = go view
     there = ap (cut 10) same
         ∙ line_cut (entry_line (length entries + 1) e) behind (entry_lacks (length entries + 1) e (omega arith) is.0)
 
-    go : {a : Result (List Accepted) ChronFault} → View format entries rest a → length entries + 1 ≡ 65537
+    go : {a : Result (List Entry) ChronFault} → View format entries rest a → length entries + 1 ≡ 65537
     go (unended h) = absurd (uncut (cut 10 rest) (entry_line (length entries + 1) e, behind) h there)
     go (whole line h end) =
         absurd (end_apart (length entries) (length entries + 1) e (omega arith)
@@ -112,11 +112,11 @@ stops format entries rest a few view e behind is same = go view
     go (bad line rest' n h b is') =
         absurd (b.0 e is (fronts (cut 10 rest) line (entry_line (length entries + 1) e) rest' behind h there).0)
 
-one_view : (format : Format) (entries : List Accepted) (rest : List ℕ) (a b : Result (List Accepted) ChronFault)
+one_view : (format : Format) (entries : List Entry) (rest : List ℕ) (a b : Result (List Entry) ChronFault)
     → length entries ≤ 65536 → View format entries rest a → View format entries rest b → a ≡ b
 one_view format entries rest a b few v w = go v w
   where
-    apart : (l m x y : List ℕ) (e : Accepted) → cut 10 rest ≡ Some (l, x) → cut 10 rest ≡ Some (m, y)
+    apart : (l m x y : List ℕ) (e : Entry) → cut 10 rest ≡ Some (l, x) → cut 10 rest ≡ Some (m, y)
         → l ≡ end_line (length entries) → m ≡ entry_line (length entries + 1) e → ⊥
     apart l m x y e h k end is =
         end_apart (length entries) (length entries + 1) e (omega arith)
@@ -129,14 +129,14 @@ one_view format entries rest a b few v w = go v w
     extra : (l m y : List ℕ) → cut 10 rest ≡ Some (l, []) → cut 10 rest ≡ Some (m, y) → y ≢ [] → ⊥
     extra l m y h k some = some ((fronts (cut 10 rest) m l y [] k h).1)
 
-    entered : (l m x y : List ℕ) (e : Accepted) → cut 10 rest ≡ Some (l, x) → cut 10 rest ≡ Some (m, y)
+    entered : (l m x y : List ℕ) (e : Entry) → cut 10 rest ≡ Some (l, x) → cut 10 rest ≡ Some (m, y)
         → IsEntryOf format e → l ≡ entry_line (length entries + 1) e → IsBad format (length entries) m → ⊥
     entered l m x y e h k is same b = b.0 e is ((fronts (cut 10 rest) m l y x k h).0 ∙ same)
 
-    numbers : (n m : ℕ) → n ≡ m → ◌≡◌ {A = Result (List Accepted) ChronFault} (Err (BadLine n)) (Err (BadLine m))
+    numbers : (n m : ℕ) → n ≡ m → ◌≡◌ {A = Result (List Entry) ChronFault} (Err (BadLine n)) (Err (BadLine m))
     numbers n m same = ap (λ k. Err (BadLine k)) same
 
-    go : {a b : Result (List Accepted) ChronFault} → View format entries rest a → View format entries rest b → a ≡ b
+    go : {a b : Result (List Entry) ChronFault} → View format entries rest a → View format entries rest b → a ≡ b
     go (unended h) (unended k) = refl
     go (unended h) (whole m k end) = absurd (uncut (cut 10 rest) (m, []) h k)
     go (unended h) (more m y n k end some is) = absurd (uncut (cut 10 rest) (m, y) h k)
@@ -166,7 +166,7 @@ one_view format entries rest a b few v w = go v w
 -- ---- the entries in front
 
 -- two lists of entries that begin one text, with nothing more after them, are one
-same_entries : (format : Format) (version u w : ℕ) (es fs : List Accepted) (r s : List ℕ)
+same_entries : (format : Format) (version u w : ℕ) (es fs : List Entry) (r s : List ℕ)
     → AllByRecursion (IsEntryOf format) es → AllByRecursion (IsEntryOf format) fs
     → version + length es ≡ u → version + length fs ≡ w → u ≤ 65537 → w ≤ 65537 → Stops format u r → Stops format w s
     → entries_text version es ++ r ≡ entries_text version fs ++ s → (es ≡ fs) × (r ≡ s)
@@ -196,7 +196,7 @@ same_entries format version u w (e ∷ es) (f ∷ fs) r s h k ue we ul wl p q sa
     fronts (cut 10 (entry_line version e ++ line_feed ++ x)) (entry_line version e) (entry_line version f) x y
     (line_cut (entry_line version e) x (entry_lacks version e fits h.0.0))
     (ap (cut 10) lines ∙ line_cut (entry_line version f) y (entry_lacks version f fits k.0.0)) in
-    let found : ◌≡◌ {A = Option Accepted} (Some e) (Some f) =
+    let found : ◌≡◌ {A = Option Entry} (Some e) (Some f) =
     sym (entry_again version e fits h.0.0) ∙ ap entry_in parts.0 ∙ entry_again version f fits k.0.0 in
     let first : e ≡ f = cc in
     let others =
@@ -205,14 +205,14 @@ same_entries format version u w (e ∷ es) (f ∷ fs) r s h k ue we ul wl p q sa
 
 -- ---- what the bytes tell
 
-record Told (bytes : List ℕ) (a : Result (List Accepted) ChronFault) : Type 0 where
+record Told (bytes : List ℕ) (a : Result (List Entry) ChronFault) : Type 0 where
   format : Format
-  entries : List Accepted
+  entries : List Entry
   rest : List ℕ
   begins : Begins format entries bytes rest
   view : View format entries rest a
 
-told_text : (bytes : List ℕ) (entries : List Accepted) → SpellsHistory bytes entries → Told bytes (Ok entries)
+told_text : (bytes : List ℕ) (entries : List Entry) → SpellsHistory bytes entries → Told bytes (Ok entries)
 told_text bytes entries (format, are, spelled) =
     let few : length entries ≤ 65536 = are.few in
     record {
@@ -266,16 +266,16 @@ told_fault bytes NoEnd h = inr (record {
   view = unended (cut_lacks 10 h.rest (lacks_from 10 h.rest (recursion_from_All (λ b. b ≢ 10) h.rest h.unended)));
 })
 
-formats_apart : (es fs : List Accepted) (r s : List ℕ) → begun_text One es r ≡ begun_text Two fs s → ⊥
+formats_apart : (es fs : List Entry) (r s : List ℕ) → begun_text One es r ≡ begun_text Two fs s → ⊥
 formats_apart es fs r s same = let byte : ◌≡◌ {A = ℕ} 49 50 = ap (λ (l : List ℕ). get_or l 12 0) same in
     absurd (omega (arith, byte))
 
-behind_head : (format : Format) (es fs : List Accepted) (r s : List ℕ) → begun_text format es r ≡ begun_text format fs s
+behind_head : (format : Format) (es fs : List Entry) (r s : List ℕ) → begun_text format es r ≡ begun_text format fs s
     → entries_text 1 es ++ r ≡ entries_text 1 fs ++ s
 behind_head One es fs r s same = ap (drop 14) same
 behind_head Two es fs r s same = ap (drop 14) same
 
-one_format : (format : Format) (es fs : List Accepted) (r s : List ℕ) (a b : Result (List Accepted) ChronFault)
+one_format : (format : Format) (es fs : List Entry) (r s : List ℕ) (a b : Result (List Entry) ChronFault)
     → AreEntriesOf format es → AreEntriesOf format fs
     → View format es r a → View format fs s b → begun_text format es r ≡ begun_text format fs s → a ≡ b
 one_format format es fs r s a b h k v w same =
@@ -289,7 +289,7 @@ one_format format es fs r s a b h k v w same =
     subst (λ z. View format es z b) (sym one.1) (subst (λ zs. View format zs s b) (sym one.0) w) in
     one_view format es r a b few v moved
 
-one_told : (bytes : List ℕ) (a b : Result (List Accepted) ChronFault) → Told bytes a → Told bytes b → a ≡ b
+one_told : (bytes : List ℕ) (a b : Result (List Entry) ChronFault) → Told bytes a → Told bytes b → a ≡ b
 one_told bytes a b t u = go t.format u.format t.begins u.begins t.view u.view
   where
     go : (f g : Format) → Begins f t.entries bytes t.rest → Begins g u.entries bytes u.rest → View f t.entries t.rest a
@@ -301,14 +301,14 @@ one_told bytes a b t u = go t.format u.format t.begins u.begins t.view u.view
     go One Two h k v w = absurd (formats_apart t.entries u.entries t.rest u.rest (sym h.spelled ∙ k.spelled))
     go Two One h k v w = absurd (formats_apart u.entries t.entries u.rest t.rest (sym k.spelled ∙ h.spelled))
 
-begun : (bytes : List ℕ) (a : Result (List Accepted) ChronFault) → IsNoHistory bytes → Told bytes a → ⊥
+begun : (bytes : List ℕ) (a : Result (List Entry) ChronFault) → IsNoHistory bytes → Told bytes a → ⊥
 begun bytes a none t =
     none t.format (entries_text 1 t.entries ++ t.rest)
     (t.begins.spelled ∙ append_assoc (head_line t.format ++ line_feed) (entries_text 1 t.entries) t.rest)
 
 pub spells_one : SpellsOne
 spells_one bytes entries others h k =
-    let same : ◌≡◌ {A = Result (List Accepted) ChronFault} (Ok entries) (Ok others) =
+    let same : ◌≡◌ {A = Result (List Entry) ChronFault} (Ok entries) (Ok others) =
     one_told bytes (Ok entries) (Ok others) (told_text bytes entries h) (told_text bytes others k) in cc
 
 pub faults_are_no_texts : FaultsAreNoTexts
@@ -317,7 +317,7 @@ faults_are_no_texts bytes fault entries h k = go (told_fault bytes fault h)
     go : IsNoHistory bytes ⊎ Told bytes (Err fault) → ⊥
     go (inl none) = begun bytes (Ok entries) none (told_text bytes entries k)
     go (inr t) =
-        let same : ◌≡◌ {A = Result (List Accepted) ChronFault} (Err fault) (Ok entries) =
+        let same : ◌≡◌ {A = Result (List Entry) ChronFault} (Err fault) (Ok entries) =
         one_told bytes (Err fault) (Ok entries) t (told_text bytes entries k) in absurd (cc)
 
 -- bytes that begin with no first line have only that fault
@@ -330,7 +330,7 @@ alone bytes (BadLine n) none (inl h) = absurd (go (told_fault bytes (BadLine n) 
     go : IsNoHistory bytes ⊎ Told bytes (Err (BadLine n)) → ⊥
     go (inl z) = begun_at h.begins
       where
-        begun_at : {f : Format} {es : List Accepted} {r : List ℕ} → Begins f es bytes r → ⊥
+        begun_at : {f : Format} {es : List Entry} {r : List ℕ} → Begins f es bytes r → ⊥
         begun_at {f = f} {es = es} {r = r} b =
             none f (entries_text 1 es ++ r) (b.spelled ∙ append_assoc (head_line f ++ line_feed) (entries_text 1 es) r)
     go (inr t) = begun bytes (Err (BadLine n)) none t
@@ -355,7 +355,7 @@ has_one_fault bytes fault other h k = go (told_fault bytes fault h) (told_fault 
     go (inl none) q = alone bytes fault none h ∙ sym (alone bytes other none k)
     go (inr t) (inl none) = alone bytes fault none h ∙ sym (alone bytes other none k)
     go (inr t) (inr u) =
-        let same : ◌≡◌ {A = Result (List Accepted) ChronFault} (Err fault) (Err other) =
+        let same : ◌≡◌ {A = Result (List Entry) ChronFault} (Err fault) (Err other) =
         one_told bytes (Err fault) (Err other) t u in cc
 
 in_two : (deed : Deed) → HasLine Two deed
@@ -372,7 +372,7 @@ in_two (Recycle object) = tt
 in_two (Say text) = tt
 in_two (Emote text) = tt
 
-each_in_two : (entries : List Accepted) → AllByRecursion IsEntry entries → AllByRecursion (IsEntryOf Two) entries
+each_in_two : (entries : List Entry) → AllByRecursion IsEntry entries → AllByRecursion (IsEntryOf Two) entries
 each_in_two [] h = tt
 each_in_two (e ∷ entries) h = ((h.0, in_two e.change.deed), each_in_two entries h.1)
 

@@ -8,7 +8,7 @@ use Rattle.mud_world.specs.declared.change.Deed.TheVariants.{Dig, Lock, Unlock, 
 use Rattle.mud_world.specs.declared.change.Deed.TheVariants.{Recycle}
 
 -- an accepted change, and the number of the desk that made it
-pub record Accepted : Type 0 where
+pub record Entry : Type 0 where
   pub desk : ℕ
   pub change : Change
 
@@ -37,6 +37,6 @@ pub record IsSpellable (desk : ℕ) (change : Change) : Type 0 where
   pub deed : IsInRange change.deed
 
 -- what is true of every entry
-pub record IsEntry (e : Accepted) : Type 0 where
+pub record IsEntry (e : Entry) : Type 0 where
   pub spellable : IsSpellable e.desk e.change
   pub parts : HasParts e.change.deed

@@ -3,7 +3,7 @@ use Rattle.std.specs.Prelude.{◌≡◌, ◌≢◌, ◌⊎◌, ℕ, ◌+◌, Lis
 use Rattle.mud_chron.specs.declared.fault.ChronFault.{ChronFault}
 use Rattle.mud_chron.specs.declared.fault.ChronFault.TheVariants.{NotHistory, BadLine, TooLong, NoEnd}
 use Rattle.mud_chron.specs.declared.format.Format.{Format}
-use Rattle.mud_chron.specs.Entry.{Accepted}
+use Rattle.mud_chron.specs.Entry.{Entry}
 use Rattle.mud_chron.specs.Text.{line_feed, head_line, entry_line, end_line, journal_text}
 use Rattle.mud_chron.specs.History.{IsEntryOf, AreEntriesOf}
 
@@ -16,18 +16,18 @@ abbrev pub IsNoHistory : List ℕ → Type 0
 IsNoHistory bytes = (format : Format) (rest : List ℕ) → bytes ≢ head_line format ++ line_feed ++ rest
 
 -- the bytes are a first line, the lines of these entries, and this rest
-pub record Begins (format : Format) (entries : List Accepted) (bytes rest : List ℕ) : Type 0 where
+pub record Begins (format : Format) (entries : List Entry) (bytes rest : List ℕ) : Type 0 where
   pub allowed : AreEntriesOf format entries
   pub spelled : bytes ≡ journal_text format entries ++ rest
 
 -- the line is that of no entry which makes the version
 abbrev pub IsNoEntryLine : Format → ℕ → List ℕ → Type 0
-IsNoEntryLine format version line = (e : Accepted) → IsEntryOf format e → line ≢ entry_line version e
+IsNoEntryLine format version line = (e : Entry) → IsEntryOf format e → line ≢ entry_line version e
 
 -- after the lines of some entries stands line n, which is neither that of a next entry nor the last line after them
 pub record HasBadLine (bytes : List ℕ) (n : ℕ) : Type 0 where
   pub format : Format
-  pub entries : List Accepted
+  pub entries : List Entry
   pub line : List ℕ
   pub rest : List ℕ
   pub begins : Begins format entries bytes (line ++ line_feed ++ rest)
@@ -38,7 +38,7 @@ pub record HasBadLine (bytes : List ℕ) (n : ℕ) : Type 0 where
 -- after a whole text stands at least one byte more, in line n
 pub record HasMore (bytes : List ℕ) (n : ℕ) : Type 0 where
   pub format : Format
-  pub entries : List Accepted
+  pub entries : List Entry
   pub rest : List ℕ
   pub begins : Begins format entries bytes (end_line (length entries) ++ line_feed ++ rest)
   pub more : rest ≢ []
@@ -47,8 +47,8 @@ pub record HasMore (bytes : List ℕ) (n : ℕ) : Type 0 where
 -- after 65,536 entries stands the line of one more
 pub record IsTooLong (bytes : List ℕ) : Type 0 where
   pub format : Format
-  pub entries : List Accepted
-  pub next : Accepted
+  pub entries : List Entry
+  pub next : Entry
   pub rest : List ℕ
   pub begins : Begins format entries bytes (entry_line 65537 next ++ line_feed ++ rest)
   pub full : length entries ≡ 65536
@@ -57,7 +57,7 @@ pub record IsTooLong (bytes : List ℕ) : Type 0 where
 -- after the lines of some entries stands no further line feed
 pub record HasNoEnd (bytes : List ℕ) : Type 0 where
   pub format : Format
-  pub entries : List Accepted
+  pub entries : List Entry
   pub rest : List ℕ
   pub begins : Begins format entries bytes rest
   pub unended : HasNoLineFeed rest

@@ -5,7 +5,7 @@ use Rattle.mud_chron.specs.declared.fault.ChronFault.{ChronFault}
 use Rattle.mud_chron.specs.declared.fault.ChronFault.TheVariants.{NotHistory, BadLine, TooLong}
 use Rattle.mud_chron.specs.declared.format.Format.{Format}
 use Rattle.mud_chron.specs.declared.format.Format.TheVariants.{Two}
-use Rattle.mud_chron.specs.Entry.{Accepted}
+use Rattle.mud_chron.specs.Entry.{Entry}
 use Rattle.mud_chron.specs.Text.{line_feed, head_line, journal_text}
 use Rattle.mud_chron.specs.History.{AreEntriesOf}
 use Rattle.mud_chron.specs.Faults.{HasNoLineFeed, IsNoHistory, Begins, IsNoEntryLine, IsTooLong}
@@ -15,7 +15,7 @@ abbrev pub BeginsHead : List ℕ → Type 0
 BeginsHead bytes = (format : Format) × IsPrefix bytes (head_line format ++ line_feed)
 
 -- the bytes end in the first line: there are no entries, nothing is kept, and the format is the one that is written
-pub record EndsInHead (bytes : List ℕ) (format : Format) (entries : List Accepted) (keep : ℕ) : Type 0 where
+pub record EndsInHead (bytes : List ℕ) (format : Format) (entries : List Entry) (keep : ℕ) : Type 0 where
   pub unended : IsNoHistory bytes
   pub begins : BeginsHead bytes
   pub format_is : format ≡ Two
@@ -23,14 +23,14 @@ pub record EndsInHead (bytes : List ℕ) (format : Format) (entries : List Accep
   pub keep_is : keep ≡ 0
 
 -- the bytes are the text of a journal of these entries, which is kept, and a line that has not ended, which is not
-pub record EndsInLine (bytes : List ℕ) (format : Format) (entries : List Accepted) (keep : ℕ) : Type 0 where
+pub record EndsInLine (bytes : List ℕ) (format : Format) (entries : List Entry) (keep : ℕ) : Type 0 where
   pub torn : List ℕ
   pub spelled : bytes ≡ journal_text format entries ++ torn
   pub unended : HasNoLineFeed torn
   pub keep_is : keep ≡ length (journal_text format entries)
 
 -- what is found in the bytes: the format, the entries whose lines are whole, and how many bytes those lines take
-pub record Recovers (bytes : List ℕ) (format : Format) (entries : List Accepted) (keep : ℕ) : Type 0 where
+pub record Recovers (bytes : List ℕ) (format : Format) (entries : List Entry) (keep : ℕ) : Type 0 where
   pub allowed : AreEntriesOf format entries
   pub within : keep ≤ length bytes
   pub ends : EndsInHead bytes format entries keep ⊎ EndsInLine bytes format entries keep
@@ -38,7 +38,7 @@ pub record Recovers (bytes : List ℕ) (format : Format) (entries : List Accepte
 -- after the lines of some entries stands a whole line, line n, that is not the line of a next entry
 pub record HasOtherLine (bytes : List ℕ) (n : ℕ) : Type 0 where
   pub format : Format
-  pub entries : List Accepted
+  pub entries : List Entry
   pub line : List ℕ
   pub rest : List ℕ
   pub begins : Begins format entries bytes (line ++ line_feed ++ rest)

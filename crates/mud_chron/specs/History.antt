@@ -5,7 +5,7 @@ use Rattle.mud_world.specs.declared.change.Deed.{Deed}
 use Rattle.mud_world.specs.declared.change.Deed.TheVariants.{Cost}
 use Rattle.mud_chron.specs.declared.format.Format.{Format}
 use Rattle.mud_chron.specs.declared.format.Format.TheVariants.{One}
-use Rattle.mud_chron.specs.Entry.{Accepted, IsEntry}
+use Rattle.mud_chron.specs.Entry.{Entry, IsEntry}
 use Rattle.mud_chron.specs.Text.{history_text}
 
 -- format 1 has no exit that costs 0; else the formats have the same lines
@@ -14,14 +14,14 @@ HasLine One (Cost exit cost) = 1 ≤ cost
 HasLine format deed = Unit {0}
 
 -- an entry that has a line in this format
-abbrev pub IsEntryOf : Format → Accepted → Type 0
+abbrev pub IsEntryOf : Format → Entry → Type 0
 IsEntryOf format e = IsEntry e × HasLine format e.change.deed
 
 -- entries that a text can have: each has a line in this format, and there are at most 65,536
-pub record AreEntriesOf (format : Format) (entries : List Accepted) : Type 0 where
+pub record AreEntriesOf (format : Format) (entries : List Entry) : Type 0 where
   pub each : AllByRecursion (IsEntryOf format) entries
   pub few : length entries ≤ 65536
 
 -- the bytes are the text of these entries, in one of the formats
-abbrev pub SpellsHistory : List ℕ → List Accepted → Type 0
+abbrev pub SpellsHistory : List ℕ → List Entry → Type 0
 SpellsHistory bytes entries = (format : Format) × AreEntriesOf format entries × (bytes ≡ history_text format entries)

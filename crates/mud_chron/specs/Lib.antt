@@ -5,7 +5,5 @@ pub mod Faults
 pub mod Places
 pub mod Replay
 pub mod Laws
-pub mod Fields
-pub mod Lines
 pub mod Fronts
-pub mod Inner
+pub mod inner

@@ -7,15 +7,15 @@ use Rattle.mud_world.specs.Legal.{refusal, after}
 use Rattle.mud_world.specs.declared.change.Change.{Change}
 use Rattle.mud_chron.specs.declared.fault.ChronFault.{ChronFault}
 use Rattle.mud_chron.specs.declared.fault.ChronFault.TheVariants.{OutOfMemory, BadChange}
-use Rattle.mud_chron.specs.Entry.{Accepted}
+use Rattle.mud_chron.specs.Entry.{Entry}
 use Rattle.mud_chron.specs.Places.{FailsAt}
 
 -- the changes of entries
-abbrev pub changes_of : List Accepted → List Change
+abbrev pub changes_of : List Entry → List Change
 changes_of entries = map (λ e. e.change) entries
 
 -- the world of the first entries, this many, where a change that is not legal changes nothing
-abbrev pub world_at : List Accepted → ℕ → State
+abbrev pub world_at : List Entry → ℕ → State
 world_at entries count = world_of (changes_of (take count entries))
 
 -- from this world on, each change is legal in the world that those before it made
@@ -32,7 +32,7 @@ abbrev pub IsFirstIllegal : List Change → ℕ → Type 0
 IsFirstIllegal changes n = FailsAt (λ k. AreLegal (take k changes)) n
 
 -- the fault of entries whose changes aren't all legal, unless memory ran out
-abbrev pub HasIllegal : List Accepted → ChronFault → Type 0
+abbrev pub HasIllegal : List Entry → ChronFault → Type 0
 HasIllegal entries OutOfMemory = Unit {0}
 HasIllegal entries (BadChange n) = IsFirstIllegal (changes_of entries) n
 HasIllegal entries other = ⊥

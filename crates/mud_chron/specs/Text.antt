@@ -10,7 +10,7 @@ use Rattle.mud_world.specs.declared.change.Deed.TheVariants.{Dig, Make, Lock, Un
 use Rattle.mud_world.specs.declared.change.Deed.TheVariants.{Recycle, Say, Emote}
 use Rattle.mud_chron.specs.declared.format.Format.{Format}
 use Rattle.mud_chron.specs.declared.format.Format.TheVariants.{One, Two}
-use Rattle.mud_chron.specs.Entry.{Accepted}
+use Rattle.mud_chron.specs.Entry.{Entry}
 use Rattle.std.specs.Option.{option_map_or}
 
 -- the end of a line
@@ -53,12 +53,12 @@ deed_text actor (Say text) = codes "say " ++ actor ++ codes " " ++ text
 deed_text actor (Emote text) = codes "emote " ++ actor ++ codes " " ++ text
 
 -- the line of an entry, without its end: the version that it makes, the desk, and the change
-unfoldable pub entry_line : ℕ → Accepted → List ℕ
+unfoldable pub entry_line : ℕ → Entry → List ℕ
 entry_line version e =
     decimal version ++ codes " " ++ decimal e.desk ++ codes " " ++ deed_text (number_text e.change.actor) e.change.deed
 
 -- the lines of entries, the first of which makes this version
-abbrev pub entries_text : ℕ → List Accepted → List ℕ
+abbrev pub entries_text : ℕ → List Entry → List ℕ
 entries_text version [] = []
 entries_text version (e ∷ entries) = (entry_line version e ++ line_feed) ++ entries_text (version + 1) entries
 
@@ -72,9 +72,9 @@ unfoldable pub end_line : ℕ → List ℕ
 end_line count = codes "end " ++ decimal count
 
 -- the text of a journal: the first line, and the lines of the entries
-abbrev pub journal_text : Format → List Accepted → List ℕ
+abbrev pub journal_text : Format → List Entry → List ℕ
 journal_text format entries = head_line format ++ line_feed ++ entries_text 1 entries
 
 -- the text of a history
-abbrev pub history_text : Format → List Accepted → List ℕ
+abbrev pub history_text : Format → List Entry → List ℕ
 history_text format entries = journal_text format entries ++ (end_line (length entries) ++ line_feed)

@@ -1,7 +1,7 @@
 //! An entry of a history.
 
 ghost use Rattle.std.specs.Prelude.{◌≡◌, IfOk};
-ghost use Rattle.mud_chron.specs.Entry.{Accepted, IsSpellable, IsEntry, HasParts};
+ghost use Rattle.mud_chron.specs.Entry.{Entry, IsSpellable, IsEntry, HasParts};
 
 use crate::copying::copy_change;
 use crate::parts::has_parts;
@@ -19,11 +19,11 @@ pub struct Entry {
 }
 
 impl Model for Entry {
-    ghost use Rattle.mud_chron.specs.Entry.{Accepted, IsEntry};
+    ghost use Rattle.mud_chron.specs.Entry.{Entry, IsEntry};
     ghost use Rattle.mud_key.specs.TreeCode.{coded_number_tree};
     ghost use Rattle.std.specs.Coded.{codes};
 
-    ghost Value = { Accepted };
+    ghost Value = { Entry };
 
     ghost coded = { Prim.hlevel (codes, coded_number_tree) };
 

@@ -10,14 +10,11 @@ ghost use Rattle.mud_key.specs.Printed.{number_text, by_text, printed};
 ghost use Rattle.mud_world.specs.Speech.{is_speech};
 ghost use Rattle.mud_chron.specs.Entry.{IsNumber};
 ghost use Rattle.mud_chron.specs.Text.{listed};
-ghost use Rattle.mud_chron.specs.Fields.{Finds, Gives, Lacks, digits_on, up_to, object_in};
+ghost use Rattle.mud_chron.specs.inner.Fields.{Finds, Gives, Lacks, digits_on, up_to, object_in};
 
 use mud_key::{Key, KeyFault, Miss, Name, Namer, Names, NamesFault, read, resolve};
-use mud_world::Speech;
+use mud_world::{LAST_NUMBER, Speech};
 use std::alloc::{AllocError, Global};
-
-// The last number that an object may have.
-const LAST_OBJECT: u32 = 8_191;
 
 // A number below this may take one more digit: it has nine then at most.
 const ROOM_FOR_A_DIGIT: u32 = 100_000_000;
@@ -97,7 +94,7 @@ pub(crate) fn object(text: &str) -> Result<u32, Unread>
     ensures number { IfOk result IsNumber }
 {
     match text.as_bytes() {
-        [b'#', digits @ ..] => number_up_to(digits, LAST_OBJECT),
+        [b'#', digits @ ..] => number_up_to(digits, LAST_NUMBER),
         _ => Err(Unread::NoEntry),
     }
 }
@@ -150,7 +147,7 @@ struct Numbers;
 impl Namer for Numbers {
     ghost use Rattle.mud_key.specs.declared.namer.Miss.TheVariants.{NoSuch};
     ghost use Rattle.std.specs.Option.{ok_or};
-    ghost use Rattle.mud_chron.specs.Fields.{object_in};
+    ghost use Rattle.mud_chron.specs.inner.Fields.{object_in};
 
     ghost meaning = { λ _ text. ok_or (object_in text) NoSuch };
 

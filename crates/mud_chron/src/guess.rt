@@ -7,21 +7,18 @@ ghost use Rattle.mud_key.specs.Printed.{number_text};
 ghost use Rattle.mud_key.specs.Names.{AreNames};
 ghost use Rattle.mud_world.specs.declared.change.Doors.{Doors as DoorsSeen};
 ghost use Rattle.mud_world.specs.declared.change.Change.{Change as ChangeSeen};
-ghost use Rattle.mud_chron.specs.Entry.{Accepted, IsNumber, IsInRange, IsSpellable, IsEntry, HasParts};
-ghost use Rattle.mud_world.specs.Inner.{AreDoors, AreBackNames};
+ghost use Rattle.mud_chron.specs.Entry.{Entry, IsNumber, IsInRange, IsSpellable, IsEntry, HasParts};
+ghost use Rattle.mud_world.specs.inner.Parts.{AreDoors, AreBackNames};
 ghost use Rattle.mud_chron.specs.Text.{quoted, entry_line};
-ghost use Rattle.mud_chron.specs.Inner.{back_text, doors_text, change_text};
-ghost use Rattle.mud_chron.specs.Fields.{Finds, Lacks, FindsDeed};
+ghost use Rattle.mud_chron.specs.inner.Texts.{back_text, doors_text, change_text};
+ghost use Rattle.mud_chron.specs.inner.Fields.{Finds, Lacks, FindsDeed};
 
 use crate::entry::Entry;
 use crate::fields::{Unread, cut, key, name, names, number, object, object_before, speech};
 use crate::verb::{Verb, verb_of};
 use mud_key::{Name, Names};
-use mud_world::{Change, Deed, Doors, Target};
+use mud_world::{Change, Deed, Doors, MOST_COST, Target};
 use std::alloc::Global;
-
-// The most that an exit costs.
-const MOST_COST: u32 = 10_000;
 
 // The number of the last desk.
 const LAST_DESK: u32 = 64;
@@ -260,7 +257,7 @@ fn desk_of(text: &str) -> Result<u32, Unread>
 
 // The entry of a line, whatever version it makes.
 pub(crate) fn guess(alloc: Global, line: &str) -> Result<Entry, Unread>
-    ensures { (version : ℕ) (e : Accepted) → version < 2 ^ 32 → IsEntry e → line.now ≡ entry_line version e
+    ensures { (version : ℕ) (e : Entry) → version < 2 ^ 32 → IsEntry e → line.now ≡ entry_line version e
         → Finds (λ found. found ≡ e) result }
 {
     let (_, rest) = cut(line, ' ')?;

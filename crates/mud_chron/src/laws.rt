@@ -7,7 +7,7 @@ ghost use Rattle.mud_chron.specs.History.{AreEntriesOf};
 ghost use Rattle.mud_chron.specs.Text.{journal_text};
 ghost use Rattle.mud_chron.specs.Fronts.{Recovers};
 ghost use Rattle.std.specs.Prelude.{ℕ, List, take};
-ghost use Rattle.mud_chron.specs.Entry.{Accepted};
+ghost use Rattle.mud_chron.specs.Entry.{Entry};
 ghost use Rattle.mud_chron.specs.declared.format.Format.{Format};
 
 /// A change that is legal in a sound world can be spelled, whichever desk made it.
@@ -42,7 +42,7 @@ pub fn again()
 
 /// Whatever byte a journal is cut at, all entries whose lines are whole are found, and no others.
 pub fn recovers_whole()
-    ensures { (format found : Format) (entries got : List Accepted) (n keep : ℕ) → AreEntriesOf format entries
+    ensures { (format found : Format) (entries got : List Entry) (n keep : ℕ) → AreEntriesOf format entries
         → Recovers (take n (journal_text format entries)) found got keep → AreWhole format entries n found got keep }
 {}
 

@@ -6,6 +6,7 @@
 //! | Calls | Answer |
 //! |---|---|
 //! | `write_entry`, `write_history` | append the line of an entry, or the text of a history |
+//! | `write_names` | append names in their quotes |
 //! | `read_history` | the entries of a text, or the fault of bytes that are none |
 //! | `read_front` | the entries whose lines are whole in a journal that was cut at any byte |
 //! | `replay` | the world of the entries, or the first whose change isn't legal |
@@ -41,4 +42,4 @@ pub use format::Format;
 pub use front::{Front, read_front};
 pub use reading::{MOST_ENTRIES, read_history};
 pub use replaying::replay;
-pub use writing::{write_entry, write_history};
+pub use writing::{write_entry, write_history, write_names};

@@ -2,11 +2,11 @@
 
 ghost use Rattle.std.specs.Prelude.{◌≡◌, ◌≤◌, ◌<◌, ◌^◌, ◌+◌, ◌↔◌, ℕ, true, IfOk, MatchOption, MatchBool};
 ghost use Rattle.mud_chron.specs.Text.{entry_line, end_line};
-ghost use Rattle.mud_chron.specs.Entry.{Accepted, IsEntry};
-ghost use Rattle.mud_chron.specs.Fields.{Finds};
+ghost use Rattle.mud_chron.specs.Entry.{Entry, IsEntry};
+ghost use Rattle.mud_chron.specs.inner.Fields.{Finds};
 ghost use Rattle.mud_chron.specs.History.{HasLine, IsEntryOf};
 ghost use Rattle.mud_chron.specs.Faults.{IsNoEntryLine};
-ghost use Rattle.mud_chron.specs.Lines.{IsLine};
+ghost use Rattle.mud_chron.specs.inner.Lines.{IsLine};
 
 use crate::entry::Entry;
 use crate::fields::Unread;
@@ -39,7 +39,7 @@ fn has_line(format: Format, deed: &Deed) -> bool
 
 // The entry that may have the line, whatever is spelled there.
 fn candidate(alloc: Global, line: &[u8]) -> Result<Entry, Unread>
-    ensures { (version : ℕ) (e : Accepted) → version < 2 ^ 32 → IsEntry e → line.now ≡ entry_line version e
+    ensures { (version : ℕ) (e : Entry) → version < 2 ^ 32 → IsEntry e → line.now ≡ entry_line version e
         → Finds (λ found. found ≡ e) result }
 {
     match str::from_utf8(line) {

@@ -2,7 +2,7 @@
 
 ghost use Rattle.std.specs.Prelude.{◌≡◌};
 ghost use Rattle.mud_chron.specs.declared.verb.Verb.{Verb as VerbSeen};
-ghost use Rattle.mud_chron.specs.Fields.{Finds, word_of};
+ghost use Rattle.mud_chron.specs.inner.Fields.{Finds, word_of};
 
 use crate::fields::Unread;
 

@@ -8,7 +8,7 @@ ghost use Rattle.mud_key.specs.Printed.{number_text, by_text, printed};
 ghost use Rattle.mud_chron.specs.declared.format.Format.TheVariants.{Two};
 ghost use Rattle.mud_chron.specs.Text.{listed, quoted, target_text, deed_text, entry_line, line_feed};
 ghost use Rattle.mud_chron.specs.Text.{entries_text, end_line, history_text};
-ghost use Rattle.mud_chron.specs.Inner.{back_text, doors_text, change_text};
+ghost use Rattle.mud_chron.specs.inner.Texts.{back_text, doors_text, change_text};
 
 use crate::entry::Entry;
 use crate::format::Format;
@@ -212,6 +212,17 @@ pub(crate) fn push_line(
     out.push_str(" ")?;
     let change = entry.change();
     push_deed(alloc, out, change.actor, &change.deed)
+}
+
+/// Appends names as a history has them: between double quotes, with a comma between each two (docs/HISTORY.md,
+/// "Entries"). The only error is out of memory, and then the text is as it was.
+pub fn write_names(alloc: Global, names: &Names, out: &mut String) -> Result<(), AllocError>
+    ensures ok { OnOk result (string_bytes out.new ≡ string_bytes out.old ++ quoted names.now) }
+    ensures err { OnErr result (string_bytes out.new ≡ string_bytes out.old) }
+{
+    let mut text = String::new(alloc);
+    push_names(&mut text, names)?;
+    out.push_str(text.as_str())
 }
 
 /// Appends the line of the entry, with its end: the version that its change makes, 1 to 65,536,

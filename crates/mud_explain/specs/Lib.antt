@@ -4,6 +4,4 @@ pub mod Units
 pub mod Line
 pub mod Key
 pub mod Explained
-pub mod Told
-pub mod Played
-pub mod Inner
+pub mod inner

@@ -6,7 +6,7 @@ ghost use Rattle.mud_words.specs.Parse.{parsed};
 ghost use Rattle.mud_words.specs.Line.{line_of};
 ghost use Rattle.mud_explain.specs.Listed.{listed};
 ghost use Rattle.mud_explain.specs.Line.{line_text};
-ghost use Rattle.mud_explain.specs.Inner.{preposition_text};
+ghost use Rattle.mud_explain.specs.inner.Texts.{preposition_text};
 ghost use Rattle.mud_explain.specs.Key.{SaysKey};
 ghost use Rattle.mud_explain.specs.Explained.{SaysText, Says};
 ghost use Rattle.mud_explain.specs.Lines.{Answers, AnswersOne};

@@ -6,7 +6,8 @@ ghost use Rattle.std.specs.Vec.{vec_len};
 ghost use Rattle.mud_hall.specs.Settling.{HasNumber};
 ghost use Rattle.std.specs.List.Sorted.{IsPermutation};
 ghost use Rattle.mud_hall.specs.Desk.{View};
-ghost use Rattle.mud_explain.specs.Played.{Turns, TurnsOne, Gives, Lacks, DoesNothing, AreHanded, Settles, GoesOn};
+ghost use Rattle.mud_explain.specs.inner.Played.{Turns, TurnsOne, Gives, Lacks, DoesNothing, AreHanded, Settles};
+ghost use Rattle.mud_explain.specs.inner.Played.{GoesOn};
 
 use crate::step::{Step, Turn, step_of};
 use crate::told::{

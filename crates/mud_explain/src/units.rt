@@ -5,7 +5,7 @@ ghost use Rattle.std.specs.List.{flat_map};
 ghost use Rattle.mud_nvt.specs.Shown.{shown, all_shown};
 ghost use Rattle.mud_nvt.specs.Units.{units};
 ghost use Rattle.mud_explain.specs.Units.{hex_digit, unit_text};
-ghost use Rattle.mud_explain.specs.Inner.{byte_text, units_text};
+ghost use Rattle.mud_explain.specs.inner.Texts.{byte_text, units_text};
 
 use mud_nvt::{Nvt, Unit};
 use std::alloc::{AllocError, Global};

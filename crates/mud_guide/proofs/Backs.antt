@@ -9,7 +9,7 @@ use Rattle.mud_roads.specs.declared.label.Step.{Step}
 use Rattle.mud_roads.specs.Walks.{Roads, after, Least, EndsLeast, RouteBack}
 use Rattle.mud_roads.proofs.Routes.{route-goes-on, least-one}
 use Rattle.mud_guide.specs.declared.arrivals.Arrival.{Arrival}
-use Rattle.mud_guide.specs.Arrivals.{Ends, AreLast, Labelled}
+use Rattle.mud_guide.specs.inner.Arrivals.{Ends, AreLast, Labelled}
 use Rattle.mud_guide.proofs.Lowest.{contains-none}
 
 -- the exits of a label

@@ -12,10 +12,10 @@ use Rattle.std.proofs.lemmas.List.Quantifiers.{all_pairs_push}
 use Rattle.mud_roads.specs.declared.label.Label.{Label}
 use Rattle.mud_roads.specs.declared.label.Step.{Step}
 use Rattle.mud_cert.specs.Certificate.{Account, IsNumber}
-use Rattle.mud_cert.specs.Lines.{IsEntry}
+use Rattle.mud_cert.specs.inner.Lines.{IsEntry}
 use Rattle.mud_guide.specs.Journeys.{Journey}
 use Rattle.mud_guide.specs.Ways.{exits_of}
-use Rattle.mud_guide.specs.Listings.{AreEntries, IsListed}
+use Rattle.mud_guide.specs.inner.Listings.{AreEntries, IsListed}
 use Rattle.mud_guide.proofs.Lowest.{some-inj}
 
 abbrev Entry : Type 0

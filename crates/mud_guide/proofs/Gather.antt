@@ -22,7 +22,7 @@ use Rattle.mud_roads.proofs.Routes.{least-one}
 use Rattle.mud_search.specs.Least.{AreLeast}
 use Rattle.mud_cert.specs.declared.cert.Meeting.{Meeting}
 use Rattle.mud_cert.specs.Valid.{IsPlace}
-use Rattle.mud_guide.specs.Gatherings.{IsGreatest, IsBest, NoneGather, lesser, BestSoFar}
+use Rattle.mud_guide.specs.inner.Gatherings.{IsGreatest, IsBest, NoneGather, lesser, BestSoFar}
 use Rattle.mud_guide.proofs.Lowest.{some-inj}
 
 pub greatest-none : (labels : ℕ → Option Label) (members m cost : ℕ) → m < members → labels m ≡ None

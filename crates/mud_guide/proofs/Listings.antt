@@ -12,7 +12,7 @@ use Rattle.mud_roads.specs.Open.{Knowledge}
 use Rattle.mud_cert.specs.Certificate.{Account, IsAccount}
 use Rattle.mud_guide.specs.declared.lister.Listing.{Listing}
 use Rattle.mud_guide.specs.Journeys.{Journey, IsJourney}
-use Rattle.mud_guide.specs.Listings.{IsListed, AreListed, IsListing}
+use Rattle.mud_guide.specs.inner.Listings.{IsListed, AreListed, IsListing}
 use Rattle.mud_guide.proofs.Parts.{allzip-beside}
 use Rattle.mud_guide.proofs.Party.{allzip-length}
 
@@ -65,7 +65,8 @@ listed-beside labels next first behind us xs vs ys at one other = record {
       | inl same ↦ behind-all 0 m j a (omega (arith, same)) (omega (arith, same, h, length-append vs ys))
       | inr apart ↦ elim apart [
         | inl less ↦ among m j a less
-        | inr more ↦ behind-all (m - length vs) m j a (omega (arith, more)) (omega (arith, more, h, length-append vs ys))
+        | inr more ↦ behind-all (m - length vs) m j a (omega (arith, more))
+            (omega (arith, more, h, length-append vs ys))
       ]
     ]
 

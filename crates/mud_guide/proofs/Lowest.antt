@@ -15,7 +15,7 @@ use Rattle.mud_roads.specs.Open.{roads_of}
 use Rattle.mud_roads.proofs.Routes.{label-ext}
 use Rattle.mud_roads.proofs.Roads.{steps-inside}
 use Rattle.mud_guide.specs.declared.arrivals.Arrival.{Arrival}
-use Rattle.mud_guide.specs.Arrivals.{Ends, AreLowest, ends, is_lower, noted, noted_all}
+use Rattle.mud_guide.specs.inner.Arrivals.{Ends, AreLowest, ends, is_lower, noted, noted_all}
 
 -- fewer seen
 pub lowest-weaken : (roads : Roads) (labels : ℕ → Option Label) (next : ℕ) (seen more : ℕ → Step → Type 0)

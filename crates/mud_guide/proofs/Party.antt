@@ -21,13 +21,13 @@ use Rattle.mud_cert.specs.Lookup.{label_at}
 use Rattle.mud_cert.proofs.Conclusions.{Labels}
 use Rattle.mud_cert.specs.Valid.{States, IsMember, GoesTo, IsPlace, Agrees, IsValid}
 use Rattle.mud_search.specs.Least.{AreLeast}
-use Rattle.mud_guide.specs.Arrivals.{Labelled}
+use Rattle.mud_guide.specs.inner.Arrivals.{Labelled}
 use Rattle.mud_guide.specs.Ways.{cost_of, IsWayTo}
-use Rattle.mud_guide.specs.Inner.{IsWay}
+use Rattle.mud_guide.specs.inner.Members.{IsWay}
 use Rattle.mud_guide.specs.Journeys.{Journey, IsJourney, goers_of}
 use Rattle.mud_guide.specs.Accounts.{IsAccountOf}
-use Rattle.mud_guide.specs.Listings.{IsInside, AreListed}
-use Rattle.mud_guide.specs.Gatherings.{IsGreatest}
+use Rattle.mud_guide.specs.inner.Listings.{IsInside, AreListed}
+use Rattle.mud_guide.specs.inner.Gatherings.{IsGreatest}
 use Rattle.mud_guide.proofs.Lowest.{some-inj}
 use Rattle.mud_guide.proofs.Totals.{route_is_least}
 use Rattle.mud_guide.proofs.Gather.{goers, gathers-from_greatest}

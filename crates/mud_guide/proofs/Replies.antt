@@ -23,10 +23,10 @@ use Rattle.mud_cert.proofs.Conclusions.{Labels}
 use Rattle.mud_search.specs.Least.{AreLeast, AreBounded}
 use Rattle.mud_guide.specs.declared.answer.Answer.{Answer}
 use Rattle.mud_guide.specs.Ways.{cost_of}
-use Rattle.mud_guide.specs.Inner.{IsWay}
+use Rattle.mud_guide.specs.inner.Members.{IsWay}
 use Rattle.mud_guide.specs.Journeys.{Journey, IsJourney}
-use Rattle.mud_guide.specs.Listings.{AreListed}
-use Rattle.mud_guide.specs.Gatherings.{IsGreatest}
+use Rattle.mud_guide.specs.inner.Listings.{AreListed}
+use Rattle.mud_guide.specs.inner.Gatherings.{IsGreatest}
 use Rattle.mud_guide.specs.Texts.{route_text, meet_text}
 use Rattle.mud_guide.specs.Answers.{IsCertOf, IsRouteAnswer, IsMeetAnswer}
 use Rattle.mud_guide.proofs.Lowest.{some-inj}

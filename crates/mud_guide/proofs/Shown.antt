@@ -22,11 +22,11 @@ use Rattle.mud_cert.specs.Lookup.{label_at}
 use Rattle.mud_cert.specs.Lookup as lookup
 use Rattle.mud_cert.specs.Valid.{States, IsMember}
 use Rattle.mud_cert.proofs.Lookups.{label-found, label-missing}
-use Rattle.mud_guide.specs.Arrivals.{Labelled}
+use Rattle.mud_guide.specs.inner.Arrivals.{Labelled}
 use Rattle.mud_guide.specs.Ways.{exits_of, IsWayTo}
 use Rattle.mud_guide.specs.Journeys.{Journey, IsJourney}
 use Rattle.mud_guide.specs.Accounts.{AreLeastLabels, IsAccountOf}
-use Rattle.mud_guide.specs.Listings.{IsInside, IsListed}
+use Rattle.mud_guide.specs.inner.Listings.{IsInside, IsListed}
 use Rattle.mud_guide.proofs.Totals.{route_is_least}
 
 -- ---- numbers and rooms

@@ -14,7 +14,7 @@ use Rattle.mud_cert.specs.declared.cert.Conclusion.{Conclusion}
 use Rattle.mud_cert.specs.declared.cert.Conclusion.TheVariants.{Route, Meet}
 use Rattle.mud_cert.specs.Certificate.{Account, Certificate}
 use Rattle.mud_guide.specs.Ways.{cost_of, IsWayTo}
-use Rattle.mud_guide.specs.Inner.{IsWay}
+use Rattle.mud_guide.specs.inner.Members.{IsWay}
 use Rattle.mud_guide.specs.Journeys.{Journey, IsJourney, goers_of}
 use Rattle.mud_guide.specs.Accounts.{AreLeastLabels, IsAccountOf}
 use Rattle.mud_cert.specs.Valid.{IsPlace}

@@ -8,7 +8,7 @@ use Rattle.mud_roads.specs.declared.label.Step.{Step}
 use Rattle.mud_roads.specs.Walks.{Roads, Walk, total, after, IsLeast, Least, NoWalk, RouteBack, IsRoute}
 use Rattle.mud_roads.proofs.Routes.{walk-snoc, total-snoc, least-one}
 use Rattle.mud_guide.proofs.Lowest.{some-inj}
-use Rattle.mud_guide.specs.Arrivals.{Labelled}
+use Rattle.mud_guide.specs.inner.Arrivals.{Labelled}
 use Rattle.mud_guide.specs.Ways.{cost_of}
 use Rattle.mud_guide.specs.Laws.{RouteIsLeast}
 

@@ -4,8 +4,4 @@ pub mod Accounts
 pub mod Texts
 pub mod Answers
 pub mod Laws
-pub mod Arrivals
-pub mod Listings
-pub mod Gatherings
-pub mod Parts
-pub mod Inner
+pub mod inner

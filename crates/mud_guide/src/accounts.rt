@@ -5,7 +5,7 @@ ghost use Rattle.std.specs.Option.{option_map};
 ghost use Rattle.mud_cert.specs.Certificate.{IsAccount};
 ghost use Rattle.mud_search.specs.Least.{label_in, AreBounded};
 ghost use Rattle.mud_guide.specs.Ways.{exits_of};
-ghost use Rattle.mud_guide.specs.Listings.{AreEntries, IsInside, IsListed, AreListed};
+ghost use Rattle.mud_guide.specs.inner.Listings.{AreEntries, IsInside, IsListed, AreListed};
 
 use crate::journey::Journey;
 use crate::way::Way;

@@ -4,7 +4,7 @@ ghost use Rattle.std.specs.Prelude.{◌≡◌, ◌<◌, All, IfOk, length};
 ghost use Rattle.mud_world.specs.Sound.{IsSound};
 ghost use Rattle.mud_roads.specs.Open.{IsTraveller, roads_of};
 ghost use Rattle.mud_search.specs.Least.{label_in};
-ghost use Rattle.mud_guide.specs.Arrivals.{AreLast, ends, is_lower, noted, noted_all};
+ghost use Rattle.mud_guide.specs.inner.Arrivals.{AreLast, ends, is_lower, noted, noted_all};
 
 use mud_roads::{Label, Step, Traveller};
 use mud_search::Labels;

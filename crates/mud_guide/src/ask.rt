@@ -41,11 +41,11 @@ pub fn route_alone(
 {
     let traveller = Traveller::of(alloc, world, player)?;
     let labels = labels_alone(alloc, world, slice::from_ref(&traveller))?;
-    route_by(alloc, world, version, &traveller, &labels, room)
+    route_from(alloc, world, version, &traveller, &labels, room)
 }
 
 // The route of a traveller, from his least labels.
-pub(crate) fn route_by(
+pub(crate) fn route_from(
     alloc: Global,
     world: &World,
     version: u32,
@@ -94,7 +94,7 @@ pub fn meet_alone(
 {
     let travellers = travellers_of(alloc, world, party)?;
     let labels = labels_alone(alloc, world, travellers.as_slice())?;
-    meet_by(
+    meet_from(
         &Alone,
         alloc,
         world,
@@ -122,7 +122,7 @@ pub(crate) fn travellers_of(
 }
 
 // Where travellers meet, from their least labels.
-pub(crate) fn meet_by<L: Lister>(
+pub(crate) fn meet_from<L: Lister>(
     lister: &L,
     alloc: Global,
     world: &World,

@@ -6,9 +6,9 @@ ghost use Rattle.std.specs.List.{AllZip};
 ghost use Rattle.mud_world.specs.State.{is_room};
 ghost use Rattle.mud_roads.specs.Open.{IsTraveller, roads_of};
 ghost use Rattle.mud_search.specs.Least.{label_in};
-ghost use Rattle.mud_guide.specs.Arrivals.{Labelled};
+ghost use Rattle.mud_guide.specs.inner.Arrivals.{Labelled};
 ghost use Rattle.mud_guide.specs.Journeys.{IsJourney};
-ghost use Rattle.mud_guide.specs.Parts.{AreMembers};
+ghost use Rattle.mud_guide.specs.inner.Parts.{AreMembers};
 
 use crate::routing::way_to;
 use crate::way::Way;

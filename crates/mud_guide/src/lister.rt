@@ -5,8 +5,8 @@ ghost use Rattle.std.specs.Option.{ForSome};
 ghost use Rattle.std.specs.Thread.{IsSync};
 ghost use Rattle.mud_world.specs.State.{is_room};
 ghost use Rattle.mud_search.specs.Least.{label_in, AreBounded};
-ghost use Rattle.mud_guide.specs.Parts.{AreMembers};
-ghost use Rattle.mud_guide.specs.Listings.{IsListing};
+ghost use Rattle.mud_guide.specs.inner.Parts.{AreMembers};
+ghost use Rattle.mud_guide.specs.inner.Listings.{IsListing};
 
 use crate::accounts::accounts_of;
 use crate::journey::{Journey, journeys_to};
@@ -79,7 +79,7 @@ impl<'a, R: Threads + Sync> Lister for Crew<'a, R> {
         labels: &Labels,
         to: Option<u32>,
     ) -> Result<Listing, AllocError> {
-        listing_by(self.rt, alloc, world, party, labels, 0, to, self.workers)
+        listing_with(self.rt, alloc, world, party, labels, 0, to, self.workers)
     }
 }
 
@@ -106,7 +106,7 @@ fn listing_of(
 // The listing of members from a number on: of the last of them apart, by the last workers, as long as
 // there are two members and two workers.
 #[tactic(auto, using(crate::proofs::Parts::members_front, crate::proofs::Parts::members_back))]
-fn listing_by<R: Threads + Sync>(
+fn listing_with<R: Threads + Sync>(
     rt: &R,
     alloc: Global,
     world: &World,
@@ -137,13 +137,13 @@ fn listing_by<R: Threads + Sync>(
                 × ForSome to (λ room. IsTrue (is_room world.now room)) × AreBounded (label_in labels.now) }
             ensures { IfOk result
                 (IsListing world.entry.now (label_in labels.entry.now) behind to back.entry.now) }
-        { listing_by(rt, alloc, world, back, labels, behind, to, after) },
+        { listing_with(rt, alloc, world, back, labels, behind, to, after) },
         || -> Result<Listing, AllocError>
             requires { IsSync R.row × AreMembers world.now (label_in labels.now) first front.now
                 × ForSome to (λ room. IsTrue (is_room world.now room)) × AreBounded (label_in labels.now) }
             ensures { IfOk result
                 (IsListing world.entry.now (label_in labels.entry.now) first to front.entry.now) }
-        { listing_by(rt, alloc, world, front, labels, first, to, before) },
+        { listing_with(rt, alloc, world, front, labels, first, to, before) },
     );
     let mut listing = listing?;
     let mut others = others?;

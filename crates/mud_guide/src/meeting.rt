@@ -7,7 +7,7 @@ ghost use Rattle.mud_roads.specs.Walks.{HasLeast};
 ghost use Rattle.mud_roads.specs.Open.{IsTraveller, goer};
 ghost use Rattle.mud_cert.specs.Valid.{IsPlace};
 ghost use Rattle.mud_search.specs.Least.{label_in, AreLeast};
-ghost use Rattle.mud_guide.specs.Gatherings.{IsGreatest, IsBest, NoneGather, lesser};
+ghost use Rattle.mud_guide.specs.inner.Gatherings.{IsGreatest, IsBest, NoneGather, lesser};
 
 use mud_cert::Meeting;
 use mud_roads::Traveller;

@@ -5,8 +5,8 @@ ghost use Rattle.mud_world.specs.State.{is_room};
 ghost use Rattle.mud_roads.specs.Walks.{IsRoute};
 ghost use Rattle.mud_roads.specs.Open.{IsTraveller, roads_of};
 ghost use Rattle.mud_search.specs.Least.{label_in};
-ghost use Rattle.mud_guide.specs.Arrivals.{Labelled};
-ghost use Rattle.mud_guide.specs.Inner.{IsWay};
+ghost use Rattle.mud_guide.specs.inner.Arrivals.{Labelled};
+ghost use Rattle.mud_guide.specs.inner.Members.{IsWay};
 
 use crate::arrivals::last_steps;
 use crate::way::Way;

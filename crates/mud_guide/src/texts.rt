@@ -5,7 +5,7 @@ ghost use Rattle.std.specs.List.{flat_map};
 ghost use Rattle.mud_cert.specs.Text.{exits_text};
 ghost use Rattle.mud_guide.specs.Ways.{exits_of};
 ghost use Rattle.mud_guide.specs.Texts.{object, way_text, place_text, route_text};
-ghost use Rattle.mud_guide.specs.Inner.{member_text};
+ghost use Rattle.mud_guide.specs.inner.Members.{member_text};
 ghost use Rattle.mud_guide.specs.Texts.{meet_text};
 
 use crate::journey::Journey;

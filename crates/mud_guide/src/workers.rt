@@ -4,10 +4,10 @@ ghost use Rattle.std.specs.Prelude.{◌≡◌, ◌≢◌, ◌≤◌, All, AllPai
 ghost use Rattle.std.specs.Thread.{IsSync};
 ghost use Rattle.mud_world.specs.State.{is_player, is_room};
 ghost use Rattle.mud_guide.specs.Answers.{IsRouteAnswer, IsMeetAnswer};
-ghost use Rattle.mud_guide.specs.Parts.{AreTravellers};
+ghost use Rattle.mud_guide.specs.inner.Parts.{AreTravellers};
 
 use crate::answer::Answer;
-use crate::ask::{meet_by, route_by, travellers_of};
+use crate::ask::{meet_from, route_from, travellers_of};
 use crate::lister::Crew;
 use mud_roads::Traveller;
 use mud_search::{Gate, labels, last_share};
@@ -37,7 +37,7 @@ pub fn route<R: Threads + Wait + Sync, G: Gate + Sync>(
 {
     let traveller = Traveller::of(alloc, world, player)?;
     let labels = labels(rt, alloc, world, slice::from_ref(&traveller), workers, gate)?;
-    route_by(alloc, world, version, &traveller, &labels, room)
+    route_from(alloc, world, version, &traveller, &labels, room)
 }
 
 /// Answers as [`meet_alone`](crate::meet_alone), by N workers, who search for the members apart and pass the gate with
@@ -59,15 +59,15 @@ pub fn meet<R: Threads + Wait + Sync, G: Gate + Sync>(
     requires version { version ≤ 65536 }
     ensures { IfOk result (IsMeetAnswer world.now version party.now) }
 {
-    let travellers = travellers_by(rt, alloc, world, party, workers)?;
+    let travellers = party_with(rt, alloc, world, party, workers)?;
     let labels = labels(rt, alloc, world, travellers.as_slice(), workers, gate)?;
     let crew = Crew { rt, workers };
-    meet_by(&crew, alloc, world, version, travellers.as_slice(), &labels)
+    meet_from(&crew, alloc, world, version, travellers.as_slice(), &labels)
 }
 
 // The travellers who are these players: the last of them apart, by the last workers, as long as there
 // are two players and two workers. So the caller's thread starts them all.
-fn travellers_by<R: Threads + Sync>(
+fn party_with<R: Threads + Sync>(
     rt: &R,
     alloc: Global,
     world: &World,
@@ -89,11 +89,11 @@ fn travellers_by<R: Threads + Sync>(
         || -> Result<Vec<Traveller>, AllocError>
             requires { IsSync R.row × All (λ p. IsTrue (is_player world.now p)) back.now }
             ensures { IfOk result (λ ts. AreTravellers world.entry.now back.entry.now ts.items) }
-        { travellers_by(rt, alloc, world, back, after) },
+        { party_with(rt, alloc, world, back, after) },
         || -> Result<Vec<Traveller>, AllocError>
             requires { IsSync R.row × All (λ p. IsTrue (is_player world.now p)) front.now }
             ensures { IfOk result (λ ts. AreTravellers world.entry.now front.entry.now ts.items) }
-        { travellers_by(rt, alloc, world, front, before) },
+        { party_with(rt, alloc, world, front, before) },
     );
     let mut travellers = travellers?;
     let mut others = others?;

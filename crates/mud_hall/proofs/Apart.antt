@@ -5,16 +5,16 @@ use Rattle.std.proofs.lemmas.Bool.Decides.{nat_tests}
 use Rattle.std.proofs.lemmas.List.{drop_more, drop_all}
 use Rattle.std.proofs.lemmas.Option.{none-some, slice_get-get_or}
 use Rattle.std.specs.Prelude.{All, ◌==◌, nat_lt, if◌then◌else◌}
-use Rattle.mud_chron.specs.Entry.{Accepted}
+use Rattle.mud_chron.specs.Entry.{Entry}
 use Rattle.mud_hall.specs.Desk.{View}
 use Rattle.mud_hall.specs.Settling.{versions_by, first_apart}
-use Rattle.mud_hall.specs.Checking.{lesser_of, IsLeast, Differs}
+use Rattle.mud_hall.specs.inner.Checking.{lesser_of, IsLeast, Differs}
 use Rattle.mud_hall.proofs.Least.{least_same, least_either, least_self, any_at, any_later, any_last, any_cases}
 
 -- ---- one desk
 
 -- where the calls from place `next` on and the entries from place i on differ
-abbrev pub left : ℕ → ℕ → ℕ → ℕ → List ℕ → List Accepted → Option ℕ
+abbrev pub left : ℕ → ℕ → ℕ → ℕ → List ℕ → List Entry → Option ℕ
 left n v i next calls es = first_apart (drop next calls) (versions_by n (i + v) (drop i es))
 
 rest_at : {X : Type 0} (xs : List X) (i : ℕ) (x : X) → i < length xs → x ≡ get_or xs i x
@@ -22,14 +22,14 @@ rest_at : {X : Type 0} (xs : List X) (i : ℕ) (x : X) → i < length xs → x �
 rest_at xs i x lt at = drop_more xs i x lt ∙ ap (λ y. y ∷ drop (i + 1) xs) (sym at)
 
 -- the versions from a place on, where the entry there is of the desk, and where it is of another
-own : (n v i : ℕ) (es : List Accepted) (e : Accepted) → i < length es → e ≡ get_or es i e → e.desk ≡ n
+own : (n v i : ℕ) (es : List Entry) (e : Entry) → i < length es → e ≡ get_or es i e → e.desk ≡ n
     → versions_by n (i + v) (drop i es) ≡ (i + v) ∷ versions_by n ((i + 1) + v) (drop (i + 1) es)
 own n v i es e lt at is =
     let yes : (e.desk == n) ≡ true = grind (arith, nat_tests) in
     let next : (i + v) + 1 ≡ (i + 1) + v = omega arith in
     ap (versions_by n (i + v)) (rest_at es i e lt at) ∙ rw (yes, next) refl
 
-other : (n v i : ℕ) (es : List Accepted) (e : Accepted) → i < length es → e ≡ get_or es i e → (e.desk ≡ n → ⊥)
+other : (n v i : ℕ) (es : List Entry) (e : Entry) → i < length es → e ≡ get_or es i e → (e.desk ≡ n → ⊥)
     → versions_by n (i + v) (drop i es) ≡ versions_by n ((i + 1) + v) (drop (i + 1) es)
 other n v i es e lt at apart =
     let not : (e.desk == n) ≡ false = grind (arith, nat_tests) in
@@ -37,12 +37,12 @@ other n v i es e lt at apart =
     ap (versions_by n (i + v)) (rest_at es i e lt at) ∙ rw (not, next) refl
 
 -- the entry is of another desk
-pub left_skip : (n v i next : ℕ) (calls : List ℕ) (es : List Accepted) (e : Accepted) → i < length es
+pub left_skip : (n v i next : ℕ) (calls : List ℕ) (es : List Entry) (e : Entry) → i < length es
     → e ≡ get_or es i e → (e.desk ≡ n → ⊥) → left n v (i + 1) next calls es ≡ left n v i next calls es
 left_skip n v i next calls es e lt at apart = ap (first_apart (drop next calls)) (sym (other n v i es e lt at apart))
 
 -- the entry is the next call
-pub left_same : (n v i next : ℕ) (calls : List ℕ) (es : List Accepted) (e : Accepted) → i < length es
+pub left_same : (n v i next : ℕ) (calls : List ℕ) (es : List Entry) (e : Entry) → i < length es
     → e ≡ get_or es i e → e.desk ≡ n → next < length calls → get_or calls next 0 ≡ i + v
     → left n v (i + 1) (next + 1) calls es ≡ left n v i next calls es
 left_same n v i next calls es e lt at is room same =
@@ -50,7 +50,7 @@ left_same n v i next calls es e lt at is room same =
     rw (drop_more calls next 0 room, own n v i es e lt at is) (rw yes refl)
 
 -- the entry is not the next call
-pub left_here : (n v i next : ℕ) (calls : List ℕ) (es : List Accepted) (e : Accepted) → i < length es
+pub left_here : (n v i next : ℕ) (calls : List ℕ) (es : List Entry) (e : Entry) → i < length es
     → e ≡ get_or es i e → e.desk ≡ n → next < length calls → (get_or calls next 0 ≡ i + v → ⊥)
     → left n v i next calls es ≡ Some (if nat_lt (get_or calls next 0) (i + v) then get_or calls next 0 else (i + v))
 left_here n v i next calls es e lt at is room apart =
@@ -58,16 +58,16 @@ left_here n v i next calls es e lt at is room apart =
     rw (drop_more calls next 0 room, own n v i es e lt at is) (rw not refl)
 
 -- there is no more call
-pub left_more : (n v i next : ℕ) (calls : List ℕ) (es : List Accepted) (e : Accepted) → i < length es
+pub left_more : (n v i next : ℕ) (calls : List ℕ) (es : List Entry) (e : Entry) → i < length es
     → e ≡ get_or es i e → e.desk ≡ n → length calls ≤ next → left n v i next calls es ≡ Some (i + v)
 left_more n v i next calls es e lt at is none = rw (drop_all next calls none, own n v i es e lt at is) refl
 
 -- there is no more entry
-pub left_end : (n v i next : ℕ) (calls : List ℕ) (es : List Accepted) → length es ≤ i → next < length calls
+pub left_end : (n v i next : ℕ) (calls : List ℕ) (es : List Entry) → length es ≤ i → next < length calls
     → left n v i next calls es ≡ Some (get_or calls next 0)
 left_end n v i next calls es past room = rw (drop_all i es past, drop_more calls next 0 room) refl
 
-pub left_none : (n v i next : ℕ) (calls : List ℕ) (es : List Accepted) → length es ≤ i → length calls ≤ next
+pub left_none : (n v i next : ℕ) (calls : List ℕ) (es : List Entry) → length es ≤ i → length calls ≤ next
     → left n v i next calls es ≡ None
 left_none n v i next calls es past none = rw (drop_all i es past, drop_all next calls none) refl
 
@@ -88,7 +88,7 @@ same_none (v ∷ vs) (w ∷ ws) e = go (v == w) refl (same_none vs ws) e
     go false is on none = absurd (none-some (if nat_lt v w then v else w) (sym none))
 
 -- one more desk
-pub differs_more : (ds : List View) (d : View) (first : ℕ) (es : List Accepted) (a here : Option ℕ)
+pub differs_more : (ds : List View) (d : View) (first : ℕ) (es : List Entry) (a here : Option ℕ)
     → IsLeast (Differs ds first es) a → here ≡ first_apart d.state.calls (versions_by d.state.number first es)
     → IsLeast (Differs (ds ++ d ∷ []) first es) (lesser_of a here)
 differs_more ds d first es a here least is =
@@ -100,7 +100,7 @@ differs_more ds d first es a here least is =
     (least_either (Differs ds first es) Q a here least (least_self here))
 
 -- where no desk differs the calls of each are its entries
-pub all_same : (ds : List View) (first : ℕ) (es : List Accepted) → IsLeast (Differs ds first es) None
+pub all_same : (ds : List View) (first : ℕ) (es : List Entry) → IsLeast (Differs ds first es) None
     → All (λ d. d.state.calls ≡ versions_by d.state.number first es) ds
 all_same ds first es none k x lt = same (get_or ds k x) refl
   where

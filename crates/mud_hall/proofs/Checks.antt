@@ -8,12 +8,12 @@ use Rattle.std.proofs.lemmas.List.Elements.{All-push}
 use Rattle.std.proofs.lemmas.Option.{slice_get_within, slice_get_read, slice_get-get_or, get_or_from_slice_get}
 use Rattle.std.specs.Prelude.{All, Any, ◌==◌, nat_lt}
 use mathlib.Core.List.{IsPrefix}
-use Rattle.mud_chron.specs.Entry.{Accepted}
+use Rattle.mud_chron.specs.Entry.{Entry}
 use Rattle.mud_hall.specs.declared.fault.CloseFault.{CloseFault}
 use Rattle.mud_hall.specs.declared.fault.CloseFault.TheVariants.{OutOfMemory, SameNumber, Missing, Mismatch}
 use Rattle.mud_hall.specs.Desk.{View}
 use Rattle.mud_hall.specs.Settling.{made, HasNumber, AreApart, HaveSameNumber, IsGathered, IsCloseFault}
-use Rattle.mud_hall.specs.Checking.{lesser_of, IsLeast, IsUnnamed, IsCheckFault}
+use Rattle.mud_hall.specs.inner.Checking.{lesser_of, IsLeast, IsUnnamed, IsCheckFault}
 use Rattle.mud_hall.proofs.Least.{least_same, least_either, lesser_none, front, last, at_or_last}
 use Rattle.mud_hall.proofs.Least.{any_at, place, any_later, any_last}
 use Rattle.mud_hall.proofs.Lists.{all_weaken}
@@ -107,17 +107,17 @@ all_apart ds none i j d lt within same = none (get_or ds i d).state.number (reco
 -- ---- entries that bear the number of no desk
 
 -- the entry at place i is the first one
-pub unnamed_here : (ds : List View) (first i : ℕ) (es : List Accepted) (e : Accepted)
+pub unnamed_here : (ds : List View) (first i : ℕ) (es : List Entry) (e : Entry)
     → All (λ x. HasNumber ds x.desk) (take i es) → i < length es → e ≡ get_or es i e → (HasNumber ds e.desk → ⊥)
     → IsLeast (IsUnnamed ds first es) (Some (i + first))
 unnamed_here ds first i es e all lt at none =
     ((i, e, omega arith, slice_get_read es (length es) i e refl lt at, none), λ u h. earlier u h)
   where
-    named : (k : ℕ) (x : Accepted) → k < i → slice_get es k ≡ Some x → HasNumber ds x.desk
+    named : (k : ℕ) (x : Entry) → k < i → slice_get es k ≡ Some x → HasNumber ds x.desk
     named k x less here =
         let same : get_or (take i es) k x ≡ x = get_or-take i es k x less ∙ get_or_from_slice_get es k x x here in
         let within : k < length (take i es) = omega (arith, less, lt, length-take-le i es (omega arith)) in
-        subst (λ (y : Accepted). HasNumber ds y.desk) same (all k x within)
+        subst (λ (y : Entry). HasNumber ds y.desk) same (all k x within)
 
     earlier : (u : ℕ) → IsUnnamed ds first es u → i + first ≤ u
     earlier u (k, x, so, here, apart) = go (nat_lt k i) refl
@@ -130,11 +130,11 @@ unnamed_here ds first i es e all lt at none =
             let most : i ≤ k = grind (arith, nat_tests) in
             omega (arith, so, most)
 
-pub unnamed_none : (ds : List View) (first : ℕ) (es : List Accepted) → All (λ x. HasNumber ds x.desk) es
+pub unnamed_none : (ds : List View) (first : ℕ) (es : List Entry) → All (λ x. HasNumber ds x.desk) es
     → IsLeast (IsUnnamed ds first es) None
 unnamed_none ds first es all u (k, x, so, here, none) =
     let same : get_or es k x ≡ x = get_or_from_slice_get es k x x here in
-    none (subst (λ (y : Accepted). HasNumber ds y.desk) same (all k x (slice_get_within es k x here)))
+    none (subst (λ (y : Entry). HasNumber ds y.desk) same (all k x (slice_get_within es k x here)))
 
 -- some desk has a number, or none
 has_cases : (ds : List View) (n : ℕ) → HasNumber ds n ⊎ (HasNumber ds n → ⊥)
@@ -156,7 +156,7 @@ has_cases (d ∷ ds) n = go (d.state.number == n) refl (has_cases ds n)
         other (zero, x, lt, at, p) = apart (ap (λ (y : View). y.state.number) at ∙ p)
         other (suc k, x, lt, at, p) = none (k, x, omega arith, at, p)
 
-pub all_named : (ds : List View) (first : ℕ) (es : List Accepted) → IsLeast (IsUnnamed ds first es) None
+pub all_named : (ds : List View) (first : ℕ) (es : List Entry) → IsLeast (IsUnnamed ds first es) None
     → All (λ x. HasNumber ds x.desk) es
 all_named ds first es none k d lt = elim (has_cases ds (get_or es k d).desk) [
   | inl has ↦ has
@@ -166,7 +166,7 @@ all_named ds first es none k d lt = elim (has_cases ds (get_or es k d).desk) [
 -- ---- what is gathered
 
 -- one more desk tells what it knows
-pub gathered_more : (loaded : List Accepted) (ds : List View) (d : View) (h more : List Accepted)
+pub gathered_more : (loaded : List Entry) (ds : List View) (d : View) (h more : List Entry)
     → IsGathered loaded ds h → (more ≡ h) ⊎ (more ≡ d.state.seen) → IsPrefix h more → IsPrefix d.state.seen more
     → IsGathered loaded (ds ++ d ∷ []) more
 gathered_more loaded ds d h more old is on mine =
@@ -183,11 +183,11 @@ gathered_more loaded ds d h more old is on mine =
         → (more ≡ loaded) ⊎ Any (λ (x : View). more ≡ x.state.seen) (ds ++ d ∷ [])
     whose (inl same) (inl first) = inl (same ∙ first)
     whose (inl same) (inr one) = inr (any_later (λ (x : View). more ≡ x.state.seen) ds d
-        (subst (λ (w : List Accepted). Any (λ (x : View). w ≡ x.state.seen) ds) (sym same) one))
+        (subst (λ (w : List Entry). Any (λ (x : View). w ≡ x.state.seen) ds) (sym same) one))
     whose (inr its) rest = inr (any_last (λ (x : View). more ≡ x.state.seen) ds d its)
 
 -- what a look at the desks found is a fault of the settlement of what was gathered
-pub fault_of : (loaded : List Accepted) (desks : List View) (history : List Accepted) (f : CloseFault)
+pub fault_of : (loaded : List Entry) (desks : List View) (history : List Entry) (f : CloseFault)
     → IsGathered loaded desks history → IsCheckFault desks (length loaded + 1) (made loaded history) f
     → IsCloseFault loaded desks f
 fault_of loaded desks history OutOfMemory whole found = tt

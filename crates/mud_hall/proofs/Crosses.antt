@@ -30,7 +30,8 @@ pub record_send : IsSend Record.the_row
 record_send = search (sendable, crosses, key_send) depth 40 fits 20000
 
 pub world_send : IsSend World.the_row
-world_send = search (sendable, crosses, record_send, links.the_send, lists.the_send, owners.the_send) depth 40 fits 20000
+world_send =
+    search (sendable, crosses, record_send, links.the_send, lists.the_send, owners.the_send) depth 40 fits 20000
 
 pub replica_send : IsSend Replica.the_row
 replica_send = search (sendable, crosses, world_send, pass.the_send) depth 40 fits 20000

@@ -8,18 +8,18 @@ use Rattle.mud_world.specs.State.{State}
 use Rattle.mud_rules.specs.declared.verdict.Verdict.{Verdict}
 use Rattle.mud_rules.specs.Outcome.{IsLawful}
 use Rattle.mud_rules.specs.Table.{decision}
-use Rattle.mud_chron.specs.Entry.{Accepted}
+use Rattle.mud_chron.specs.Entry.{Entry}
 use Rattle.mud_hall.specs.Told.{world_after}
 use Rattle.mud_hall.specs.Desk.{DeskState}
 use Rattle.mud_hall.specs.declared.reply.Reply.{Reply as Returned}
 use Rattle.mud_hall.specs.declared.fault.Fault.{Fault}
 use Rattle.mud_hall.specs.declared.fault.Fault.TheVariants.{OutOfMemory}
 use Rattle.mud_hall.specs.Replies.{Failed, shown, Replies, Acts, verdict_on}
-use Rattle.mud_hall.specs.Inner.{took_in}
+use Rattle.mud_hall.specs.inner.Desks.{took_in}
 use Rattle.mud_hall.proofs.Notices.{state_eq}
 use Rattle.mud_hall.proofs.Coming.{comes_memory}
 
-pub decided : (w : State) (h : List Accepted) (p player : Option ℕ) (said : Line) (r : Result Verdict AllocError)
+pub decided : (w : State) (h : List Entry) (p player : Option ℕ) (said : Line) (r : Result Verdict AllocError)
     → w ≡ world_after h → p ≡ player → IfOk r (λ v. v ≡ decision w p said)
     → IfOk r (λ v. v ≡ decision (world_after h) player said)
 decided w h p player said r world seat is =
@@ -27,7 +27,7 @@ decided w h p player said r world seat is =
     let W : State → Type 0 = λ x. IfOk r (λ v. v ≡ decision x player said) in
     subst W world (subst P seat is)
 
-pub lawful : (w : State) (h : List Accepted) (p player : Option ℕ) (r : Result Verdict AllocError)
+pub lawful : (w : State) (h : List Entry) (p player : Option ℕ) (r : Result Verdict AllocError)
     → w ≡ world_after h → p ≡ player → IfOk r (IsLawful w p) → IfOk r (IsLawful (world_after h) player)
 lawful w h p player r world seat is =
     let P : Option ℕ → Type 0 = λ q. IfOk r (IsLawful w q) in

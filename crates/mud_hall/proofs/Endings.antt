@@ -2,9 +2,9 @@
 use Rattle.std.proofs.Common.{◌≡◌, ℕ, List, [], ◌∷◌, ◌++◌}
 use Rattle.std.proofs.Common.{length, sym, ◌∙◌, ap, append_assoc}
 use Rattle.std.specs.Prelude.{codes}
-use Rattle.mud_chron.specs.Entry.{Accepted}
+use Rattle.mud_chron.specs.Entry.{Entry}
 use Rattle.mud_chron.specs.Text.{line_feed, entries_text, end_line}
-use Rattle.mud_chron.specs.Inner.{written_text}
+use Rattle.mud_chron.specs.inner.Texts.{written_text}
 
 -- more in front changes nothing of the end
 pub behind : (front : List ℕ) (text : List ℕ) → (before : List ℕ) × (text ≡ before ++ 10 ∷ [])
@@ -15,7 +15,7 @@ behind front text (before, e) = (
       ∙ sym (append_assoc front before (10 ∷ [])),
 )
 
-pub written-ends : (es : List Accepted) → (before : List ℕ) × (written_text es ≡ before ++ 10 ∷ [])
+pub written-ends : (es : List Entry) → (before : List ℕ) × (written_text es ≡ before ++ 10 ∷ [])
 written-ends es =
     let begun : List ℕ = codes "mud history 2" ++ line_feed ++ entries_text 1 es in
     (begun ++ end_line (length es), sym (append_assoc begun (end_line (length es)) line_feed))

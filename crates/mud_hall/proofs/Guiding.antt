@@ -11,7 +11,7 @@ use Rattle.mud_rules.specs.declared.verdict.Journey.TheVariants.{Route, Meet}
 use Rattle.mud_rules.specs.declared.verdict.Query.TheVariants as query
 use Rattle.mud_rules.specs.declared.verdict.Verdict.{Verdict}
 use Rattle.mud_rules.specs.declared.verdict.Verdict.TheVariants as verdict
-use Rattle.mud_chron.specs.Entry.{Accepted as Entry}
+use Rattle.mud_chron.specs.Entry.{Entry}
 use Rattle.mud_cert.specs.Certificate.{Certificate, IsCertificate}
 use Rattle.mud_cert.specs.Valid.{IsValid}
 use Rattle.mud_cert.specs.declared.cert.Conclusion.TheVariants as says
@@ -24,7 +24,7 @@ use Rattle.mud_hall.specs.Desk.{DeskState}
 use Rattle.mud_hall.specs.Replies.{verdict_on}
 use Rattle.mud_hall.specs.Answers.{Answered, IsGuided, Shows, Answers}
 use Rattle.mud_hall.specs.Right.{TellsJourney, IsCertified}
-use Rattle.mud_hall.specs.Inner.{TellsProof}
+use Rattle.mud_hall.specs.inner.Desks.{TellsProof}
 use Rattle.mud_hall.specs.Laws.{IsRight}
 use Rattle.mud_hall.proofs.Keeping.{IsDesk, Keeps, begun_kept, run_kept}
 use Rattle.mud_hall.proofs.Journeys.{route-told, meeting-told}
@@ -108,5 +108,8 @@ guide_is_right below known capacity loaded begin begins steps hall run s line a 
     run_kept capacity loaded begin steps hall (begun_kept capacity loaded begin begins) run in
     let desk : was ≡ d = some-inj was d (sym turns.before ∙ at) in
     let mine : IsDesk hall.history s d = first.kept.desks s d at in
-    let answer : Answers d (parsed line) a = subst (λ (x : DeskState). Answers x (parsed line) a) desk asks.0 in
-    (mine.known, right below known d.seen d.player (verdict_on d.seen d.player (parsed line)) a answer.version answer.shows)
+    let answer : Answers d (parsed line) a = subst (λ (x : DeskState). Answers x (parsed line) a) desk asks.0 in (
+      mine.known,
+      right below known d.seen d.player
+          (verdict_on d.seen d.player (parsed line)) a answer.version answer.shows,
+    )

@@ -10,7 +10,7 @@ use Rattle.mud_world.specs.Legal.{refusal, after}
 use Rattle.mud_world.specs.History.{world_from}
 use Rattle.mud_world.specs.Opening.{opening_state}
 use Rattle.mud_world.specs.declared.change.Change.{Change}
-use Rattle.mud_chron.specs.Entry.{Accepted as Entry, IsEntry}
+use Rattle.mud_chron.specs.Entry.{Entry, IsEntry}
 use Rattle.mud_chron.specs.Replay.{changes_of, AreLegalFrom, AreLegal}
 use Rattle.mud_chron.proofs.Spellable.{legal_is_spellable}
 use Rattle.mud_words.specs.Parse.{parsed}
@@ -210,7 +210,8 @@ replies capacity old new s line was ready is reply kept turns number grows r =
     same_number capacity ready (verdict_on ready.seen ready.player (parsed line)) reply is r ∙ number in
     go reply grows r mine
   where
-    go : (reply : Reply) → Grows (Act line reply) old.history is new.history → Replies capacity ready (parsed line) reply is
+    go : (reply : Reply) → Grows (Act line reply) old.history is new.history
+        → Replies capacity ready (parsed line) reply is
         → is.number ≡ was.number → Keeps capacity old new
     go (Accepted v text) grows r mine =
         stored capacity old new s v text line was ready is kept turns number

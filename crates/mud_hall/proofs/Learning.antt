@@ -4,19 +4,19 @@ use Rattle.std.proofs.Common.{refl, sym, ap, ◌∙◌, arith, length-append, ap
 use Rattle.std.specs.Prelude.{nat_lt, if◌then◌else◌}
 use Rattle.std.proofs.lemmas.Bool.Decides.{nat_tests}
 use mathlib.Core.List.{IsPrefix}
-use Rattle.mud_chron.specs.Entry.{Accepted}
+use Rattle.mud_chron.specs.Entry.{Entry}
 
-none-left : (more : List Accepted) → length more ≤ 0 → more ≡ []
+none-left : (more : List Entry) → length more ≤ 0 → more ≡ []
 none-left [] few = refl
 none-left (e ∷ more) few = absurd (omega (arith, few))
 
 -- a beginning that is no shorter is the whole
-whole : (f h : List Accepted) → IsPrefix f h → length h ≤ length f → h ≡ f
+whole : (f h : List Entry) → IsPrefix f h → length h ≤ length f → h ≡ f
 whole f h on few =
     let rest : on.0 ≡ [] = none-left on.0 (omega (arith, few, ap length on.1, length-append f on.0)) in
-    sym on.1 ∙ ap (λ (x : List Accepted). f ++ x) rest ∙ append-nil f
+    sym on.1 ∙ ap (λ (x : List Entry). f ++ x) rest ∙ append-nil f
 
-pub learned : (old other new : List Accepted) → (new ≡ old) ⊎ (new ≡ other) → IsPrefix old new → IsPrefix other new
+pub learned : (old other new : List Entry) → (new ≡ old) ⊎ (new ≡ other) → IsPrefix old new → IsPrefix other new
     → new ≡ (if nat_lt (length old) (length other) then other else old)
 learned old other new is mine theirs = go (nat_lt (length old) (length other)) refl is
   where

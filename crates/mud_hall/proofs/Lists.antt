@@ -7,7 +7,7 @@ use Rattle.std.proofs.lemmas.Option.{slice_get_within, slice_get-get_or, get_or_
 use Rattle.std.proofs.Math.Seq.{take-suc}
 use Rattle.std.proofs.lemmas.List.Elements.{All-append}
 use Rattle.std.specs.Prelude.{All, ◌==◌, if◌then◌else◌}
-use Rattle.mud_chron.specs.Entry.{Accepted}
+use Rattle.mud_chron.specs.Entry.{Entry}
 use Rattle.mud_hall.specs.Settling.{versions_by}
 
 pub take_snoc : {X : Type 0} (xs : List X) (i : ℕ) (d x : X) → i < length xs → x ≡ get_or xs i d
@@ -33,7 +33,7 @@ set_same [] i x y at same = refl
 set_same (z ∷ xs) zero x y at same = cc
 set_same (z ∷ xs) (suc i) x y at same = ap (λ r. z ∷ r) (set_same xs i x y at same)
 
-pub versions-snoc : (n v : ℕ) (es : List Accepted) (e : Accepted)
+pub versions-snoc : (n v : ℕ) (es : List Entry) (e : Entry)
     → versions_by n v (es ++ e ∷ []) ≡ versions_by n v es ++ (if e.desk == n then (v + length es) ∷ [] else [])
 versions-snoc n v [] e =
     let same : v ≡ v + 0 = omega arith in

@@ -6,13 +6,13 @@ use Rattle.std.proofs.lemmas.List.{append-nil, take-append-le, take-append-drop,
 use mathlib.Core.List.{IsPrefix}
 use Rattle.std.specs.Prelude.{MatchBool}
 use Rattle.mud_world.specs.State.{State}
-use Rattle.mud_chron.specs.Entry.{Accepted}
+use Rattle.mud_chron.specs.Entry.{Entry}
 use Rattle.mud_row.specs.Known.{Standing}
 use Rattle.mud_hall.specs.Told.{world_after, notice, notices}
-use Rattle.mud_hall.specs.Inner.{notice_in, took_in, state_of}
+use Rattle.mud_hall.specs.inner.Desks.{notice_in, took_in, state_of}
 use Rattle.mud_hall.specs.Desk.{DeskState, TakesIn}
 
-pub notices-append : (p : Option ℕ) (h es fs : List Accepted)
+pub notices-append : (p : Option ℕ) (h es fs : List Entry)
     → notices p h (es ++ fs) ≡ notices p h es ++ notices p (h ++ es) fs
 notices-append p h [] fs = ap (λ w. notices p w fs) (sym (append-nil h))
 notices-append p h (e ∷ es) fs =
@@ -21,19 +21,19 @@ notices-append p h (e ∷ es) fs =
     ∙ ap (λ w. (notice p h e ++ notices p (h ++ e ∷ []) es) ++ notices p w fs) (append_assoc h (e ∷ []) es))
 
 -- what is left from a place on begins with the entry there
-pub drop_at : (es : List Accepted) (i : ℕ) (e : Accepted) → slice_get es i ≡ Some e → drop i es ≡ e ∷ drop (suc i) es
+pub drop_at : (es : List Entry) (i : ℕ) (e : Entry) → slice_get es i ≡ Some e → drop i es ≡ e ∷ drop (suc i) es
 drop_at [] i e at = absurd (cc)
 drop_at (x ∷ es) zero e at = cc
 drop_at (x ∷ es) (suc i) e at = drop_at es i e at
 
-pub take_at : (es : List Accepted) (i : ℕ) (e : Accepted) → slice_get es i ≡ Some e
+pub take_at : (es : List Entry) (i : ℕ) (e : Entry) → slice_get es i ≡ Some e
     → take (suc i) es ≡ take i es ++ e ∷ []
 take_at [] i e at = absurd (cc)
 take_at (x ∷ es) zero e at = cc
 take_at (x ∷ es) (suc i) e at = ap (λ w. x ∷ w) (take_at es i e at)
 
 -- the notices from a place on are that of the entry there and those of the rest
-pub notices_at : (p : Option ℕ) (es : List Accepted) (i : ℕ) (e : Accepted) → slice_get es i ≡ Some e
+pub notices_at : (p : Option ℕ) (es : List Entry) (i : ℕ) (e : Entry) → slice_get es i ≡ Some e
     → notices p (take i es) (drop i es) ≡ notice p (take i es) e ++ notices p (take (i + 1) es) (drop (i + 1) es)
 notices_at p es i e at = rw (add-one i) (ap (notices p (take i es)) (drop_at es i e at)
     ∙ ap (λ w. notice p (take i es) e ++ notices p w (drop (suc i) es)) (sym (take_at es i e at)))
@@ -52,8 +52,8 @@ state_eq s t n p l c o = λ i. record { number = n i; player = p i; seen = l i; 
 -- what was taken in twice was taken in at once
 pub takes_more : (one two three : DeskState) → TakesIn one two → TakesIn two three → TakesIn one three
 takes_more one two three first second =
-    let es : List Accepted = first.entries in
-    let fs : List Accepted = second.entries in
+    let es : List Entry = first.entries in
+    let fs : List Entry = second.entries in
     let twice : took_in (took_in one es) fs ≡ took_in one (es ++ fs) =
     state_eq (took_in (took_in one es) fs) (took_in one (es ++ fs)) refl refl (append_assoc one.seen es fs) refl
     (append_assoc one.told (notices one.player one.seen es) (notices one.player (one.seen ++ es) fs)
@@ -64,20 +64,20 @@ takes_more one two three first second =
     }
 
 -- an entry that is taken in with its notice leaves what the desk is told
-pub told_same : (stored marked : List (List ℕ)) (p : Option ℕ) (es : List Accepted) (i new : ℕ) (e : Accepted)
+pub told_same : (stored marked : List (List ℕ)) (p : Option ℕ) (es : List Entry) (i new : ℕ) (e : Entry)
     → slice_get es i ≡ Some e → new ≡ i + 1 → marked ≡ notice p (take i es) e
     → (stored ++ marked) ++ notices p (take new es) (drop new es) ≡ stored ++ notices p (take i es) (drop i es)
 told_same stored marked p es i new e at is m =
     rw (is, m) (append_assoc stored (notice p (take i es) e) (notices p (take (i + 1) es) (drop (i + 1) es))
     ∙ ap (λ w. stored ++ w) (sym (notices_at p es i e at)))
 
-drop-append_within : (i : ℕ) (es fs : List Accepted) → i ≤ length es → drop i (es ++ fs) ≡ drop i es ++ fs
+drop-append_within : (i : ℕ) (es fs : List Entry) → i ≤ length es → drop i (es ++ fs) ≡ drop i es ++ fs
 drop-append_within zero es fs le = refl
 drop-append_within (suc i) [] fs le = absurd (omega arith)
 drop-append_within (suc i) (e ∷ es) fs le = drop-append_within i es fs (omega arith)
 
 -- entries that come to be known lengthen what the desk is told by their notices
-pub told_more : (stored : List (List ℕ)) (p : Option ℕ) (es fs : List Accepted) (i : ℕ) → i ≤ length es
+pub told_more : (stored : List (List ℕ)) (p : Option ℕ) (es fs : List Entry) (i : ℕ) → i ≤ length es
     → stored ++ notices p (take i (es ++ fs)) (drop i (es ++ fs))
     ≡ (stored ++ notices p (take i es) (drop i es)) ++ notices p es fs
 told_more stored p es fs i le =
@@ -102,12 +102,12 @@ grows was new s number p calls stored more at within is =
     }
 
 -- a guest is told nothing
-pub notices-none : (h es : List Accepted) → notices None h es ≡ []
+pub notices-none : (h es : List Entry) → notices None h es ≡ []
 notices-none h [] = refl
 notices-none h (e ∷ es) = notices-none (h ++ e ∷ []) es
 
 -- what is marked is the notice of the entry
-pub marked : (peeked was : Standing) (p : Option ℕ) (e : Accepted) (n : ℕ) (w : State) (line : List (List ℕ))
+pub marked : (peeked was : Standing) (p : Option ℕ) (e : Entry) (n : ℕ) (w : State) (line : List (List ℕ))
     → peeked ≡ was → was.at < length was.list → n ≡ peeked.at → w ≡ world_after (take peeked.at peeked.list)
     → line ≡ notice_in p (n + 1) w e → line ≡ notice p (take was.at was.list) e
 marked peeked was p e n w line same lt ni wi is = is ∙ rw (ni, wi, same)
@@ -116,7 +116,7 @@ marked peeked was p e n w line same lt ni wi is = is ∙ rw (ni, wi, same)
 
 -- the state after the step is the state before it
 pub after_step : (was new : Standing) (s : DeskState) (number : ℕ) (p : Option ℕ) (calls : List ℕ)
-    (stored told line : List (List ℕ)) (e : Accepted) → new.list ≡ was.list → new.at ≡ was.at + 1
+    (stored told line : List (List ℕ)) (e : Entry) → new.list ≡ was.list → new.at ≡ was.at + 1
     → slice_get was.list was.at ≡ Some e → told ≡ stored ++ line → line ≡ notice p (take was.at was.list) e
     → state_of number p was calls stored ≡ s → state_of number p new calls told ≡ s
 after_step was new s number p calls stored told line e list at here is m state =

@@ -28,7 +28,7 @@ use Rattle.mud_rules.specs.declared.verdict.Journey.TheVariants.{Route, Meet}
 use Rattle.mud_rules.specs.declared.verdict.Query.TheVariants as query
 use Rattle.mud_rules.specs.declared.verdict.Verdict.{Verdict}
 use Rattle.mud_rules.specs.declared.verdict.Verdict.TheVariants as verdict
-use Rattle.mud_chron.specs.Entry.{Accepted as Entry}
+use Rattle.mud_chron.specs.Entry.{Entry}
 use Rattle.mud_cert.specs.Certificate.{Account, Certificate, IsNumber, IsAmount, IsAccount, CountsBy}
 use Rattle.mud_cert.specs.declared.cert.Form.TheVariants.{Two}
 use Rattle.mud_cert.specs.declared.cert.Conclusion.TheVariants as says
@@ -42,7 +42,7 @@ use Rattle.mud_guide.specs.Accounts.{IsAccountOf}
 use Rattle.mud_guide.specs.Answers.{IsRouteAnswer, IsMeetAnswer}
 use Rattle.mud_hall.specs.Told.{world_after}
 use Rattle.mud_hall.specs.Desk.{DeskState, new_desk, as_player, as_accepted, HandsOut, with_told}
-use Rattle.mud_hall.specs.Inner.{took_in}
+use Rattle.mud_hall.specs.inner.Desks.{took_in}
 use Rattle.mud_hall.specs.Replies.{Accepted, Became, verdict_on, Comes, Acts}
 use Rattle.mud_hall.specs.Answers.{answered, Shows, Answers}
 use Rattle.mud_hall.specs.Steps.{See, Act, Ask, Told, Hall, opened, seats, Step, Desk, At, Makes, IsRun}
@@ -316,7 +316,8 @@ ann-comes : verdict_on [] None (parsed (codes "connect Ann")) ≡ verdict.Change
 unfolding digits words phrase_at counted parsed verb_named decision name_in names_in outcome refusal
 ann-comes = refl
 
-asks-meeting : verdict_on (ann ∷ []) (Some 1) (parsed (codes "meet #1, #2")) ≡ verdict.Ask (query.Journey (Meet (1 ∷ 2 ∷ [])))
+asks-meeting : verdict_on (ann ∷ []) (Some 1) (parsed (codes "meet #1, #2"))
+    ≡ verdict.Ask (query.Journey (Meet (1 ∷ 2 ∷ [])))
 unfolding digits words phrase_at counted parsed verb_named decision name_in names_in meeting refusal
 asks-meeting = refl
 

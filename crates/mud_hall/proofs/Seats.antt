@@ -7,19 +7,19 @@ use Rattle.mud_world.specs.State.{State, is_player}
 use Rattle.mud_world.specs.Sound.{IsSound}
 use Rattle.mud_world.specs.Legal.{refusal}
 use Rattle.mud_world.specs.History.{world_from, world_of}
-use Rattle.mud_world.specs.Inner.{stepped}
+use Rattle.mud_world.specs.inner.Parts.{stepped}
 use Rattle.mud_world.specs.Opening.{opening_state}
 use Rattle.mud_world.specs.declared.change.Change.{Change}
 use Rattle.mud_world.specs.declared.refusal.Refusal.{Refusal}
 use Rattle.mud_world.proofs.Begun.{opening-sound}
 use Rattle.mud_world.proofs.Sounding.{soundness_law}
 use Rattle.mud_world.proofs.Players.{players_stay}
-use Rattle.mud_chron.specs.Entry.{Accepted}
+use Rattle.mud_chron.specs.Entry.{Entry}
 use Rattle.mud_chron.specs.Replay.{changes_of}
 use Rattle.mud_hall.specs.Told.{world_after}
 use Rattle.mud_row.specs.Known.{Standing}
 use Rattle.mud_hall.specs.Desk.{IsHeld}
-use Rattle.mud_hall.specs.Inner.{IsSeated}
+use Rattle.mud_hall.specs.inner.Desks.{IsSeated}
 
 step-sound : (w : State) (e : Change) (o : Option Refusal) → refusal w e ≡ o → IsSound w → IsSound (stepped w e)
 step-sound w e None is sound = rw is (soundness_law w e sound is)
@@ -30,7 +30,7 @@ from-sound w [] sound = sound
 from-sound w (e ∷ es) sound = from-sound (stepped w e) es (step-sound w e (refusal w e) refl sound)
 
 -- the world after a history is sound
-pub world-sound : (h : List Accepted) → IsSound (world_after h)
+pub world-sound : (h : List Entry) → IsSound (world_after h)
 world-sound h = from-sound opening_state (changes_of h) opening-sound
 
 step-stays : (w : State) (e : Change) (p : ℕ) (o : Option Refusal) → refusal w e ≡ o → IsSound w
@@ -48,16 +48,16 @@ from-append : (w : State) (cs ds : List Change) → world_from w (cs ++ ds) ≡ 
 from-append w [] ds = refl
 from-append w (c ∷ cs) ds = from-append (stepped w c) cs ds
 
-pub after-append : (h es : List Accepted) → world_after (h ++ es) ≡ world_from (world_after h) (changes_of es)
-after-append h es = ap world_of (map-append (λ (e : Accepted). e.change) h es)
+pub after-append : (h es : List Entry) → world_after (h ++ es) ≡ world_from (world_after h) (changes_of es)
+after-append h es = ap world_of (map-append (λ (e : Entry). e.change) h es)
     ∙ from-append opening_state (changes_of h) (changes_of es)
 
 -- who is a player after a history is one after each that goes on from it
-pub seated-on : (h g : List Accepted) (player : Option ℕ) → IsPrefix h g → IsSeated (world_after h) player
+pub seated-on : (h g : List Entry) (player : Option ℕ) → IsPrefix h g → IsSeated (world_after h) player
     → IsSeated (world_after g) player
 seated-on h g None more is = tt
 seated-on h g (Some p) more is =
-    let P : List Accepted → Type 0 = λ l. IsTrue (is_player (world_after l) p) in
+    let P : List Entry → Type 0 = λ l. IsTrue (is_player (world_after l) p) in
     let Q : State → Type 0 = λ w. IsTrue (is_player w p) in
     subst P more.1 (subst Q (sym (after-append h more.0)) (from-stays (world_after h) (changes_of more.0) p
     (world-sound h) is))
@@ -66,7 +66,7 @@ pub prefix_trans : {X : Type 0} (xs ys zs : List X) → IsPrefix xs ys → IsPre
 prefix_trans xs ys zs a b = (a.0 ++ b.0, sym (append_assoc xs a.0 b.0) ∙ (ap (λ w. w ++ b.0) a.1 ∙ b.1))
 
 -- a desk whose replica comes to know more is one of its hall still
-pub held-on : (cells : List ℕ) (loaded : List Accepted) (number : ℕ) (player : Option ℕ) (was new : Standing)
+pub held-on : (cells : List ℕ) (loaded : List Entry) (number : ℕ) (player : Option ℕ) (was new : Standing)
     → IsHeld cells loaded number player was → IsPrefix was.list new.list → new.row ≡ was.row
     → IsHeld cells loaded number player new
 held-on cells loaded number player was new held more row = record {

@@ -6,7 +6,7 @@ use Rattle.mud_rules.specs.declared.verdict.Query.{Query}
 use Rattle.mud_rules.specs.declared.verdict.Query.TheVariants as query
 use Rattle.mud_rules.specs.declared.verdict.Verdict.TheVariants.{Ask}
 use Rattle.mud_guide.specs.declared.answer.Answer.{Answer}
-use Rattle.mud_hall.specs.Inner.{IsResponse}
+use Rattle.mud_hall.specs.inner.Desks.{IsResponse}
 use Rattle.mud_hall.specs.Answers.{answered, IsGuided, IsProven, IsShown}
 
 pub guided : (w : State) (v : ℕ) (player : Option ℕ) (q : Query) (j : Journey) (a : Answer) → q ≡ query.Journey j

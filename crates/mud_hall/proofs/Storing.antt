@@ -14,18 +14,18 @@ use Rattle.mud_world.specs.declared.change.Deed.TheVariants.{Cost, Player, Renam
 use Rattle.mud_world.proofs.Histories.{world_of-legal}
 use Rattle.mud_world.proofs.Players.{players_stay, new_players_are_players}
 use Rattle.mud_rules.specs.Outcome.{IsActor}
-use Rattle.mud_chron.specs.Entry.{Accepted}
+use Rattle.mud_chron.specs.Entry.{Entry}
 use Rattle.mud_chron.specs.Replay.{changes_of}
 use Rattle.std.proofs.lemmas.List.{map_push}
 use Rattle.mud_chron.specs.Replay.{world_at}
 use Rattle.mud_row.specs.Known.{Standing}
 use Rattle.mud_hall.specs.Told.{world_after}
-use Rattle.mud_hall.specs.Inner.{IsSeated}
+use Rattle.mud_hall.specs.inner.Desks.{IsSeated}
 use Rattle.mud_hall.specs.Desk.{IsHeld}
 use Rattle.mud_hall.proofs.Seats.{world-sound}
 
 -- a replica that has taken all in stands in the world of all
-pub all_in : (list : List Accepted) (at : ℕ) → at ≡ length list → world_at list at ≡ world_after list
+pub all_in : (list : List Entry) (at : ℕ) → at ≡ length list → world_at list at ≡ world_after list
 all_in list at is = ap (λ n. world_after (take n list)) is ∙ ap world_after (take-length list)
 
 -- ---- who sits there then
@@ -40,7 +40,7 @@ actor-seated w player e is = go (is_arrival e.deed) refl
     go false b = sym (is.old b) ∙ sym (ap (λ (x : Bool). if x then Some e.actor else player) b)
 
 -- and is a player of the world after it
-pub actor-plays : (w : State) (h : List Accepted) (player : Option ℕ) (e : Change) → w ≡ world_after h
+pub actor-plays : (w : State) (h : List Entry) (player : Option ℕ) (e : Change) → w ≡ world_after h
     → refusal w e ≡ None → IsActor w player e → IsSeated (world_after h) player → IsTrue (is_player (after w e) e.actor)
 actor-plays w h player e at legal is seated = go e.deed legal is.old is.new
   where
@@ -78,15 +78,15 @@ actor-plays w h player e at legal is seated = go e.deed legal is.old is.new
     go (Emote text) l old new = here (Emote text) l old refl
 
 -- the desk is one of its hall after its change
-pub held-stored : (cells : List ℕ) (loaded : List Accepted) (number : ℕ) (player : Option ℕ) (was new : Standing)
+pub held-stored : (cells : List ℕ) (loaded : List Entry) (number : ℕ) (player : Option ℕ) (was new : Standing)
     (e : Change) → IsHeld cells loaded number player was → new.list
     ≡ was.list ++ record { desk = number; change = e } ∷ [] → new.row ≡ was.row
     → refusal (world_after was.list) e ≡ None → IsActor (world_after was.list) player e
     → IsHeld cells loaded number (Some e.actor) new
 held-stored cells loaded number player was new e held list row legal is =
-    let entry : Accepted = record { desk = number; change = e } in
+    let entry : Entry = record { desk = number; change = e } in
     let world : world_after new.list ≡ after (world_after was.list) e =
-    ap world_after list ∙ (ap world_of (map_push (λ (x : Accepted). x.change) was.list entry)
+    ap world_after list ∙ (ap world_of (map_push (λ (x : Entry). x.change) was.list entry)
     ∙ world_of-legal (changes_of was.list) e legal) in
     let Q : State → Type 0 = λ v. IsTrue (is_player v e.actor) in
     record {

@@ -1,7 +1,7 @@
 -- A desk that nobody else uses.
 use Rattle.std.specs.Prelude.{◌≡◌, ◌≤◌, ℕ, List, length, IsTrue}
 use Rattle.mud_world.specs.State.{State, is_player}
-use Rattle.mud_chron.specs.Entry.{Accepted}
+use Rattle.mud_chron.specs.Entry.{Entry}
 use Rattle.mud_hall.specs.Told.{world_after}
 use Rattle.mud_hall.specs.Desk.{DeskState, new_desk, as_player}
 use Rattle.mud_hall.specs.Settling.{versions_by}
@@ -12,12 +12,12 @@ pub record Alone : Type 0 where
   pub state : DeskState
 
 -- desk 1, whose calls are all the entries, and who is told nothing
-abbrev pub alone : ℕ → ℕ → List Accepted → Alone
+abbrev pub alone : ℕ → ℕ → List Entry → Alone
 alone capacity player h =
     record { capacity = capacity; state = record (as_player (new_desk 1 h) player) { calls = versions_by 1 1 h } }
 
 -- what is true of every such desk. A reader need not look into this: contracts only hand it on
-pub record IsAlone (capacity player : ℕ) (w : State) (h : List Accepted) : Type 0 where
+pub record IsAlone (capacity player : ℕ) (w : State) (h : List Entry) : Type 0 where
   pub world : w ≡ world_after h
   pub room : length h ≤ capacity
   pub few : capacity ≤ 65536

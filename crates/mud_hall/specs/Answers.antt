@@ -12,7 +12,7 @@ use Rattle.mud_rules.specs.declared.verdict.Verdict.{Verdict}
 use Rattle.mud_rules.specs.declared.verdict.Verdict.TheVariants as verdict
 use Rattle.mud_rules.specs.Replies.{refusal_text}
 use Rattle.mud_rules.specs.Answers.{show_text}
-use Rattle.mud_chron.specs.Entry.{Accepted}
+use Rattle.mud_chron.specs.Entry.{Entry}
 use Rattle.mud_chron.specs.Text.{history_text}
 use Rattle.mud_cert.specs.Certificate.{Certificate}
 use Rattle.mud_cert.specs.Text.{cert_text}
@@ -49,7 +49,7 @@ abbrev pub IsProven : State → ℕ → Option ℕ → Journey → Answer → Ty
 IsProven w v player journey a = (g : Answer) × IsGuided w v player journey g × IsProof g.cert (answered a)
 
 -- the answer to a question; the last line of a history has no end either
-abbrev pub IsShown : List Accepted → Option ℕ → Query → Answered → Type 0
+abbrev pub IsShown : List Entry → Option ℕ → Query → Answered → Type 0
 IsShown h player (query.View view) a = (a.text ≡ show_text (world_after h) player view) × (a.cert ≡ None)
 IsShown h player (query.Journey journey) a =
     (g : Answer) × IsGuided (world_after h) (length h) player journey g × (a ≡ answered g)
@@ -59,7 +59,7 @@ IsShown h player query.History a =
     (a.text ++ codes "\n" ≡ codes "history\n" ++ history_text Two h) × (a.cert ≡ None)
 
 -- the answer to a line by what it is decided to be: what asks nothing is not understood
-abbrev pub Shows : List Accepted → Option ℕ → Verdict → Answered → Type 0
+abbrev pub Shows : List Entry → Option ℕ → Verdict → Answered → Type 0
 Shows h player (verdict.Ask q) a = IsShown h player q a
 Shows h player (verdict.Refused f) a = (a.text ≡ refusal_text f) × (a.cert ≡ None)
 Shows h player other a = (a.text ≡ refusal_text NotUnderstood) × (a.cert ≡ None)

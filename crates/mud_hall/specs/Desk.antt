@@ -5,7 +5,7 @@ use mathlib.Core.List.{IsPrefix}
 use Rattle.mud_world.specs.State.{is_player}
 use Rattle.mud_world.specs.Legal.{is_arrival}
 use Rattle.mud_world.specs.declared.change.Change.{Change}
-use Rattle.mud_chron.specs.Entry.{Accepted}
+use Rattle.mud_chron.specs.Entry.{Entry}
 use Rattle.mud_row.specs.Known.{Known, Standing}
 use Rattle.mud_hall.specs.Told.{world_after, notices}
 
@@ -13,12 +13,12 @@ use Rattle.mud_hall.specs.Told.{world_after, notices}
 pub record DeskState : Type 0 where
   pub number : ℕ
   pub player : Option ℕ
-  pub seen : List Accepted
+  pub seen : List Entry
   pub calls : List ℕ
   pub told : List (List ℕ)
 
 -- a guest's desk of this number, which has seen these entries
-abbrev pub new_desk : ℕ → List Accepted → DeskState
+abbrev pub new_desk : ℕ → List Entry → DeskState
 new_desk number seen = record { number = number; player = None; seen = seen; calls = []; told = [] }
 
 -- a guest's desk again
@@ -42,7 +42,7 @@ with_told s told = record s { told = told }
 
 -- some entries were taken in, of which it hears, and nothing else changed
 pub record TakesIn (old new : DeskState) : Type 0 where
-  pub entries : List Accepted
+  pub entries : List Entry
   pub is : new ≡ record old { seen = old.seen ++ entries; told = old.told ++ notices old.player old.seen entries }
 
 -- it took in what another desk has seen, where that is more
@@ -56,7 +56,7 @@ pub record HandsOut (old : DeskState) (lines : List (List ℕ)) (new : DeskState
   pub is : new ≡ with_told old new.told
 
 -- a new guest's desk, which has seen at least what was loaded
-pub record IsNew (loaded : List Accepted) (new : DeskState) : Type 0 where
+pub record IsNew (loaded : List Entry) (new : DeskState) : Type 0 where
   pub from : 1 ≤ new.number
   pub to : new.number ≤ 64
   pub begun : IsPrefix loaded new.seen
@@ -74,7 +74,7 @@ abbrev pub untold : View → List (List ℕ)
 untold v = notices v.state.player (take v.at v.state.seen) (drop v.at v.state.seen)
 
 -- what is true of every desk of this hall. A reader need not look into this: contracts only hand it on
-pub record IsHeld (cells : List ℕ) (loaded : List Accepted) (number : ℕ) (player : Option ℕ) (r : Standing)
+pub record IsHeld (cells : List ℕ) (loaded : List Entry) (number : ℕ) (player : Option ℕ) (r : Standing)
     : Type 0 where
   pub row : r.row ≡ cells
   pub begun : IsPrefix loaded r.list
@@ -83,7 +83,7 @@ pub record IsHeld (cells : List ℕ) (loaded : List Accepted) (number : ℕ) (pl
   pub seated : IfSome player (λ p. IsTrue (is_player (world_after r.list) p))
 
 -- what is true of what lies under its lock. A reader need not look into this: contracts only hand it on
-pub record IsKept (cells : List ℕ) (loaded : List Accepted) (given : ℕ) (start : Known) : Type 0 where
+pub record IsKept (cells : List ℕ) (loaded : List Entry) (given : ℕ) (start : Known) : Type 0 where
   pub few : given ≤ 64
   pub row : start.row ≡ cells
   pub list : start.list ≡ loaded

@@ -9,7 +9,7 @@ use Rattle.mud_roads.specs.Laws.{IsWalked}
 use Rattle.mud_rules.specs.declared.verdict.Query.TheVariants as query
 use Rattle.mud_rules.specs.declared.verdict.Verdict.{Verdict}
 use Rattle.mud_rules.specs.declared.verdict.Verdict.TheVariants as verdict
-use Rattle.mud_chron.specs.Entry.{Accepted as Entry}
+use Rattle.mud_chron.specs.Entry.{Entry}
 use Rattle.mud_hall.specs.Told.{world_after}
 use Rattle.mud_hall.specs.Answers.{Answered}
 use Rattle.mud_hall.specs.Steps.{Hall, AreLoadable, Begins, Step, IsRun}

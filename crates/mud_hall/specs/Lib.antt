@@ -5,8 +5,7 @@ pub mod Answers
 pub mod Opening
 pub mod Alone
 pub mod Settling
-pub mod Checking
 pub mod Steps
 pub mod Right
 pub mod Laws
-pub mod Inner
+pub mod inner

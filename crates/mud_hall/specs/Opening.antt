@@ -1,6 +1,6 @@
 -- What a hall begins with.
 use Rattle.std.specs.Prelude.{ℕ, ◌<◌, ◌≤◌, List, length}
-use Rattle.mud_chron.specs.Entry.{Accepted}
+use Rattle.mud_chron.specs.Entry.{Entry}
 use Rattle.mud_chron.specs.Replay.{changes_of, AreLegal, IsFirstIllegal}
 use Rattle.mud_hall.specs.declared.fault.LoadFault.{LoadFault}
 use Rattle.mud_hall.specs.declared.fault.LoadFault.TheVariants.{OutOfMemory, BadChange, OverCapacity, NotStored}
@@ -8,10 +8,10 @@ use Rattle.mud_hall.specs.declared.fault.LoadFault.TheVariants.{OutOfMemory, Bad
 -- the names of the cells of the history, and the entries that are there at first
 pub record Begun : Type 0 where
   pub cells : List ℕ
-  pub loaded : List Accepted
+  pub loaded : List Entry
 
 -- why a hall whose history can have `capacity` entries does not go on from these
-abbrev pub IsLoadFault : ℕ → List Accepted → LoadFault → Type 0
+abbrev pub IsLoadFault : ℕ → List Entry → LoadFault → Type 0
 IsLoadFault capacity entries OutOfMemory = Unit {0}
 IsLoadFault capacity entries (BadChange n) = IsFirstIllegal (changes_of entries) n
 IsLoadFault capacity entries OverCapacity = AreLegal (changes_of entries) × (capacity < length entries)

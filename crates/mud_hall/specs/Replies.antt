@@ -7,7 +7,7 @@ use Rattle.mud_rules.specs.declared.verdict.Verdict.{Verdict}
 use Rattle.mud_rules.specs.declared.verdict.Verdict.TheVariants as verdict
 use Rattle.mud_rules.specs.Table.{decision}
 use Rattle.mud_rules.specs.Replies.{reply_text, refusal_text, welcome_text}
-use Rattle.mud_chron.specs.Entry.{Accepted as Entry}
+use Rattle.mud_chron.specs.Entry.{Entry}
 use Rattle.mud_hall.specs.declared.reply.Reply.{Reply as Returned}
 use Rattle.mud_hall.specs.declared.reply.Reply.TheVariants as returned
 use Rattle.mud_hall.specs.declared.fault.Fault.{Fault}

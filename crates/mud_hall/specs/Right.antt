@@ -9,7 +9,7 @@ use Rattle.mud_roads.specs.Walks.{Walk, NoWalk, HasLeast, exits_of}
 use Rattle.mud_roads.specs.Open.{roads_of}
 use Rattle.mud_rules.specs.declared.verdict.Journey.{Journey as Question}
 use Rattle.mud_rules.specs.declared.verdict.Journey.TheVariants as question
-use Rattle.mud_chron.specs.Entry.{Accepted as Entry}
+use Rattle.mud_chron.specs.Entry.{Entry}
 use Rattle.mud_chron.specs.Text.{history_text}
 use Rattle.mud_chron.specs.History.{SpellsHistory}
 use Rattle.mud_cert.specs.Certificate.{Account, Certificate}

@@ -3,18 +3,18 @@ use Rattle.std.specs.Prelude.{◌≡◌, ◌≢◌, ℕ, ◌+◌, ◌<◌, ◌�
 use Rattle.std.specs.Prelude.{List, [], ◌∷◌, ◌++◌, length, drop, slice_get, All, Any}
 use Rattle.std.specs.List.{AllPairs}
 use mathlib.Core.List.{IsPrefix}
-use Rattle.mud_chron.specs.Entry.{Accepted}
+use Rattle.mud_chron.specs.Entry.{Entry}
 use Rattle.mud_hall.specs.declared.fault.CloseFault.{CloseFault}
 use Rattle.mud_hall.specs.declared.fault.CloseFault.TheVariants.{OutOfMemory, SameNumber, Missing, Mismatch}
 use Rattle.mud_hall.specs.Desk.{View}
 
 -- the versions, from v on, of the entries that bear the number n
-abbrev pub versions_by : ℕ → ℕ → List Accepted → List ℕ
+abbrev pub versions_by : ℕ → ℕ → List Entry → List ℕ
 versions_by n v [] = []
 versions_by n v (e ∷ es) = (if e.desk == n then v ∷ [] else []) ++ versions_by n (v + 1) es
 
 -- the entries of a history after those that were loaded
-abbrev pub made : List Accepted → List Accepted → List Accepted
+abbrev pub made : List Entry → List Entry → List Entry
 made loaded history = drop (length loaded) history
 
 -- some desk has the number
@@ -26,13 +26,13 @@ abbrev pub AreApart : List View → Type 0
 AreApart desks = AllPairs (λ c d. c.state.number ≢ d.state.number) desks
 
 -- the longest of what was loaded and of what each desk knows: each of them is a beginning of it
-pub record IsGathered (loaded : List Accepted) (desks : List View) (history : List Accepted) : Type 0 where
+pub record IsGathered (loaded : List Entry) (desks : List View) (history : List Entry) : Type 0 where
   pub begun : IsPrefix loaded history
   pub known : All (λ d. IsPrefix d.state.seen history) desks
   pub some : (history ≡ loaded) ⊎ Any (λ d. history ≡ d.state.seen) desks
 
 -- the history that these desks made: after what was loaded it is the calls of the desks, each once and in their order
-pub record IsSettled (loaded : List Accepted) (desks : List View) (history : List Accepted) : Type 0 where
+pub record IsSettled (loaded : List Entry) (desks : List View) (history : List Entry) : Type 0 where
   pub gathered : IsGathered loaded desks history
   pub calls : All (λ d. d.state.calls ≡ versions_by d.state.number (length loaded + 1) (made loaded history)) desks
   pub apart : AreApart desks
@@ -65,20 +65,20 @@ first_apart (v ∷ vs) [] = Some v
 first_apart (v ∷ vs) (w ∷ ws) = if v == w then first_apart vs ws else Some (if nat_lt v w then v else w)
 
 -- of the entries from version `first` on that of v is not as the calls of some desk say, or bears the number of no desk
-abbrev pub IsAtOdds : List View → ℕ → List Accepted → ℕ → Type 0
+abbrev pub IsAtOdds : List View → ℕ → List Entry → ℕ → Type 0
 IsAtOdds desks first entries v =
     Any (λ d. first_apart d.state.calls (versions_by d.state.number first entries) ≡ Some v) desks
-    ⊎ ((i : ℕ) × (e : Accepted) × (v ≡ first + i) × (slice_get entries i ≡ Some e) × (HasNumber desks e.desk → ⊥))
+    ⊎ ((i : ℕ) × (e : Entry) × (v ≡ first + i) × (slice_get entries i ≡ Some e) × (HasNumber desks e.desk → ⊥))
 
 -- the least version at odds, in the history that the desks and what was loaded tell
-pub record IsMismatch (loaded : List Accepted) (desks : List View) (v : ℕ) : Type 0 where
-  pub history : List Accepted
+pub record IsMismatch (loaded : List Entry) (desks : List View) (v : ℕ) : Type 0 where
+  pub history : List Entry
   pub gathered : IsGathered loaded desks history
   pub odds : IsAtOdds desks (length loaded + 1) (made loaded history) v
   pub least : (u : ℕ) → IsAtOdds desks (length loaded + 1) (made loaded history) u → v ≤ u
 
 -- when each fault of a settlement comes; two desks of one number are told of first
-abbrev pub IsCloseFault : List Accepted → List View → CloseFault → Type 0
+abbrev pub IsCloseFault : List Entry → List View → CloseFault → Type 0
 IsCloseFault loaded desks OutOfMemory = Unit {0}
 IsCloseFault loaded desks (SameNumber n) = HaveSameNumber desks n × ((m : ℕ) → HaveSameNumber desks m → n ≤ m)
 IsCloseFault loaded desks (Missing n) = AreApart desks × IsMissing desks n

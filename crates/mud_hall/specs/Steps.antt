@@ -4,7 +4,7 @@ use Rattle.std.specs.Prelude.{List, [], ◌∷◌, ◌++◌, length, Option, Som
 use Rattle.std.specs.List.{AllByRecursion}
 use mathlib.Core.List.{IsPrefix}
 use Rattle.mud_words.specs.Parse.{parsed}
-use Rattle.mud_chron.specs.Entry.{Accepted as Entry, IsEntry}
+use Rattle.mud_chron.specs.Entry.{Entry, IsEntry}
 use Rattle.mud_chron.specs.Replay.{changes_of, AreLegal}
 use Rattle.mud_hall.specs.Desk.{DeskState, new_desk, as_guest, as_player, TakesIn, Learns, HandsOut, IsNew}
 use Rattle.mud_hall.specs.Replies.{Reply, Accepted, Acts}

@@ -9,7 +9,7 @@ ghost use Rattle.mud_rules.specs.Replies.{refusal_text};
 ghost use Rattle.mud_rules.specs.Answers.{show_text};
 ghost use Rattle.mud_rules.specs.Table.{decision};
 ghost use Rattle.mud_hall.specs.Answers.{IsGuided, IsProven, CanAsk};
-ghost use Rattle.mud_hall.specs.Inner.{IsResponse};
+ghost use Rattle.mud_hall.specs.inner.Desks.{IsResponse};
 
 use crate::guide::Guide;
 use crate::texts::proof_answer;

@@ -3,7 +3,7 @@
 ghost use Rattle.std.specs.Prelude.{◌≡◌, ◌++◌, length, codes, string_bytes, None, IfOk, OnOk, IfSome, IsTrue};
 ghost use Rattle.mud_words.specs.Line.{line_of};
 ghost use Rattle.mud_rules.specs.Outcome.{IsLawful};
-ghost use Rattle.mud_chron.specs.Inner.{written_text};
+ghost use Rattle.mud_chron.specs.inner.Texts.{written_text};
 ghost use Rattle.mud_hall.specs.Told.{world_after};
 ghost use Rattle.mud_hall.specs.Replies.{verdict_on};
 ghost use Rattle.mud_hall.specs.Answers.{answered, Answers};

@@ -4,7 +4,7 @@ ghost use Rattle.std.specs.Prelude.{◌≡◌, ◌≤◌, ◌+◌, ◌↔◌, �
 ghost use mathlib.Core.List.{IsPrefix};
 ghost use Rattle.mud_hall.specs.Settling.{IsGathered, IsSettled, IsCloseFault, IsAtOdds, IsMissing};
 ghost use Rattle.mud_hall.specs.Settling.{HasNumber, AreApart, HaveSameNumber, versions_by, made, first_apart};
-ghost use Rattle.mud_hall.specs.Checking.{lesser_of, IsLeast, Differs, IsUnnamed, IsCheckFault};
+ghost use Rattle.mud_hall.specs.inner.Checking.{lesser_of, IsLeast, Differs, IsUnnamed, IsCheckFault};
 
 use crate::desk::Desk;
 use crate::entries::Made;

@@ -5,7 +5,7 @@ ghost use Rattle.std.specs.Prelude.{map, Some, None, IfOk, IfErr, OnErr, OnOk, M
 ghost use Rattle.std.specs.Option.{option_to_list};
 ghost use mathlib.Core.List.{IsPrefix};
 ghost use Rattle.mud_hall.specs.Told.{notice_text};
-ghost use Rattle.mud_hall.specs.Inner.{notice_in};
+ghost use Rattle.mud_hall.specs.inner.Desks.{notice_in};
 ghost use Rattle.mud_hall.specs.Desk.{View, DeskState, TakesIn, Learns, IsNew, as_guest, untold, with_told};
 
 use crate::name::HallName;

@@ -1,7 +1,7 @@
 //! The entries of a hall, as they stand in its row.
 
 ghost use Rattle.std.specs.Prelude.{◌≡◌, ◌≤◌, ◌<◌, length, drop, Some, slice_get};
-ghost use Rattle.mud_chron.specs.Entry.{Accepted};
+ghost use Rattle.mud_chron.specs.Entry.{Entry};
 
 use mud_row::{Pass, Row};
 use std::marker::Model;
@@ -17,9 +17,9 @@ pub(crate) struct Made<'r> {
 
 impl<'r> Model for Made<'r> {
     ghost use Rattle.std.specs.Prelude.{◌≡◌, ◌≤◌, List, drop, length};
-    ghost use Rattle.mud_chron.specs.Entry.{Accepted};
+    ghost use Rattle.mud_chron.specs.Entry.{Entry};
 
-    ghost Value = { List Accepted };
+    ghost Value = { List Entry };
 
     ghost use Rattle.mud_key.specs.TreeCode.{coded_number_tree};
     ghost use Rattle.std.specs.Coded.{codes};
@@ -53,7 +53,7 @@ impl<'r> Made<'r> {
     pub(crate) fn desk(&mut self, i: u32) -> u32
         requires { i < length self.old }
         ensures same { self.new ≡ self.old }
-        ensures desk { (e : Accepted) × (slice_get self.old i ≡ Some e) × (result ≡ e.desk) }
+        ensures desk { (e : Entry) × (slice_get self.old i ≡ Some e) × (result ≡ e.desk) }
     {
         // for the prover: `known` says that they are at most 65,536, so that the sum below fits
         let _ = self.pass.known();

@@ -2,7 +2,7 @@
 
 ghost use Rattle.mud_hall.specs.Laws.{HistoryGoesOn, WalksGo, IsRight};
 ghost use Rattle.mud_hall.specs.Steps.{At, Step, Begins, IsRun, Hall, Ask, Makes};
-ghost use Rattle.mud_chron.specs.Entry.{Accepted as Entry};
+ghost use Rattle.mud_chron.specs.Entry.{Entry};
 ghost use Rattle.mud_words.specs.Parse.{parsed};
 ghost use Rattle.std.specs.Prelude.{List, ℕ, Some, ◌≡◌};
 ghost use mathlib.Core.List.{IsPrefix};

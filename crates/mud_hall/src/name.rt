@@ -10,11 +10,11 @@ use std::marker::Brand;
 /// where it calls the one that goes on with it.
 pub trait HallName {
     ghost use Rattle.std.specs.Prelude.{List, ℕ};
-    ghost use Rattle.mud_chron.specs.Entry.{Accepted};
+    ghost use Rattle.mud_chron.specs.Entry.{Entry};
 
     ghost cells: { List ℕ };
 
-    ghost loaded: { List Accepted };
+    ghost loaded: { List Entry };
 }
 
 impl HallName for Brand {

@@ -24,9 +24,9 @@ pub struct Reader<J: HallName> {
 
 impl<J: HallName> Model for Reader<J> {
     ghost use Rattle.std.specs.Prelude.{◌≡◌, List};
-    ghost use Rattle.mud_chron.specs.Entry.{Accepted};
+    ghost use Rattle.mud_chron.specs.Entry.{Entry};
 
-    ghost Value = { List Accepted };
+    ghost Value = { List Entry };
 
     ghost use Rattle.mud_key.specs.TreeCode.{coded_number_tree};
     ghost use Rattle.std.specs.Coded.{codes};

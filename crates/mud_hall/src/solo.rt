@@ -4,7 +4,7 @@ ghost use Rattle.std.specs.Prelude.{◌≡◌, ◌≢◌, ◌≤◌, ◌++◌, [
 ghost use Rattle.std.specs.Prelude.{Some, None, IfOk, IfErr, IsTrue};
 ghost use Rattle.std.specs.Thread.{IsSync};
 ghost use Rattle.mud_world.specs.State.{is_player};
-ghost use Rattle.mud_chron.specs.Inner.{written_text};
+ghost use Rattle.mud_chron.specs.inner.Texts.{written_text};
 ghost use Rattle.mud_words.specs.Line.{line_of};
 ghost use Rattle.mud_words.specs.Parse.{parsed};
 ghost use Rattle.mud_rules.specs.Outcome.{IsJourney, IsLawful};

@@ -1,7 +1,7 @@
 //! Answers that are texts of lines: a history's, and a certificate's.
 
 ghost use Rattle.std.specs.Prelude.{◌≡◌, ◌≤◌, ◌++◌, [], ◌∷◌, List, ℕ, IfOk, codes, length, string_bytes};
-ghost use Rattle.mud_chron.specs.Inner.{written_text};
+ghost use Rattle.mud_chron.specs.inner.Texts.{written_text};
 ghost use Rattle.mud_cert.specs.Text.{cert_text};
 
 use mud_cert::Cert;

@@ -6,7 +6,7 @@ use Rattle.std.specs.Prelude.{Any}
 use Rattle.std.proofs.Math.Seq.{take-length}
 use Rattle.std.proofs.lemmas.List.{append-nil, length-append, take-append-drop}
 use mathlib.Core.List.{IsPrefix}
-use Rattle.mud_chron.specs.Entry.{Accepted}
+use Rattle.mud_chron.specs.Entry.{Entry}
 use Rattle.mud_chron.specs.declared.format.Format.TheVariants.{Two}
 use Rattle.mud_chron.specs.Text.{journal_text}
 use Rattle.mud_hall.specs.Desk.{View}
@@ -16,12 +16,12 @@ use Rattle.mud_journal.proofs.Disks.{unchanged}
 use Rattle.mud_house.specs.Journaled.{IsWritten}
 
 -- all is synced
-front_of_all : (kept : Option Kept) (es : List Accepted) → Holds kept es → HoldsFront kept es es
+front_of_all : (kept : Option Kept) (es : List Entry) → Holds kept es → HoldsFront kept es es
 front_of_all None es h = tt
 front_of_all (Some k) es h =
     (length (journal_text Two es), omega arith, h.0 ∙ sym (take-length (journal_text Two es)), h.1)
 
-pub all_written : (kept : Option Kept) (es : List Accepted) (has_failed : Bool) (count : ℕ) → Holds kept es
+pub all_written : (kept : Option Kept) (es : List Entry) (has_failed : Bool) (count : ℕ) → Holds kept es
     → count ≡ length es → IsWritten es kept has_failed count
 all_written kept es has_failed count h n = record {
   synced = es;
@@ -32,7 +32,7 @@ all_written kept es has_failed count h n = record {
   counted = λ e. n;
 }
 
-pub part_written : (old new : Option Kept) (es all added : List Accepted) (count now : ℕ) (failed : Bool)
+pub part_written : (old new : Option Kept) (es all added : List Entry) (count now : ℕ) (failed : Bool)
     → Holds old es → count ≡ length es → AddsInPart old new count added → all ≡ es ++ added → failed ≡ true
     → IsWritten all new failed now
 part_written old new es all added count now failed h n part is fault = record {
@@ -45,7 +45,7 @@ part_written old new es all added count now failed h n part is fault = record {
 }
 
 -- what a commit leaves, whether it took the entries or not
-pub committed : {R F : Type 0} (U : R → Type 0) (r : Result R F) (old new : Option Kept) (es all added : List Accepted)
+pub committed : {R F : Type 0} (U : R → Type 0) (r : Result R F) (old new : Option Kept) (es all added : List Entry)
     (count now : ℕ) (failed : Bool) → Holds old es → count ≡ length es → all ≡ es ++ added
     → OnOk r (Adds old new count added) → IfOk r (λ x. (now ≡ count + length added) × U x) → OnOk r (failed ≡ false)
     → OnErr r (AddsInPart old new count added) → OnErr r (failed ≡ true) → IsWritten all new failed now
@@ -56,7 +56,7 @@ committed U (Err x) old new es all added count now failed h n is adds more going
     part_written old new es all added count now failed h n part is fault
 
 -- entries that were read and not written
-pub unwritten : (kept : Option Kept) (es all : List Accepted) (now : ℕ) (failed : Bool) → Holds kept es
+pub unwritten : (kept : Option Kept) (es all : List Entry) (now : ℕ) (failed : Bool) → Holds kept es
     → IsPrefix es all → failed ≡ true → IsWritten all kept failed now
 unwritten kept es all now failed h (more, is) fault =
     part_written kept kept es all more (length es) now failed h refl (unchanged kept (length es) more) (sym is) fault
@@ -73,24 +73,24 @@ same_length {A = A} xs ys (zs, is) long = go zs is
     go (z ∷ zs) is = absurd (omega (arith, long, ap length is, length-append xs (z ∷ zs)))
 
 -- what the desks make is a beginning of what gathers all that they know
-gathered_in : (loaded list history : List Accepted) (desks : List View) → IsPrefix loaded list
+gathered_in : (loaded list history : List Entry) (desks : List View) → IsPrefix loaded list
     → IsGathered list desks list → IsGathered loaded desks history → IsPrefix history list
 gathered_in loaded list history desks begun whole made = go made.some
   where
     go : (history ≡ loaded) ⊎ Any (λ d. history ≡ d.state.seen) desks → IsPrefix history list
-    go (inl same) = subst (λ (h : List Accepted). IsPrefix h list) (sym same) begun
+    go (inl same) = subst (λ (h : List Entry). IsPrefix h list) (sym same) begun
     go (inr (k, d, lt, at, same)) =
-        subst (λ (h : List Accepted). IsPrefix h list) (sym same)
+        subst (λ (h : List Entry). IsPrefix h list) (sym same)
         (subst (λ (x : View). IsPrefix x.state.seen list) at (whole.known k d lt))
 
-pub all_there : (loaded list history : List Accepted) (desks : List View) (kept : Option Kept) → IsPrefix loaded list
+pub all_there : (loaded list history : List Entry) (desks : List View) (kept : Option Kept) → IsPrefix loaded list
     → IsGathered list desks list → IsGathered loaded desks history → length history ≡ length list → Holds kept list
     → Holds kept history
 all_there loaded list history desks kept begun whole made long h =
     subst (Holds kept) (sym (same_length history list (gathered_in loaded list history desks begun whole made) long)) h
 
 -- the entries that were found, and copies of the others, are all that was loaded
-pub all_loaded : (kept : Option Kept) (n : ℕ) (loaded added begun : List Accepted)
+pub all_loaded : (kept : Option Kept) (n : ℕ) (loaded added begun : List Entry)
     → Holds kept (take n loaded ++ added) → added ≡ drop n loaded → begun ≡ loaded → Holds kept begun
 all_loaded kept n loaded added begun h rest is =
     subst (Holds kept) (ap (λ l. take n loaded ++ l) rest ∙ take-append-drop n loaded ∙ sym is) h

@@ -1,11 +1,12 @@
 -- The text of a history, written piece by piece.
-use Rattle.std.proofs.Common.{◌≡◌, ◌≤◌, ℕ, ◌+◌, List, [], ◌++◌, length, take, drop, Option, codes, refl, sym, ap, ◌∙◌, subst}
+use Rattle.std.proofs.Common.{◌≡◌, ◌≤◌, ℕ, ◌+◌, List, [], ◌++◌, length, take, drop, Option, codes, refl, sym, ap, ◌∙◌}
+use Rattle.std.proofs.Common.{subst}
 use Rattle.std.proofs.Common.{append_assoc}
 use Rattle.std.proofs.lemmas.List.{append-nil, drop_all, take_at, take-append-drop}
 use Rattle.std.proofs.KnownBytes.{Appends-nil, Appends-trans}
 use Rattle.std.specs.Io.KnownBytes.{Appends}
-use Rattle.mud_chron.specs.Entry.{Accepted}
-use Rattle.mud_chron.specs.Inner.{written_text}
+use Rattle.mud_chron.specs.Entry.{Entry}
+use Rattle.mud_chron.specs.inner.Texts.{written_text}
 use Rattle.mud_chron.specs.Text.{entries_text, end_line, line_feed}
 use Rattle.mud_row.specs.Known.{lines_after}
 
@@ -16,16 +17,16 @@ pub record IsOnWay (held now_held : Option (List ℕ)) (text piece rest : List �
   pub whole : done ++ (piece ++ rest) ≡ text
 
 -- what comes after the lines of the first n entries
-abbrev pub left : ℕ → List Accepted → List ℕ
+abbrev pub left : ℕ → List Entry → List ℕ
 left n h = lines_after n h ++ (end_line (length h) ++ line_feed)
 
-pub begun : (held : Option (List ℕ)) (h : List Accepted) (piece : List ℕ) → piece ≡ codes "mud history 2\n"
+pub begun : (held : Option (List ℕ)) (h : List Entry) (piece : List ℕ) → piece ≡ codes "mud history 2\n"
     → IsOnWay held held (written_text h) piece (left 0 h)
 begun held h piece is =
     record { done = []; written = Appends-nil held; whole = ap (λ (p : List ℕ). p ++ left 0 h) is }
 
 -- a line was added to the piece
-pub line_added : (held now_held : Option (List ℕ)) (h : List Accepted) (n : ℕ) (piece more : List ℕ)
+pub line_added : (held now_held : Option (List ℕ)) (h : List Entry) (n : ℕ) (piece more : List ℕ)
     → IsOnWay held now_held (written_text h) piece (left n h)
     → more ++ lines_after (n + 1) h ≡ piece ++ lines_after n h
     → IsOnWay held now_held (written_text h) more (left (n + 1) h)
@@ -41,13 +42,13 @@ line_added held now_held h n piece more way is =
     }
 
 -- the same of a history that is that one
-pub line_at : (held now_held : Option (List ℕ)) (same h : List Accepted) (n : ℕ) (piece more : List ℕ) → same ≡ h
+pub line_at : (held now_held : Option (List ℕ)) (same h : List Entry) (n : ℕ) (piece more : List ℕ) → same ≡ h
     → IsOnWay held now_held (written_text h) piece (left n h)
     → more ++ lines_after (n + 1) same ≡ piece ++ lines_after n same
     → IsOnWay held now_held (written_text h) more (left (n + 1) h)
 line_at held now_held same h n piece more is way line =
     line_added held now_held h n piece more way
-    (subst (λ (l : List Accepted). more ++ lines_after (n + 1) l ≡ piece ++ lines_after n l) is line)
+    (subst (λ (l : List Entry). more ++ lines_after (n + 1) l ≡ piece ++ lines_after n l) is line)
 
 -- the piece was written
 pub piece_written : (held mid now_held : Option (List ℕ)) (text piece empty rest : List ℕ)
@@ -60,7 +61,7 @@ piece_written held mid now_held text piece empty rest way one none = record {
 }
 
 -- all lines are there, and the last one was added to the piece
-pub end_added : (held now_held : Option (List ℕ)) (h : List Accepted) (n count : ℕ) (piece more : List ℕ)
+pub end_added : (held now_held : Option (List ℕ)) (h : List Entry) (n count : ℕ) (piece more : List ℕ)
     → IsOnWay held now_held (written_text h) piece (left n h) → length h ≤ n → count ≡ length h
     → more ≡ piece ++ end_line count ++ line_feed → IsOnWay held now_held (written_text h) more []
 end_added held now_held h n count piece more way past same is =

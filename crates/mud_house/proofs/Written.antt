@@ -9,8 +9,8 @@ use Rattle.std.proofs.KnownBytes.{Appends-nil, Appends-trans}
 use Rattle.std.proofs.lemmas.List.{take_all, length-map, get_or-map}
 use Rattle.std.proofs.lemmas.List.Elements.{All-weaker}
 use Rattle.mud_ends.specs.Ends.{Writer}
-use Rattle.mud_chron.specs.Entry.{Accepted}
-use Rattle.mud_chron.specs.Inner.{written_text}
+use Rattle.mud_chron.specs.Entry.{Entry}
+use Rattle.mud_chron.specs.inner.Texts.{written_text}
 use Rattle.mud_chron.specs.Text.{line_feed}
 use Rattle.mud_hall.specs.Desk.{View}
 use Rattle.mud_hall.specs.Settling.{HasNumber, IsSettled, made}
@@ -32,7 +32,7 @@ numbered desks n (k, d, within, is, number) = (
   get_or-map number_of desks k d n within ∙ ap number_of is ∙ number,
 )
 
-pub may_end : (limits : Limits) (loaded history : List Accepted) (desks : List View)
+pub may_end : (limits : Limits) (loaded history : List Entry) (desks : List View)
     → length desks ≤ limits.sessions → IsSettled loaded desks history → AreLoadable limits.capacity history
     → MayEnd limits loaded history
 may_end limits loaded history desks few settled loadable = record {
@@ -40,11 +40,11 @@ may_end limits loaded history desks few settled loadable = record {
   begun = settled.gathered.begun;
   desks = map number_of desks;
   few = subst (λ m. m ≤ limits.sessions) (sym (length-map desks number_of)) few;
-  of_desks = All-weaker (λ (e : Accepted). HasNumber desks e.desk)
+  of_desks = All-weaker (λ (e : Entry). HasNumber desks e.desk)
       (λ e. Contains (map number_of desks) e.desk) (λ e. numbered desks e.desk) (made loaded history) settled.named;
 }
 
-pub end_of : (limits : Limits) (loaded begun history : List Accepted) → begun ≡ loaded
+pub end_of : (limits : Limits) (loaded begun history : List Entry) → begun ≡ loaded
     → MayEnd limits begun history → MayEnd limits loaded history
 end_of limits loaded begun history is ends = subst (λ l. MayEnd limits l history) is ends
 
@@ -63,16 +63,16 @@ some_opening : (has_web : Bool) → Opening has_web
 some_opening true = opened true 0 (Some 0) refl
 some_opening false = opened false 0 None refl
 
-pub none_written : (limits : Limits) (has_web : Bool) (loaded : List Accepted) (held : Option (List ℕ))
+pub none_written : (limits : Limits) (has_web : Bool) (loaded : List Entry) (held : Option (List ℕ))
     → SettlesInPart limits has_web loaded held held
 none_written limits has_web loaded held = inl (some_opening has_web, 0, Appends-nil held)
 
-pub front_written : (limits : Limits) (has_web : Bool) (opening : Opening has_web) (n : ℕ) (loaded : List Accepted)
+pub front_written : (limits : Limits) (has_web : Bool) (opening : Opening has_web) (n : ℕ) (loaded : List Entry)
     (held now_held : Option (List ℕ))
     → Appends held now_held (take n (lines_of has_web opening)) → SettlesInPart limits has_web loaded held now_held
 front_written limits has_web opening n loaded held now_held written = inl (opening, n, written)
 
-pub line_written : (limits : Limits) (has_web : Bool) (opening : Opening has_web) (loaded : List Accepted)
+pub line_written : (limits : Limits) (has_web : Bool) (opening : Opening has_web) (loaded : List Entry)
     (held now_held : Option (List ℕ))
     → Appends held now_held (lines_of has_web opening) → SettlesInPart limits has_web loaded held now_held
 line_written limits has_web opening loaded held now_held written =
@@ -84,7 +84,7 @@ any_err (Ok x) p = tt
 any_err (Err e) p = p
 
 pub part_written : (limits : Limits) (has_web : Bool) (opening : Opening has_web) (n : ℕ)
-    (loaded history : List Accepted)
+    (loaded history : List Entry)
     (held mid now_held : Option (List ℕ)) → MayEnd limits loaded history → Appends held mid (lines_of has_web opening)
     → Appends mid now_held (take n (written_text history)) → SettlesInPart limits has_web loaded held now_held
 part_written limits has_web opening n loaded history held mid now_held ends one two = inr (
@@ -95,7 +95,7 @@ part_written limits has_web opening n loaded history held mid now_held ends one 
   Appends-trans held mid now_held (lines_of has_web opening) (take n (written_text history)) one two,
 )
 
-pub all_written : (limits : Limits) (has_web : Bool) (opening : Opening has_web) (loaded history : List Accepted)
+pub all_written : (limits : Limits) (has_web : Bool) (opening : Opening has_web) (loaded history : List Entry)
     (held mid now_held : Option (List ℕ))
     → MayEnd limits loaded history → Appends held mid (lines_of has_web opening)
     → Appends mid now_held (written_text history) → Settles limits has_web loaded held now_held
@@ -107,7 +107,7 @@ all_written limits has_web opening loaded history held mid now_held ends one two
 }
 
 -- all was written, and a disk holds its entries
-pub all_journaled : (limits : Limits) (has_web : Bool) (opening : Opening has_web) (loaded history : List Accepted)
+pub all_journaled : (limits : Limits) (has_web : Bool) (opening : Opening has_web) (loaded history : List Entry)
     (held mid now_held : Option (List ℕ)) (kept : Option Kept) → MayEnd limits loaded history
     → Appends held mid (lines_of has_web opening) → Appends mid now_held (written_text history) → Holds kept history
     → (s : Settles limits has_web loaded held now_held) × Holds kept s.history
@@ -122,7 +122,7 @@ all_journaled limits has_web opening loaded history held mid now_held kept ends 
 )
 
 -- a fault of a write is one of a server
-pub write_fault : (capacity : ℕ) (loaded : List Accepted) (old new : Writer) (fault : ListenFault)
+pub write_fault : (capacity : ℕ) (loaded : List Entry) (old new : Writer) (fault : ListenFault)
     → (fault ≡ OutOfMemory) ⊎ ((fault ≡ Write) × (new.has_failed ≡ true))
     → IsListenFault capacity loaded old new fault
 write_fault capacity loaded old new fault (inl is) = subst (IsListenFault capacity loaded old new) (sym is) tt
@@ -130,7 +130,7 @@ write_fault capacity loaded old new fault (inr (is, failed)) =
     subst (IsListenFault capacity loaded old new) (sym is) failed
 
 -- all was written, which is a part
-pub whole_written : (limits : Limits) (has_web : Bool) (opening : Opening has_web) (loaded history : List Accepted)
+pub whole_written : (limits : Limits) (has_web : Bool) (opening : Opening has_web) (loaded history : List Entry)
     (held mid now_held : Option (List ℕ)) → MayEnd limits loaded history → Appends held mid (lines_of has_web opening)
     → Appends mid now_held (written_text history) → SettlesInPart limits has_web loaded held now_held
 whole_written limits has_web opening loaded history held mid now_held ends one two =

@@ -5,7 +5,7 @@ use Rattle.std.specs.Fmt.{decimal}
 use Rattle.std.specs.Io.KnownBytes.{Appends}
 use mathlib.Core.List.{IsPrefix}
 use Rattle.mud_ends.specs.Ends.{Writer}
-use Rattle.mud_chron.specs.Entry.{Accepted}
+use Rattle.mud_chron.specs.Entry.{Entry}
 use Rattle.mud_chron.specs.Text.{line_feed, history_text}
 use Rattle.mud_chron.specs.declared.format.Format.TheVariants.{Two}
 use Rattle.mud_hall.specs.Opening.{IsLoadFault}
@@ -29,7 +29,7 @@ opening_lines port None = listening_line port
 opening_lines port (Some web) = listening_line port ++ web_line web
 
 -- a history to end with: a hall can begin with it, and after what was loaded come no more desks than sessions at once
-pub record MayEnd (limits : Limits) (loaded history : List Accepted) : Type 0 where
+pub record MayEnd (limits : Limits) (loaded history : List Entry) : Type 0 where
   pub loadable : AreLoadable limits.capacity history
   pub begun : IsPrefix loaded history
   pub desks : List ℕ
@@ -46,22 +46,22 @@ abbrev pub lines_of : (has_web : Bool) → Opening has_web → List ℕ
 lines_of has_web opening = opening_lines opening.port opening.web
 
 -- the lines of some ports were written, and after them the whole text of a history that a server may end with
-pub record Settles (limits : Limits) (has_web : Bool) (loaded : List Accepted)
+pub record Settles (limits : Limits) (has_web : Bool) (loaded : List Entry)
     (held now_held : Option (List ℕ)) : Type 0 where
   pub opening : Opening has_web
-  pub history : List Accepted
+  pub history : List Entry
   pub ends : MayEnd limits loaded history
   pub written : Appends held now_held (lines_of has_web opening ++ history_text Two history)
 
 -- a beginning of the lines was written, or the lines and after them a beginning of the text of such a history
-abbrev pub SettlesInPart : Limits → (has_web : Bool) → List Accepted → Option (List ℕ) → Option (List ℕ) → Type 0
+abbrev pub SettlesInPart : Limits → (has_web : Bool) → List Entry → Option (List ℕ) → Option (List ℕ) → Type 0
 SettlesInPart limits has_web loaded held now_held =
     ((opening : Opening has_web) × (n : ℕ) × Appends held now_held (take n (lines_of has_web opening)))
-    ⊎ ((opening : Opening has_web) × (n : ℕ) × (history : List Accepted) × MayEnd limits loaded history
+    ⊎ ((opening : Opening has_web) × (n : ℕ) × (history : List Entry) × MayEnd limits loaded history
     × Appends held now_held (lines_of has_web opening ++ take n (history_text Two history)))
 
 -- when each fault comes, and what it leaves of the writer
-abbrev pub IsListenFault : ℕ → List Accepted → Writer → Writer → ListenFault → Type 0
+abbrev pub IsListenFault : ℕ → List Entry → Writer → Writer → ListenFault → Type 0
 IsListenFault capacity loaded old new Write = new.has_failed ≡ true
 IsListenFault capacity loaded old new (Load fault) = IsLoadFault capacity loaded fault × (new ≡ old)
 IsListenFault capacity loaded old new other = Unit {0}

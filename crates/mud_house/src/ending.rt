@@ -2,7 +2,7 @@
 
 ghost use Rattle.std.specs.Prelude.{◌≡◌, ◌≤◌, ℕ, List, length, IfOk, IfErr, OnOk};
 ghost use Rattle.mud_ends.specs.Ends.{Writer};
-ghost use Rattle.mud_chron.specs.Entry.{Accepted};
+ghost use Rattle.mud_chron.specs.Entry.{Entry};
 ghost use mathlib.Core.List.{IsPrefix};
 ghost use Rattle.mud_hall.specs.Settling.{IsGathered};
 ghost use Rattle.mud_hall.specs.Steps.{AreLoadable};
@@ -32,7 +32,7 @@ pub fn settle<J: HallName, R: Wait>(
     requires capacity { limits.capacity ≤ 65536 }
     ensures ends { IfOk result (λ history. MayEnd limits J.loaded history) }
     ensures gathered { IfOk result (λ history. IsGathered J.loaded desks.items history) }
-    ensures fault { IfErr result (λ f. (capacity : ℕ) (loaded : List Accepted) (old new : Writer)
+    ensures fault { IfErr result (λ f. (capacity : ℕ) (loaded : List Entry) (old new : Writer)
         → IsListenFault capacity loaded old new f) }
 {
     match hall.close(rt, desks) {
@@ -59,7 +59,7 @@ pub fn settle_journaled<J: HallName, D: Disk + Drop, R: Wait>(
     requires begun { IsPrefix J.loaded scribe.entries }
     ensures ends { IfOk result (λ s. MayEnd limits J.loaded s.0) }
     ensures journaled { IfOk result (λ s. Holds (D.kept s.1.disk) s.0) }
-    ensures fault { IfErr result (λ f. (capacity : ℕ) (loaded : List Accepted) (old new : Writer)
+    ensures fault { IfErr result (λ f. (capacity : ℕ) (loaded : List Entry) (old new : Writer)
         → IsListenFault capacity loaded old new f) }
 {
     let mut desks = desks;
@@ -74,7 +74,7 @@ pub fn settle_journaled<J: HallName, D: Disk + Drop, R: Wait>(
 
 // Why the desks made no history.
 fn of_close(fault: CloseFault) -> ListenFault
-    ensures { (capacity : ℕ) (loaded : List Accepted) (old new : Writer)
+    ensures { (capacity : ℕ) (loaded : List Entry) (old new : Writer)
         → IsListenFault capacity loaded old new result }
 {
     match fault {
@@ -89,7 +89,7 @@ fn try_history(alloc: Global, capacity: u32, history: &mut History) -> Result<()
     requires { capacity ≤ 65536 }
     ensures same { history.new ≡ history.old }
     ensures loadable { OnOk result (AreLoadable capacity history.old) }
-    ensures fault { IfErr result (λ f. (limit : ℕ) (loaded : List Accepted) (old new : Writer)
+    ensures fault { IfErr result (λ f. (limit : ℕ) (loaded : List Entry) (old new : Writer)
         → IsListenFault limit loaded old new f) }
 {
     if history.len() > capacity {
@@ -105,7 +105,7 @@ fn try_history(alloc: Global, capacity: u32, history: &mut History) -> Result<()
 // The entry of this version is not one that a history can have there.
 fn at_odds(version: usize) -> ListenFault
     requires { version ≤ 65537 }
-    ensures { (limit : ℕ) (loaded : List Accepted) (old new : Writer) → IsListenFault limit loaded old new result }
+    ensures { (limit : ℕ) (loaded : List Entry) (old new : Writer) → IsListenFault limit loaded old new result }
 {
     ListenFault::Settle(CloseFault::Mismatch(version as u32))
 }

@@ -5,13 +5,11 @@ ghost use mathlib.Core.List.{IsPrefix};
 ghost use Rattle.mud_hall.specs.Settling.{IsGathered};
 ghost use Rattle.mud_journal.specs.Disk.{Holds};
 
+use mud_chron::MOST_ENTRIES;
 use mud_hall::{Desk, Hall, HallName, Reader};
 use mud_journal::{Disk, Journal, JournalFault, Receipt};
 use std::alloc::Global;
 use std::marker::Model;
-
-// The most entries that are read at once: all that a hall can have.
-const MOST_ENTRIES: u32 = 65_536;
 
 /// A journal, and the entries of a hall that it was given, as far as they were read. A front of them is synced: all,
 /// unless it has failed.
@@ -75,7 +73,7 @@ impl<J: HallName, D: Disk + Drop> Scribe<J, D> {
         if self.journal.has_failed() {
             return Err(JournalFault::Disk);
         }
-        match self.reader.read(self.alloc, hall, MOST_ENTRIES) {
+        match self.reader.read(self.alloc, hall, MOST_ENTRIES as u32) {
             Ok(new) => self.journal.commit(self.alloc, &new),
             Err(_) => {
                 self.journal.fail();

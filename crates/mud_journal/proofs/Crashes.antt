@@ -5,7 +5,7 @@ use Rattle.std.proofs.Math.Seq.{take-append_seam}
 use Rattle.std.proofs.lemmas.List.{take-take, take_all, length-take}
 use Rattle.std.proofs.lemmas.Bool.{cases_lt}
 use Rattle.mud_chron.specs.declared.format.Format.TheVariants.{Two}
-use Rattle.mud_chron.specs.Entry.{Accepted}
+use Rattle.mud_chron.specs.Entry.{Entry}
 use Rattle.mud_chron.specs.Text.{journal_text}
 use Rattle.mud_chron.specs.Fronts.{Recovers, EndsInHead, EndsInLine, HasFrontFault}
 use Rattle.mud_chron.proofs.Fronts as fronts
@@ -31,7 +31,7 @@ front_of_front m n least text long longer = go (cases_lt m n)
       cut = take_all m (take n text) (omega (arith, more, length-take n text));
     }
 
-left_front : (bytes : List ℕ) (synced added : List Accepted) → IsLeftOf bytes synced added
+left_front : (bytes : List ℕ) (synced added : List Entry) → IsLeftOf bytes synced added
     → IsFront bytes (journal_text Two (synced ++ added)) (length (journal_text Two synced))
 left_front bytes synced added h =
     let m : ℕ = h.left.0 in
@@ -41,7 +41,7 @@ left_front bytes synced added h =
     let f = front_of_front m n (length (journal_text Two synced)) text all h.front.1 in
     record { n = f.n; long = f.long; cut = h.left.2 ∙ ap (take m) h.front.2 ∙ f.cut }
 
-pub always_read : (bytes : List ℕ) (synced added : List Accepted) (fault : ChronFault) → IsLeftOf bytes synced added
+pub always_read : (bytes : List ℕ) (synced added : List Entry) (fault : ChronFault) → IsLeftOf bytes synced added
     → HasFrontFault bytes fault → ⊥
 always_read bytes synced added fault h faulty =
     let f = left_front bytes synced added h in

@@ -4,7 +4,7 @@ use Rattle.std.proofs.Common.{Option, Some, None, sym, ◌∙◌, ap, arith}
 use Rattle.std.proofs.Math.Seq.{take-append-add, take-length, take-append_seam}
 use Rattle.std.proofs.lemmas.List.{append-nil, length-append}
 use Rattle.mud_chron.specs.declared.format.Format.TheVariants.{Two}
-use Rattle.mud_chron.specs.Entry.{Accepted}
+use Rattle.mud_chron.specs.Entry.{Entry}
 use Rattle.mud_chron.specs.Text.{line_feed, head_line, entries_text, journal_text}
 use Rattle.mud_journal.specs.Disk.{Kept, Grows, Syncs, Cuts, Stays, Begins, Holds, Adds, AddsInPart}
 use Rattle.mud_journal.proofs.Grown.{journal_text-append}
@@ -12,7 +12,7 @@ use Rattle.mud_journal.proofs.Grown.{journal_text-append}
 -- ---- the opening
 
 -- a file that is cut where its text ends
-pub resumed : (a b : Option Kept) (keep : ℕ) → (keep ≡ 0 → ⊥) → Cuts a b keep → (entries : List Accepted)
+pub resumed : (a b : Option Kept) (keep : ℕ) → (keep ≡ 0 → ⊥) → Cuts a b keep → (entries : List Entry)
     → Begins a keep entries → Holds b entries
 resumed None None keep some c entries is = tt
 resumed None (Some m) keep some c entries is = absurd c
@@ -23,7 +23,7 @@ resumed (Some k) (Some m) keep some c entries (inr none) = absurd (some none.0)
 -- a file of which nothing is left, and then the first line
 pub begun : (a b c d : Option Kept) (keep : ℕ) (text : List ℕ) → keep ≡ 0 → text ≡ head_line Two ++ line_feed
     → Cuts a b keep → Grows b c text → Syncs c d
-    → (entries : List Accepted) → Begins a keep entries → Holds d entries
+    → (entries : List Entry) → Begins a keep entries → Holds d entries
 begun None None None None keep text zero is c g s entries h = tt
 begun None (Some m) y z keep text zero is c g s entries h = absurd c
 begun None None (Some m) z keep text zero is c g s entries h = absurd g
@@ -48,21 +48,21 @@ begun (Some k) (Some m) (Some l) (Some j) keep text zero is c g s entries (inr h
 -- ---- more entries
 
 -- the text of more entries goes on where that of the first ends
-counted : (es news : List Accepted) (count : ℕ) → length es ≡ count
+counted : (es news : List Entry) (count : ℕ) → length es ≡ count
     → journal_text Two (es ++ news) ≡ journal_text Two es ++ entries_text (count + 1) news
 counted es news count is =
     let v : 1 + length es ≡ count + 1 = omega arith in
     journal_text-append Two es news ∙ ap (λ w. journal_text Two es ++ entries_text w news) v
 
 -- what is there once the lines of more entries are appended
-grown : (k m : Kept) (es news : List Accepted) (count : ℕ) (text : List ℕ) → text ≡ entries_text (count + 1) news
+grown : (k m : Kept) (es news : List Entry) (count : ℕ) (text : List ℕ) → text ≡ entries_text (count + 1) news
     → length es ≡ count → Grows (Some k) (Some m) text → Holds (Some k) es
     → m.appended ≡ journal_text Two (es ++ news)
 grown k m es news count text is n g h =
     g.0 ∙ ap (λ t. t ++ text) h.0 ∙ ap (λ t. journal_text Two es ++ t) is ∙ sym (counted es news count n)
 
 -- an append and a sync
-pub added : (a b c : Option Kept) (count : ℕ) (news : List Accepted) (text : List ℕ)
+pub added : (a b c : Option Kept) (count : ℕ) (news : List Entry) (text : List ℕ)
     → text ≡ entries_text (count + 1) news → Grows a b text → Syncs b c → Adds a c count news
 added None None None count news text is g s = λ es n h. tt
 added None None (Some m) count news text is g s = absurd s
@@ -74,7 +74,7 @@ added (Some k) (Some m) (Some l) count news text is g s = λ es n h.
     (s.0 ∙ whole, s.1 ∙ whole)
 
 -- no call
-pub unchanged : (a : Option Kept) (count : ℕ) (news : List Accepted) → AddsInPart a a count news
+pub unchanged : (a : Option Kept) (count : ℕ) (news : List Entry) → AddsInPart a a count news
 unchanged None count news = λ es n h. tt
 unchanged (Some k) count news = λ es n h.
     let long : ℕ = length (journal_text Two es) in (
@@ -86,7 +86,7 @@ unchanged (Some k) count news = λ es n h.
     )
 
 -- an append that failed
-pub appended : (a b : Option Kept) (count n : ℕ) (news : List Accepted) (text : List ℕ)
+pub appended : (a b : Option Kept) (count n : ℕ) (news : List Entry) (text : List ℕ)
     → text ≡ entries_text (count + 1) news → Grows a b (take n text) → AddsInPart a b count news
 appended None None count n news text is g = λ es m h. tt
 appended None (Some m) count n news text is g = absurd g
@@ -102,7 +102,7 @@ appended (Some k) (Some m) count n news text is g = λ es c h.
     )
 
 -- an append, and a sync that failed
-pub unsynced : (a b c : Option Kept) (count : ℕ) (news : List Accepted) (text : List ℕ)
+pub unsynced : (a b c : Option Kept) (count : ℕ) (news : List Entry) (text : List ℕ)
     → text ≡ entries_text (count + 1) news → Grows a b text → Stays b c → AddsInPart a c count news
 unsynced None None None count news text is g s = λ es n h. tt
 unsynced None None (Some m) count news text is g s = absurd s

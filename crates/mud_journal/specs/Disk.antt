@@ -1,7 +1,7 @@
 -- What a disk keeps of a file that grows, what a crash leaves of it, and which journal it holds.
 use Rattle.std.specs.Prelude.{◌≡◌, ◌≤◌, ◌⊎◌, ℕ, List, [], ◌++◌, length, take, Option, Some, None, IfSome}
 use Rattle.mud_chron.specs.declared.format.Format.TheVariants.{Two}
-use Rattle.mud_chron.specs.Entry.{Accepted}
+use Rattle.mud_chron.specs.Entry.{Entry}
 use Rattle.mud_chron.specs.Text.{journal_text}
 
 -- what was appended to the file, and what of it is synced
@@ -45,28 +45,28 @@ IsLeft kept bytes =
     IfSome kept (λ disk. (n : ℕ) × (length disk.synced ≤ n) × (bytes ≡ take n disk.appended))
 
 -- the file is the text of a journal of these entries, all of it synced
-abbrev pub Holds : Option Kept → List Accepted → Type 0
+abbrev pub Holds : Option Kept → List Entry → Type 0
 Holds kept entries =
     IfSome kept (λ disk. (disk.appended ≡ journal_text Two entries) × (disk.synced ≡ journal_text Two entries))
 
 -- the first bytes of the file, this many, are the text of a journal of these entries; or there are none of either
-abbrev pub Begins : Option Kept → ℕ → List Accepted → Type 0
+abbrev pub Begins : Option Kept → ℕ → List Entry → Type 0
 Begins kept keep entries =
     IfSome kept (λ disk. (take keep disk.appended ≡ journal_text Two entries) ⊎ (keep ≡ 0) × (entries ≡ []))
 
 -- the text of a journal of the first entries is synced, and a front of the text of all that were written is there
-abbrev pub HoldsFront : Option Kept → List Accepted → List Accepted → Type 0
+abbrev pub HoldsFront : Option Kept → List Entry → List Entry → Type 0
 HoldsFront kept synced written =
     IfSome kept (λ disk.
     (n : ℕ) × (length (journal_text Two synced) ≤ n) × (disk.appended ≡ take n (journal_text Two written))
     × (disk.synced ≡ journal_text Two synced))
 
 -- a file that held a journal of this many entries holds that of these too
-abbrev pub Adds : Option Kept → Option Kept → ℕ → List Accepted → Type 0
+abbrev pub Adds : Option Kept → Option Kept → ℕ → List Entry → Type 0
 Adds old new count added =
-    (entries : List Accepted) → length entries ≡ count → Holds old entries → Holds new (entries ++ added)
+    (entries : List Entry) → length entries ≡ count → Holds old entries → Holds new (entries ++ added)
 
 -- a file that held a journal of this many entries still has it synced, and of these a part
-abbrev pub AddsInPart : Option Kept → Option Kept → ℕ → List Accepted → Type 0
+abbrev pub AddsInPart : Option Kept → Option Kept → ℕ → List Entry → Type 0
 AddsInPart old new count added =
-    (entries : List Accepted) → length entries ≡ count → Holds old entries → HoldsFront new entries (entries ++ added)
+    (entries : List Entry) → length entries ≡ count → Holds old entries → HoldsFront new entries (entries ++ added)

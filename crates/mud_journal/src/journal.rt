@@ -2,7 +2,7 @@
 
 ghost use Rattle.std.specs.Prelude.{◌≡◌, ◌≤◌, ◌+◌, ◌++◌, ◌<◌, List, [], true, false, Err, IfOk, IfErr, OnOk, OnErr};
 ghost use Rattle.std.specs.Prelude.{length, string_bytes};
-ghost use Rattle.mud_chron.specs.Entry.{Accepted};
+ghost use Rattle.mud_chron.specs.Entry.{Entry};
 ghost use Rattle.mud_chron.specs.Text.{entries_text};
 ghost use Rattle.mud_journal.specs.Disk.{Kept, Holds, HoldsFront, Begins, Adds, AddsInPart};
 
@@ -114,7 +114,7 @@ impl<D: Disk + Drop> Found<D> {
     pub fn begin(self) -> Result<Journal<D>, JournalFault>
         ensures count { IfOk result (λ j. j.count ≡ self.count) }
         ensures going { IfOk result (λ j. j.has_failed ≡ false) }
-        ensures holds { IfOk result (λ j. (entries : List Accepted)
+        ensures holds { IfOk result (λ j. (entries : List Entry)
             → Begins (D.kept self.disk) self.keep entries → Holds (D.kept j.disk) entries) }
         ensures err { IfErr result (λ fault. fault ≡ JournalFault.Disk) }
     {

@@ -2,13 +2,13 @@
 
 ghost use Rattle.mud_journal.specs.Laws.{NothingIsLost, GoesOn, IsLeftOf};
 ghost use Rattle.mud_chron.specs.declared.fault.ChronFault.{ChronFault};
-ghost use Rattle.mud_chron.specs.Entry.{Accepted};
+ghost use Rattle.mud_chron.specs.Entry.{Entry};
 ghost use Rattle.std.specs.Prelude.{ℕ, List};
 ghost use Rattle.mud_chron.specs.Fronts.{HasFrontFault};
 
 /// What a crash leaves of a journal can be read.
 pub fn always_read()
-    ensures { (bytes : List ℕ) (synced added : List Accepted) (fault : ChronFault) → IsLeftOf bytes synced added
+    ensures { (bytes : List ℕ) (synced added : List Entry) (fault : ChronFault) → IsLeftOf bytes synced added
         → HasFrontFault bytes fault → ⊥ }
 {}
 

@@ -2,7 +2,7 @@
 use Rattle.std.specs.Prelude.{◌≡◌, ◌⊎◌, ℕ, List, length}
 use Rattle.mud_world.specs.History.{world_of}
 use Rattle.mud_chron.specs.declared.fault.ChronFault.{ChronFault}
-use Rattle.mud_chron.specs.Entry.{Accepted}
+use Rattle.mud_chron.specs.Entry.{Entry}
 use Rattle.mud_chron.specs.Text.{history_text}
 use Rattle.mud_chron.specs.declared.format.Format.TheVariants.{Two}
 use Rattle.mud_chron.specs.Fronts.{HasFrontFault}
@@ -17,8 +17,8 @@ use Rattle.mud_keep.specs.declared.note.Note.TheVariants.{Nothing, Torn, Shorten
 
 -- the text is that of a shorter history of the same world as that of the entries that the bytes keep
 pub record IsShorterText (bytes text : List ℕ) (before after : ℕ) : Type 0 where
-  pub entries : List Accepted
-  pub shorter : List Accepted
+  pub entries : List Entry
+  pub shorter : List Entry
   pub kept : KeepsEntries bytes entries
   pub shortened : IsShortened entries shorter
   pub text_is : text ≡ history_text Two shorter
@@ -27,7 +27,7 @@ pub record IsShorterText (bytes text : List ℕ) (before after : ℕ) : Type 0 w
 
 -- the text is the table of the world of the entries that the bytes keep, all of which are legal
 pub record IsShownText (bytes text : List ℕ) : Type 0 where
-  pub entries : List Accepted
+  pub entries : List Entry
   pub kept : KeepsEntries bytes entries
   pub legal : AreLegal (changes_of entries)
   pub text_is : text ≡ shown_text (world_of (changes_of entries))
@@ -41,7 +41,7 @@ IsAnswer wish bytes text note = ⊥
 
 -- the bytes keep entries that aren't all legal
 pub record KeepsIllegal (bytes : List ℕ) (fault : ChronFault) : Type 0 where
-  pub entries : List Accepted
+  pub entries : List Entry
   pub kept : KeepsEntries bytes entries
   pub illegal : HasIllegal entries fault
 

@@ -3,7 +3,7 @@ use Rattle.std.specs.Prelude.{◌≡◌, ◌≢◌, ◌⊎◌, ℕ, ◌≤◌, �
 use Rattle.mud_world.specs.History.{world_of}
 use Rattle.mud_chron.specs.declared.fault.ChronFault.{ChronFault}
 use Rattle.mud_chron.specs.declared.fault.ChronFault.TheVariants.{OutOfMemory}
-use Rattle.mud_chron.specs.Entry.{Accepted}
+use Rattle.mud_chron.specs.Entry.{Entry}
 use Rattle.mud_chron.specs.Replay.{changes_of, world_at, AreLegal}
 use Rattle.mud_cert.specs.declared.fault.CertFault.{CertFault}
 use Rattle.mud_cert.specs.declared.fault.CertFault.TheVariants.{BadLine}
@@ -18,14 +18,14 @@ use Rattle.mud_keep.specs.declared.mapping.NoMap.TheVariants.{History, Proof, Ve
 
 -- the text is the map of the world of the entries that the bytes keep, all of which are legal
 pub record IsMap (bytes text : List ℕ) : Type 0 where
-  pub entries : List Accepted
+  pub entries : List Entry
   pub kept : KeepsEntries bytes entries
   pub legal : AreLegal (changes_of entries)
   pub text_is : text ≡ map_text (world_of (changes_of entries)) blank
 
 -- the text is the map of the world of the certificate's version, and the certificate is drawn in
 pub record IsMapWith (bytes proof text : List ℕ) : Type 0 where
-  pub entries : List Accepted
+  pub entries : List Entry
   pub kept : KeepsEntries bytes entries
   pub legal : AreLegal (changes_of entries)
   pub cert : Certificate
@@ -36,7 +36,7 @@ pub record IsMapWith (bytes proof text : List ℕ) : Type 0 where
 
 -- the certificate speaks of a version that the history does not reach
 pub record IsBeyond (bytes proof : List ℕ) (version : ℕ) : Type 0 where
-  pub entries : List Accepted
+  pub entries : List Entry
   pub kept : KeepsEntries bytes entries
   pub cert : Certificate
   pub proof_is : proof ≡ cert_text cert

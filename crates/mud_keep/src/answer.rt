@@ -6,8 +6,7 @@ ghost use Rattle.mud_keep.specs.Answer.{IsAnswer, HasNoAnswer};
 use crate::note::{Answer, Note};
 use mud_chron::{ChronFault, replay, write_history};
 use mud_command::Wish;
-use mud_keeping::{read_kept, recover, show};
-use mud_shorten::shorten;
+use mud_keeping::{read_kept, recover, shorten, show};
 use std::alloc::Global;
 
 // The history that a journal holds.

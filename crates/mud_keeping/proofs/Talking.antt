@@ -1,5 +1,6 @@
 -- What is said and done in words never changes a world.
-use Rattle.std.proofs.Common.{◌≡◌, ◌≤◌, ◌<◌, ◌+◌, ◌++◌, take, get_or, ℕ, true, false, length, arith, cond, List, [], ◌∷◌, None, refl, sym, ◌∙◌, ap, subst}
+use Rattle.std.proofs.Common.{◌≡◌, ◌≤◌, ◌<◌, ◌+◌, ◌++◌, take, get_or, ℕ, true, false, length, arith, cond, List, []}
+use Rattle.std.proofs.Common.{◌∷◌, None, refl, sym, ◌∙◌, ap, subst}
 use Rattle.std.specs.Prelude.{not, ◌||◌, is_none, if◌then◌else◌}
 use Rattle.std.proofs.lemmas.Bool.{true≢false}
 use Rattle.std.proofs.lemmas.List.Elements.{filter_more}
@@ -8,12 +9,12 @@ use Rattle.mud_world.specs.State.{State}
 use Rattle.mud_world.specs.Opening.{opening_state}
 use Rattle.mud_world.specs.Legal.{refusal, after, deed_result}
 use Rattle.mud_world.specs.History.{world_from}
-use Rattle.mud_world.specs.Inner.{stepped}
+use Rattle.mud_world.specs.inner.Parts.{stepped}
 use Rattle.mud_world.specs.declared.change.Change.{Change}
 use Rattle.mud_world.specs.declared.change.Deed.{Deed}
 use Rattle.mud_world.specs.declared.change.Deed.TheVariants.{Dig, Make, Lock, Unlock, Move, Walk, Cost, Player, Rename}
 use Rattle.mud_world.specs.declared.change.Deed.TheVariants.{Recycle, Say, Emote}
-use Rattle.mud_chron.specs.Entry.{Accepted}
+use Rattle.mud_chron.specs.Entry.{Entry}
 use Rattle.mud_chron.specs.Replay.{changes_of, AreLegalFrom, AreLegal}
 use Rattle.mud_keeping.specs.Shorter.{is_talk, without_talk, has_talk, LeadsToSame, IsQuiet}
 use Rattle.mud_keeping.specs.Laws.{TalkChangesNothing}
@@ -38,11 +39,11 @@ made : (w : State) (c : Change) → refusal w c ≡ None → stepped w c ≡ aft
 made w c legal = ap (λ o. if is_none o then after w c else w) legal
 
 -- the shorter entries are legal from here on and lead to where the longer do
-record LeadsOn (w : State) (entries others : List Accepted) : Type 0 where
+record LeadsOn (w : State) (entries others : List Entry) : Type 0 where
   legal : AreLegalFrom w (changes_of others)
   world : world_from w (changes_of others) ≡ world_from w (changes_of entries)
 
-leads_on : (w : State) (es : List Accepted) → AreLegalFrom w (changes_of es) → LeadsOn w es (without_talk es)
+leads_on : (w : State) (es : List Entry) → AreLegalFrom w (changes_of es) → LeadsOn w es (without_talk es)
 leads_on w [] legal = record { legal = tt; world = refl }
 leads_on w (e ∷ es) legal =
     let step = made w e.change legal.0 in
@@ -69,7 +70,7 @@ talk_changes_nothing es legal =
     let on = leads_on opening_state es legal in
     record { legal = legal; others_legal = on.legal; world = on.world }
 
-pub silent_without : (es : List Accepted) → has_talk (without_talk es) ≡ false
+pub silent_without : (es : List Entry) → has_talk (without_talk es) ≡ false
 silent_without [] = refl
 silent_without (e ∷ es) =
     bool_cases (is_talk e.change.deed)
@@ -77,7 +78,7 @@ silent_without (e ∷ es) =
     (λ work. ap (λ b. has_talk (cond (not b) (e ∷ without_talk es) (without_talk es))) work
     ∙ ap (λ b. b || has_talk (without_talk es)) work ∙ silent_without es)
 
-pub fewer_without : (es : List Accepted) → length (without_talk es) ≤ length es
+pub fewer_without : (es : List Entry) → length (without_talk es) ≤ length es
 fewer_without [] = omega arith
 fewer_without (e ∷ es) =
     let rest = fewer_without es in
@@ -88,12 +89,12 @@ fewer_without (e ∷ es) =
     (sym (ap (λ b. cond (not b) (e ∷ without_talk es) (without_talk es)) work)) (omega (arith, rest)))
 
 -- one entry more
-pub without_more : (es : List Accepted) (i : ℕ) (d : Accepted) → i < length es
+pub without_more : (es : List Entry) (i : ℕ) (d : Entry) → i < length es
     → without_talk (take (i + 1) es)
     ≡ without_talk (take i es) ++ cond (not (is_talk (get_or es i d).change.deed)) (get_or es i d ∷ []) []
-without_more es i d h = filter_more (λ (e : Accepted). not (is_talk e.change.deed)) es i d h
+without_more es i d h = filter_more (λ (e : Entry). not (is_talk e.change.deed)) es i d h
 
-pub quiet : (es kept : List Accepted) → kept ≡ without_talk es → IsQuiet es kept
+pub quiet : (es kept : List Entry) → kept ≡ without_talk es → IsQuiet es kept
 quiet es kept is = subst (IsQuiet es) (sym is) (record {
   is = refl;
   silent = silent_without es;

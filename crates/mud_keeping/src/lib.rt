@@ -4,11 +4,12 @@
 //! |---|---|
 //! | `read_kept` | the entries of a history, or of a journal that was cut at any byte |
 //! | `recover` | the history's text that a journal holds, and how many bytes of it were torn |
-//! | `without_talk` | a history without what is said and done in words |
-//! | `shorter_of` | a history that was found, if it is shorter and leads to the same world |
+//! | `shorten` | a history of the same world that is no longer, and in which nobody talks |
 //! | `show` | the world as a table |
 //!
-//! Proved is that each call answers by its definition. That talk never changes a world is the contract of [`laws`].
+//! Proved is that each call answers by its definition. That talk never changes a world is the contract of [`laws`]. How
+//! `shorten` chooses what to leave out is not proved: `mud_rebuild` builds a world again, and the two worlds are
+//! compared here. Where they differ, or nothing is gained, only talk is left out.
 #![tactic(auto)]
 
 mod comparing;
@@ -19,6 +20,5 @@ mod showing;
 mod talk;
 
 pub use reading::{Recovered, read_kept, recover};
-pub use shortening::shorter_of;
+pub use shortening::shorten;
 pub use showing::show;
-pub use talk::without_talk;

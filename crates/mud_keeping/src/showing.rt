@@ -1,16 +1,15 @@
 //! The world as a table.
 
-ghost use Rattle.std.specs.Prelude.{◌≡◌, ◌++◌, ◌∷◌, [], List, codes, map, string_bytes, IfOk, OnOk};
+ghost use Rattle.std.specs.Prelude.{◌≡◌, ◌++◌, [], string_bytes, IfOk, OnOk};
 ghost use Rattle.std.specs.Fmt.{decimal};
-ghost use Rattle.std.specs.List.{flat_map};
 ghost use Rattle.std.specs.Option.{option_map_or};
 ghost use Rattle.mud_key.specs.Printed.{number_text};
 ghost use Rattle.mud_world.specs.State.{record_at};
-ghost use Rattle.mud_chron.specs.Text.{quoted, listed};
 ghost use Rattle.mud_keeping.specs.Shown.{kind_word, head_text, where_text, lock_text, row, shown_text};
 
 use itoa::Buffer;
-use mud_key::{Key, Names, print};
+use mud_chron::write_names;
+use mud_key::{Key, print};
 use mud_world::{Kind, Record, World};
 use std::alloc::{AllocError, Global};
 
@@ -33,40 +32,6 @@ fn push_object(out: &mut String, word: &str, number: u32) -> Result<(), AllocErr
 {
     out.push_str(word)?;
     push_number(out, number)
-}
-
-// The other names of an object, each after a comma.
-fn push_others(out: &mut String, names: &[String]) -> Result<(), AllocError>
-    ensures { OnOk result (string_bytes out.new
-        ≡ string_bytes out.old ++ flat_map (λ name. codes "," ++ name) (map string_bytes names.now)) }
-{
-    for name in names {
-        out.push_str(",")?;
-        out.push_str(name.as_str())?;
-    }
-    Ok(())
-}
-
-// The names of an object, with a comma between each two.
-fn push_listed(out: &mut String, names: &[String]) -> Result<(), AllocError>
-    ensures { OnOk result (string_bytes out.new ≡ string_bytes out.old ++ listed (map string_bytes names.now)) }
-{
-    match names {
-        [first, others @ ..] => {
-            out.push_str(first.as_str())?;
-            push_others(out, others)
-        }
-        [] => Ok(()),
-    }
-}
-
-// The names in double quotes.
-fn push_names(out: &mut String, names: &Names) -> Result<(), AllocError>
-    ensures { OnOk result (string_bytes out.new ≡ string_bytes out.old ++ quoted names.now) }
-{
-    out.push_str("\"")?;
-    push_listed(out, names.list())?;
-    out.push_str("\"")
 }
 
 fn word_of(kind: Kind) -> &'static str
@@ -110,12 +75,12 @@ fn push_lock(alloc: Global, out: &mut String, key: &Option<Key>) -> Result<(), A
 }
 
 // The number of an object, its kind, its names and its owner.
-fn push_head(out: &mut String, number: u32, kept: &Record) -> Result<(), AllocError>
+fn push_head(alloc: Global, out: &mut String, number: u32, kept: &Record) -> Result<(), AllocError>
     ensures { OnOk result (string_bytes out.new ≡ string_bytes out.old ++ head_text number kept.now) }
 {
     push_number(out, number)?;
     out.push_str(word_of(kept.kind))?;
-    push_names(out, &kept.names)?;
+    write_names(alloc, &kept.names, out)?;
     push_object(out, " owner ", kept.owner)
 }
 
@@ -123,7 +88,7 @@ fn push_head(out: &mut String, number: u32, kept: &Record) -> Result<(), AllocEr
 fn push_row(alloc: Global, out: &mut String, number: u32, kept: &Record) -> Result<(), AllocError>
     ensures { OnOk result (string_bytes out.new ≡ string_bytes out.old ++ row number kept.now) }
 {
-    push_head(out, number, kept)?;
+    push_head(alloc, out, number, kept)?;
     push_where(out, kept.kind)?;
     push_lock(alloc, out, &kept.key)?;
     out.push_str("\n")

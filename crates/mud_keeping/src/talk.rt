@@ -49,7 +49,7 @@ fn work_of(alloc: Global, entries: &[Entry]) -> Result<Vec<Entry>, AllocError>
 
 /// The entries without what is said and done in words. The only error is out of memory.
 #[tactic(auto, using(crate::proofs::Talking::quiet))]
-pub fn without_talk(alloc: Global, entries: &[Entry]) -> Result<Vec<Entry>, AllocError>
+pub(crate) fn without_talk(alloc: Global, entries: &[Entry]) -> Result<Vec<Entry>, AllocError>
     ensures { IfOk result (λ kept. IsQuiet entries.now kept.items) }
 {
     let kept = work_of(alloc, entries)?;

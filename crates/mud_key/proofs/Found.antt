@@ -12,11 +12,11 @@ use Rattle.mud_key.specs.declared.key_fault.KeyFault.{KeyFault}
 use Rattle.mud_key.specs.declared.key_fault.KeyFault.TheVariants.{OutOfMemory, BadKey, TooManyAtoms, NoSuch, Ambiguous}
 use Rattle.mud_key.specs.Tree.{Tree, objects_of, nots_of, IsWithinLimits}
 use Rattle.mud_key.specs.Name.{IsName}
-use Rattle.mud_key.specs.InnerNames.{IsNamesText, NamesReadAs, NameReadsAs, is_only, one}
-use Rattle.mud_key.specs.NameReader.{Stand, name_run, name_start, settled}
+use Rattle.mud_key.specs.inner.NamesTexts.{IsNamesText, NamesReadAs, NameReadsAs, is_only, one}
+use Rattle.mud_key.specs.inner.NameReader.{Stand, name_run, name_start, settled}
 use Rattle.mud_key.specs.KeyText.{SpellsKey, ReadsAs}
-use Rattle.mud_key.specs.Machine.{run, start, State, Mode, settled as mode_settled}
-use Rattle.mud_key.specs.Builder.{outer_settled}
+use Rattle.mud_key.specs.inner.Machine.{run, start, State, Mode, settled as mode_settled}
+use Rattle.mud_key.specs.inner.Builder.{outer_settled}
 use Rattle.mud_key.specs.Reading.{names_in, name_in, key_in, is_within_limits, FindsNames, FindsName, FindsKey}
 use Rattle.mud_key.specs.Laws.{IsTheName, IsTheKey}
 use Rattle.mud_key.proofs.NamesSound.{names_sound}

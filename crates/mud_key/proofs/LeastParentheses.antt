@@ -9,7 +9,7 @@ use Rattle.std.proofs.lemmas.List.Elements.{All-nil, All-cons, All-push}
 use Rattle.mud_key.specs.declared.operator.Operator.{Operator}
 use Rattle.mud_key.specs.declared.operator.Operator.TheVariants.{And, Or}
 use Rattle.mud_key.specs.Tree.{Tree, Has, Asks, Not, Join, AllObjects, IsKey}
-use Rattle.mud_key.specs.InnerKey.{IsDigit, HasLeastParentheses}
+use Rattle.mud_key.specs.inner.Keys.{IsDigit, HasLeastParentheses}
 use Rattle.mud_key.specs.KeyText.{Level, Object, Unary, Chain, Spells, number, name, object, asks, not, parentheses}
 use Rattle.mud_key.specs.KeyText.{unary, join, space_before, space_behind, SpellsKey, sign}
 use Rattle.mud_key.specs.declared.namer.Miss.{Miss}

@@ -10,8 +10,8 @@ use Rattle.std.proofs.lemmas.Bool.{eqb-true}
 use Rattle.std.proofs.lemmas.Bool.Decides.{nat_tests}
 use Rattle.mud_key.specs.Name.{IsNameByte, IsName}
 use Rattle.mud_key.specs.Names.{AreNames}
-use Rattle.mud_key.specs.InnerNames.{SpellsName, SpellsNames, IsNamesText, one, more}
-use Rattle.mud_key.specs.InnerNames.{without_outer_spaces}
+use Rattle.mud_key.specs.inner.NamesTexts.{SpellsName, SpellsNames, IsNamesText, one, more}
+use Rattle.mud_key.specs.inner.NamesTexts.{without_outer_spaces}
 use Rattle.mud_key.specs.Parts.{without_leading_spaces, parts_of}
 use Rattle.mud_key.proofs.Spaces.{none_in_front}
 

@@ -11,12 +11,12 @@ use Rattle.std.proofs.lemmas.List.Elements.{All-nil, All-cons, All-head, All-tai
 use Rattle.mud_key.specs.declared.class.Class.{Class}
 use Rattle.mud_key.specs.declared.class.Class.TheVariants.{Space, Digit, Letter, Sharp, Bang, Question, Open, Close}
 use Rattle.mud_key.specs.declared.class.Class.TheVariants.{Ampersand, Bar, Foreign}
-use Rattle.mud_key.specs.Class.{class_of}
+use Rattle.mud_key.specs.inner.Class.{class_of}
 use Rattle.mud_key.specs.Name.{IsNameByte, IsName, HasNoTwoSpaces}
 use Rattle.mud_key.specs.Names.{AreNames}
-use Rattle.mud_key.specs.InnerNames.{SpellsName, SpellsNames, IsNamesText, IsNoNamesText, one, more}
-use Rattle.mud_key.specs.NameReader.{Stand, space_step, letter_step, name_step, name_next, name_run, name_start}
-use Rattle.mud_key.specs.NameReader.{settled}
+use Rattle.mud_key.specs.inner.NamesTexts.{SpellsName, SpellsNames, IsNamesText, IsNoNamesText, one, more}
+use Rattle.mud_key.specs.inner.NameReader.{Stand, space_step, letter_step, name_step, name_next, name_run, name_start}
+use Rattle.mud_key.specs.inner.NameReader.{settled}
 use Rattle.mud_key.proofs.Classes.{Means, class_means}
 use Rattle.mud_key.proofs.NamesSound.{name_run-none}
 

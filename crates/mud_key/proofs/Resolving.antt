@@ -5,7 +5,8 @@ use Rattle.mud_key.specs.declared.operator.Operator.{Operator}
 use Rattle.mud_key.specs.Tree.{Tree, Has, Asks, Not, Join, objects_of, nots_of, AllObjects, IsWithinLimits, IsKey}
 use Rattle.mud_key.specs.Namer.{result_map, joined_result, resolved}
 
-abbrev CountsAs : ℕ → ℕ → Result (Tree ℕ) Miss → Type 0
+-- so many objects and so many `!`, where the key was resolved
+abbrev pub CountsAs : ℕ → ℕ → Result (Tree ℕ) Miss → Type 0
 CountsAs objects nots (Ok k) = (objects_of k ≡ objects) × (nots_of k ≡ nots)
 CountsAs objects nots (Err e) = Unit {0}
 
@@ -27,7 +28,8 @@ join_counts op o n p m (Ok a) (Ok b) h i = (omega (arith, h.0, i.0), omega (arit
 join_counts op o n p m (Ok a) (Err e) h i = tt
 join_counts op o n p m (Err e) s h i = tt
 
-resolved_counts : (meaning : List ℕ → Result ℕ Miss) (t : Tree (List ℕ))
+-- a key counts what the text that it was resolved from counts
+pub resolved_counts : (meaning : List ℕ → Result ℕ Miss) (t : Tree (List ℕ))
     → CountsAs (objects_of t) (nots_of t) (resolved meaning t)
 resolved_counts meaning (Has o) = has_counts (meaning o)
 resolved_counts meaning (Asks o) = asks_counts (meaning o)

@@ -1,4 +1,3 @@
-pub mod Class
 pub mod Tree
 pub mod TreeCode
 pub mod Name
@@ -8,11 +7,6 @@ pub mod Node
 pub mod KeyText
 pub mod Namer
 pub mod Printed
-pub mod Machine
-pub mod Scan
-pub mod Builder
-pub mod NameReader
 pub mod Reading
-pub mod InnerNames
 pub mod Laws
-pub mod InnerKey
+pub mod inner

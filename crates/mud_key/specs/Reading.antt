@@ -8,10 +8,10 @@ use Rattle.mud_key.specs.declared.names.NamesFault.TheVariants.{OutOfMemory as N
 use Rattle.mud_key.specs.declared.key_fault.KeyFault.{KeyFault}
 use Rattle.mud_key.specs.declared.key_fault.KeyFault.TheVariants.{OutOfMemory, BadKey, TooManyAtoms}
 use Rattle.mud_key.specs.Tree.{Tree, objects_of, nots_of}
-use Rattle.mud_key.specs.InnerNames.{is_only}
-use Rattle.mud_key.specs.NameReader.{name_run, name_start, settled}
-use Rattle.mud_key.specs.Machine as machine
-use Rattle.mud_key.specs.Builder.{outer_settled}
+use Rattle.mud_key.specs.inner.NamesTexts.{is_only}
+use Rattle.mud_key.specs.inner.NameReader.{name_run, name_start, settled}
+use Rattle.mud_key.specs.inner.Machine as machine
+use Rattle.mud_key.specs.inner.Builder.{outer_settled}
 
 -- the names of a text, where it is a names text. A reader need not look into this: `laws::names` says what it finds
 unfoldable pub names_in : List ℕ → Option (List (List ℕ))

@@ -2,7 +2,7 @@
 
 ghost use Rattle.std.specs.Prelude.{◌≡◌, IfOk, map, string_bytes};
 ghost use Rattle.mud_key.specs.Parts.{parts_of};
-ghost use Rattle.mud_key.specs.InnerNames.{without_outer_spaces};
+ghost use Rattle.mud_key.specs.inner.NamesTexts.{without_outer_spaces};
 
 use std::alloc::{AllocError, Global};
 

@@ -2,7 +2,7 @@
 
 ghost use Rattle.std.specs.Prelude.{◌≡◌, IfOk, map, string_bytes};
 ghost use Rattle.mud_key.specs.Name.{IsName};
-ghost use Rattle.mud_key.specs.InnerNames.{is_only};
+ghost use Rattle.mud_key.specs.inner.NamesTexts.{is_only};
 ghost use Rattle.mud_key.specs.Reading.{FindsName};
 
 use crate::names::{Names, NamesFault};

@@ -3,7 +3,7 @@
 ghost use Rattle.std.specs.Prelude.{◌≡◌, [], ◌∷◌, IfOk, map, string_bytes};
 ghost use Rattle.mud_key.specs.Reading.{FindsNames};
 ghost use Rattle.mud_key.specs.Names.{AreNames};
-ghost use Rattle.mud_key.specs.InnerNames.{NamesReadAs};
+ghost use Rattle.mud_key.specs.inner.NamesTexts.{NamesReadAs};
 
 use crate::name::Name;
 use crate::name_reader::NameReader;

@@ -1,9 +1,9 @@
 //! How the sessions end once no connection is taken any more.
 
-use crate::connection::HouseOf;
 use mud_hall::HallName;
 use mud_house::{StopSign, rest};
 use mud_talk::Ending;
+use mud_threads::HouseOf;
 use std::sync::Wait;
 
 // How long the server waits between two looks at its sessions.

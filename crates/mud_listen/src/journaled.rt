@@ -4,11 +4,10 @@ ghost use Rattle.std.specs.Prelude.{◌≡◌, ◌≤◌, ◌<◌, ◌+◌, ◌+
 ghost use Rattle.std.specs.Prelude.{IfOk, IfErr, IfNone, IsTrue, OnOk, OnErr, is_some};
 ghost use mathlib.Core.List.{IsPrefix};
 ghost use Rattle.mud_ends.specs.Ends.{Writer};
-ghost use Rattle.mud_chron.specs.Entry.{Accepted};
+ghost use Rattle.mud_chron.specs.Entry.{Entry};
 ghost use Rattle.mud_journal.specs.Disk.{Holds, Begins};
 ghost use Rattle.mud_house.specs.Listening.{MayEnd, Settles, SettlesInPart, IsListenFault};
 
-use crate::connection::HouseOf;
 use crate::listen::{is_well_ended, resumed, serve_house};
 use crate::server::Server;
 use log::Log;
@@ -21,6 +20,7 @@ use mud_house::{
 };
 use mud_journal::{Disk, Found, Gate, Journal, JournalFault};
 use mud_row::History;
+use mud_threads::HouseOf;
 use std::alloc::{AllocError, Global};
 use std::io::Write;
 use std::marker::Brand;
@@ -100,7 +100,7 @@ where
         scribe: Scribe<J, D>,
     ) -> Result<(Scribe<J, D>, bool), ListenFault>
         ensures longer { IfOk result (λ s. IsPrefix scribe.entries s.0.entries) }
-        ensures fault { IfErr result (λ f. (capacity : ℕ) (loaded : List Accepted) (old new : Writer)
+        ensures fault { IfErr result (λ f. (capacity : ℕ) (loaded : List Entry) (old new : Writer)
             → IsListenFault capacity loaded old new f) }
     {
         let serving = Serving {
@@ -134,7 +134,7 @@ fn serve_journaled<
     scribe: Scribe<J, D>,
 ) -> Result<(Scribe<J, D>, bool), ListenFault>
     ensures longer { IfOk result (λ s. IsPrefix scribe.entries s.0.entries) }
-    ensures fault { IfErr result (λ f. (capacity : ℕ) (loaded : List Accepted) (old new : Writer)
+    ensures fault { IfErr result (λ f. (capacity : ℕ) (loaded : List Entry) (old new : Writer)
         → IsListenFault capacity loaded old new f) }
 {
     thread::scope(thread::scope_env(), rt, move |scope| {
@@ -170,7 +170,7 @@ fn serve_all<J: HallName + Send + Sync, D: Disk + Drop, R: Threads + Wait + Log 
     ensures ends { IfOk result (λ s. MayEnd limits J.loaded s.0) }
     ensures journaled { IfOk result (λ s. Holds (D.kept s.1.disk) s.0) }
     ensures total { IfOk result (λ s. IsTrue s.2 → IfNone stop.entry (0 < limits.total)) }
-    ensures fault { IfErr result (λ f. (capacity : ℕ) (loaded : List Accepted) (old new : Writer)
+    ensures fault { IfErr result (λ f. (capacity : ℕ) (loaded : List Entry) (old new : Writer)
         → IsListenFault capacity loaded old new f) }
 {
     let hall = hall.named::<J>();
@@ -210,7 +210,7 @@ fn serve<D: Disk + Drop, R: Threads + Wait + Log + Clock + Sync>(
     ensures ends { IfOk result (λ s. MayEnd limits hall.loaded s.0) }
     ensures journaled { IfOk result (λ s. Holds (D.kept s.1.disk) s.0) }
     ensures total { IfOk result (λ s. IsTrue s.2 → IfNone stop.entry (0 < limits.total)) }
-    ensures fault { IfErr result (λ f. (capacity : ℕ) (loaded : List Accepted) (old new : Writer)
+    ensures fault { IfErr result (λ f. (capacity : ℕ) (loaded : List Entry) (old new : Writer)
         → IsListenFault capacity loaded old new f) }
 {
     let (listeners, site) = doors.parted();
@@ -234,7 +234,7 @@ fn begun<D: Disk + Drop>(
     found: Found<D>,
     more: &[Entry],
 ) -> Result<Journal<D>, JournalFault>
-    ensures holds { IfOk result (λ j. (had : List Accepted) → length had ≡ found.count
+    ensures holds { IfOk result (λ j. (had : List Entry) → length had ≡ found.count
         → Begins (D.kept found.disk) found.keep had → Holds (D.kept j.disk) (had ++ more.now)) }
     ensures count { IfOk result (λ j. j.count ≡ found.count + length more.now) }
     ensures going { IfOk result (λ j. j.has_failed ≡ false) }

@@ -21,13 +21,9 @@
 
 mod browsers;
 mod closing;
-mod connection;
 mod journaled;
 mod listen;
-mod notice;
-mod reader;
 mod server;
-mod steps;
 
 pub use journaled::listen_journaled;
 pub use listen::listen_on;

@@ -3,11 +3,10 @@
 ghost use Rattle.std.specs.Prelude.{◌≡◌, ◌≤◌, ◌<◌, length, true, Err, IfOk, IfErr, OnOk, OnErr};
 ghost use Rattle.std.specs.Prelude.{ℕ, List, IfNone, IsSome, IsTrue, is_some};
 ghost use Rattle.mud_ends.specs.Ends.{Writer};
-ghost use Rattle.mud_chron.specs.Entry.{Accepted};
+ghost use Rattle.mud_chron.specs.Entry.{Entry};
 ghost use Rattle.mud_house.specs.Listening.{MayEnd, Settles, SettlesInPart, IsListenFault};
 
 use crate::closing::see_out;
-use crate::connection::HouseOf;
 use crate::server::{Begun, Server};
 use log::Log;
 use mud_chron::Entry;
@@ -20,6 +19,7 @@ use mud_house::{
 use mud_journal::Gate;
 use mud_row::History;
 use mud_talk::{Entrance, Wire, set_up};
+use mud_threads::HouseOf;
 use std::alloc::Global;
 use std::io::Write;
 use std::marker::Brand;
@@ -208,7 +208,7 @@ fn serve_all<J: HallName + Send + Sync, R: Threads + Wait + Log + Clock + Sync>(
     requires capacity { limits.capacity ≤ 65536 }
     ensures ends { IfOk result (λ s. MayEnd limits J.loaded s.0) }
     ensures total { IfOk result (λ s. IsTrue s.1 → IfNone stop.entry (0 < limits.total)) }
-    ensures fault { IfErr result (λ f. (capacity : ℕ) (loaded : List Accepted) (old new : Writer)
+    ensures fault { IfErr result (λ f. (capacity : ℕ) (loaded : List Entry) (old new : Writer)
         → IsListenFault capacity loaded old new f) }
 {
     let hall = hall.named::<J>();
@@ -235,7 +235,7 @@ fn serve<R: Threads + Wait + Log + Clock + Sync>(
     requires capacity { limits.capacity ≤ 65536 }
     ensures ends { IfOk result (λ s. MayEnd limits hall.loaded s.0) }
     ensures total { IfOk result (λ s. IsTrue s.1 → IfNone stop.entry (0 < limits.total)) }
-    ensures fault { IfErr result (λ f. (capacity : ℕ) (loaded : List Accepted) (old new : Writer)
+    ensures fault { IfErr result (λ f. (capacity : ℕ) (loaded : List Entry) (old new : Writer)
         → IsListenFault capacity loaded old new f) }
 {
     let (listeners, site) = doors.parted();

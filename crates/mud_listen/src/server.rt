@@ -1,13 +1,11 @@
 //! What the threads of a server are begun with, and how a session begins.
 
-use crate::connection::{Connection, HouseOf};
-use crate::notice::{Sleeper, tell_all};
-use crate::reader::read_all;
 use crossbeam_utils::sync::Parker;
 use log::Log;
 use mud_hall::HallName;
 use mud_house::{Bell, NoPlace};
 use mud_talk::Wire;
+use mud_threads::{Connection, HouseOf, Sleeper, read_all, tell_all};
 use std::alloc::Global;
 use std::net::IpAddr;
 use std::sync::{Arc, Wait};

@@ -19,7 +19,8 @@ flip a b =
     (λ e. e ∙ sym (ne_eqb b a (λ same. eqb-false a b e (sym same))))
 
 -- the map has another list at the holder, or none
-pub changed_seen : (es fs : List (ℕ × List ℕ)) (h : ℕ) (f : List ℕ → List ℕ) (o : Option (List ℕ)) → ((q : ℕ) → lookup (nat_eq q) fs ≡ cond (nat_eq h q) o (lookup (nat_eq q) es))
+pub changed_seen : (es fs : List (ℕ × List ℕ)) (h : ℕ) (f : List ℕ → List ℕ) (o : Option (List ℕ))
+    → ((q : ℕ) → lookup (nat_eq q) fs ≡ cond (nat_eq h q) o (lookup (nat_eq q) es))
     → unwrap_or o [] ≡ f (list_at es h) → AreChanged (λ n. nat_eq n h) f es fs
 changed_seen es fs h f o is list = λ n.
     ap (λ v. unwrap_or v []) (is n)
@@ -34,7 +35,8 @@ changed_seen es fs h f o is list = λ n.
     ∙ sym (ap (λ t. if t then f (list_at es n) else list_at es n) past))
 
 -- the map has an equal list at the holder
-pub same_seen : (es fs : List (ℕ × List ℕ)) (h : ℕ) (o : Option (List ℕ)) → ((q : ℕ) → lookup (nat_eq q) fs ≡ cond (nat_eq h q) o (lookup (nat_eq q) es))
+pub same_seen : (es fs : List (ℕ × List ℕ)) (h : ℕ) (o : Option (List ℕ))
+    → ((q : ℕ) → lookup (nat_eq q) fs ≡ cond (nat_eq h q) o (lookup (nat_eq q) es))
     → unwrap_or o [] ≡ list_at es h → AreSame es fs
 same_seen es fs h o is list = λ n.
     changed_seen es fs h (λ v. v) o is list n
@@ -42,14 +44,16 @@ same_seen es fs h o is list = λ n.
     (λ here. ap (λ t. if t then list_at es n else list_at es n) here)
     (λ past. ap (λ t. if t then list_at es n else list_at es n) past)
 
-pub cloned : (C : ℕ → ℕ → Type 0) → ((x y : ℕ) → C x y → y ≡ x) → (es fs : List (ℕ × List ℕ)) → AllZip (λ p q. C p.0 q.0 × (q.1 ≡ p.1)) es fs → fs ≡ es
+pub cloned : (C : ℕ → ℕ → Type 0) → ((x y : ℕ) → C x y → y ≡ x) → (es fs : List (ℕ × List ℕ))
+    → AllZip (λ p q. C p.0 q.0 × (q.1 ≡ p.1)) es fs → fs ≡ es
 cloned C same [] [] all = refl
 cloned C same [] (f ∷ fs) all = absurd all
 cloned C same (e ∷ es) [] all = absurd all
 cloned C same (e ∷ es) (f ∷ fs) all = λ i. (same e.0 f.0 all.0.0 i, all.0.1 i) ∷ cloned C same es fs all.1 i
 
 -- a change that leaves the empty list, at a holder that has none
-pub missing_seen : (es : List (ℕ × List ℕ)) (h : ℕ) (f : List ℕ → List ℕ) → lookup (nat_eq h) es ≡ None → f [] ≡ [] → AreChanged (λ n. nat_eq n h) f es es
+pub missing_seen : (es : List (ℕ × List ℕ)) (h : ℕ) (f : List ℕ → List ℕ) → lookup (nat_eq h) es ≡ None → f [] ≡ []
+    → AreChanged (λ n. nat_eq n h) f es es
 missing_seen es h f none empty = λ n.
     bool_cases (nat_eq n h)
     (λ here.
@@ -64,22 +68,27 @@ zipped C same (x ∷ xs) [] all = absurd all
 zipped C same (x ∷ xs) (y ∷ ys) all = λ i. same x y all.0 i ∷ zipped C same xs ys all.1 i
 
 -- what is there already is put there again
-pub put-there : (l : List (ℕ × List ℕ)) (h m : ℕ) → list_any (nat_eq m) (list_at l h) ≡ true → AreChanged (λ n. nat_eq n h) (put m) l l
+pub put-there : (l : List (ℕ × List ℕ)) (h m : ℕ) → list_any (nat_eq m) (list_at l h) ≡ true
+    → AreChanged (λ n. nat_eq n h) (put m) l l
 put-there l h m there = λ n.
     bool_cases (nat_eq n h)
     (λ here.
-    let is : list_any (nat_eq m) (list_at l n) ≡ true = ap (λ v. list_any (nat_eq m) (list_at l v)) (eqb-true n h here) ∙ there in
+    let is : list_any (nat_eq m) (list_at l n) ≡ true = ap (λ v. list_any (nat_eq m) (list_at l v)) (eqb-true n h here)
+    ∙ there in
     sym (ap (λ b. if b then list_at l n else inserted m (list_at l n)) is)
     ∙ sym (ap (λ t. if t then put m (list_at l n) else list_at l n) here))
     (λ past. sym (ap (λ t. if t then put m (list_at l n) else list_at l n) past))
 
-pub put-new : (l l' : List (ℕ × List ℕ)) (h m : ℕ) → list_any (nat_eq m) (list_at l h) ≡ false → AreChanged (λ n. nat_eq n h) (inserted m) l l' → AreChanged (λ n. nat_eq n h) (put m) l l'
+pub put-new : (l l' : List (ℕ × List ℕ)) (h m : ℕ) → list_any (nat_eq m) (list_at l h) ≡ false
+    → AreChanged (λ n. nat_eq n h) (inserted m) l l' → AreChanged (λ n. nat_eq n h) (put m) l l'
 put-new l l' h m new is = λ n.
     is n
     ∙ bool_cases (nat_eq n h)
     (λ here.
-    let not_in : list_any (nat_eq m) (list_at l n) ≡ false = ap (λ v. list_any (nat_eq m) (list_at l v)) (eqb-true n h here) ∙ new in
+    let not_in : list_any (nat_eq m) (list_at l n) ≡ false =
+    ap (λ v. list_any (nat_eq m) (list_at l v)) (eqb-true n h here) ∙ new in
     ap (λ t. if t then inserted m (list_at l n) else list_at l n) here
     ∙ sym (ap (λ b. if b then list_at l n else inserted m (list_at l n)) not_in)
     ∙ sym (ap (λ t. if t then put m (list_at l n) else list_at l n) here))
-    (λ past. ap (λ t. if t then inserted m (list_at l n) else list_at l n) past ∙ sym (ap (λ t. if t then put m (list_at l n) else list_at l n) past))
+    (λ past. ap (λ t. if t then inserted m (list_at l n) else list_at l n) past
+    ∙ sym (ap (λ t. if t then put m (list_at l n) else list_at l n) past))

@@ -1,5 +1,4 @@
 pub mod Rising
 pub mod Lists
 pub mod Owners
-pub mod OwnersView
-pub mod Inner
+pub mod inner

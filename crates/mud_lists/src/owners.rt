@@ -6,8 +6,8 @@ ghost use Rattle.std.specs.Char.{to_ascii_lowercase};
 ghost use Rattle.std.specs.Str.{str_to_ascii_lowercase};
 ghost use Rattle.indexmap.specs.IndexMap.{spare};
 ghost use Rattle.mud_lists.specs.Owners.{owner_of, AreOwnersSet, AreOwnersPassed};
-ghost use Rattle.mud_lists.specs.Inner.{seen_of};
-ghost use Rattle.mud_lists.specs.OwnersView.{items_of};
+ghost use Rattle.mud_lists.specs.inner.Views.{seen_of};
+ghost use Rattle.mud_lists.specs.inner.Texts.{items_of};
 
 use indexmap::IndexMap;
 use std::alloc::{AllocError, Global};

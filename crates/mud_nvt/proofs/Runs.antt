@@ -16,7 +16,7 @@ use Rattle.mud_nvt.specs.Lines.{IsPrintable}
 use Rattle.mud_nvt.specs.Editing.{stroke}
 use Rattle.mud_nvt.specs.Memory.{takes_memory}
 use Rattle.mud_nvt.specs.Machine.{Held, next, byte_units, byte_strokes, run, run_units}
-use Rattle.mud_nvt.specs.Inner.{IsTyped, with_text}
+use Rattle.mud_nvt.specs.inner.Typing.{IsTyped, with_text}
 
 -- a terminal that is between two pieces, with a line that isn't too long
 abbrev pub typing : Bool → List ℕ → Held

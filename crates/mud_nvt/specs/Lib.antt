@@ -6,5 +6,5 @@ pub mod Machine
 pub mod Shown
 pub mod Lines
 pub mod History
-pub mod Inner
 pub mod Memory
+pub mod inner

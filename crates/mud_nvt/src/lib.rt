@@ -41,7 +41,7 @@ ghost use Rattle.std.specs.Prelude.{◌≡◌, ◌≤◌, List, ℕ, [], ◌∷�
 ghost use Rattle.std.specs.Prelude.{◌+◌, ◌<◌, slice_index, All, IfSome};
 ghost use Rattle.std.specs.List.{list_any};
 ghost use Rattle.mud_nvt.specs.Machine.{next, byte_units, byte_strokes, after_stroke, stroke_units, run, run_units};
-ghost use Rattle.mud_nvt.specs.Inner.{IsTyped, with_text};
+ghost use Rattle.mud_nvt.specs.inner.Typing.{IsTyped, with_text};
 ghost use Rattle.mud_nvt.specs.Memory.{takes_memory, StopsBefore};
 ghost use Rattle.mud_nvt.specs.Shown.{shown, all_shown};
 ghost use Rattle.mud_nvt.specs.Lines.{IsPlain, IsPrintable, IsSound};

@@ -18,7 +18,7 @@ use Rattle.mud_world.proofs.Records.{record_cases, bool_cases, in_bounds}
 use Rattle.mud_world.proofs.Listed.{leaving_law}
 use Rattle.mud_roads.specs.declared.label.Step.{Step}
 use Rattle.mud_roads.specs.Open.{passable, roads_of, Knowledge, IsTraveller}
-use Rattle.mud_roads.specs.Inner.{step_by, open_step}
+use Rattle.mud_roads.specs.inner.Steps.{step_by, open_step}
 use Rattle.mud_roads.specs.Laws.{IsRoad}
 
 -- ---- what a list of numbers gives

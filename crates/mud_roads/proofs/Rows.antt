@@ -1,8 +1,9 @@
 -- Rows of steps, kept one after the other.
-use Rattle.std.proofs.Common.{◌≡◌, ℕ, zero, suc, ◌+◌, ◌-◌, ◌<◌, ◌≤◌, List, [], ◌∷◌, ◌++◌, length, get_or, take, drop, refl, sym, ◌∙◌, ap, subst, arith}
+use Rattle.std.proofs.Common.{◌≡◌, ℕ, zero, suc, ◌+◌, ◌-◌, ◌<◌, ◌≤◌, List, [], ◌∷◌, ◌++◌, length, get_or, take, drop}
+use Rattle.std.proofs.Common.{refl, sym, ◌∙◌, ap, subst, arith}
 use Rattle.std.proofs.lemmas.List.{length-append, length-drop, drop-drop, take-append-le, drop-append-le, take_all}
 use Rattle.mud_roads.specs.declared.label.Step.{Step}
-use Rattle.mud_roads.specs.Tables.{rows, Fit}
+use Rattle.mud_roads.specs.inner.Tables.{rows, Fit}
 
 -- where row k begins
 abbrev pub begin : ℕ → List ℕ → ℕ → ℕ
@@ -25,7 +26,8 @@ row-within from (end ∷ ends) steps fit (suc k) h =
 
 -- and is this part of them
 pub row-part : (from : ℕ) (ends : List ℕ) (steps : List Step) → Fit from ends steps → (k : ℕ) → k < length ends
-    → get_or (rows from ends steps) k [] ≡ take (get_or ends k 0 - begin from ends k) (drop (begin from ends k - from) steps)
+    → get_or (rows from ends steps) k []
+    ≡ take (get_or ends k 0 - begin from ends k) (drop (begin from ends k - from) steps)
 row-part from [] steps fit k h = absurd (omega arith)
 row-part from (end ∷ ends) steps fit zero h =
     let e : from - from ≡ 0 = omega arith in
@@ -34,31 +36,38 @@ row-part from (end ∷ ends) steps fit (suc k) h =
     let within = row-within end ends (drop (end - from) steps) fit.2 k (omega arith) in
     let e : (end - from) + (begin end ends k - end) ≡ begin end ends k - from = omega (arith, fit.0, within.0) in
     row-part end ends (drop (end - from) steps) fit.2 k (omega arith)
-    ∙ ap (take (get_or ends k 0 - begin end ends k)) (drop-drop (begin end ends k - end) (end - from) steps ∙ ap (λ (n : ℕ). drop n steps) e)
+    ∙ ap (take (get_or ends k 0 - begin end ends k))
+    (drop-drop (begin end ends k - end) (end - from) steps ∙ ap (λ (n : ℕ). drop n steps) e)
 
 -- with the steps of a further row at the end, and where it ends
-pub rows-more : (from : ℕ) (ends : List ℕ) (steps row : List Step) (end : ℕ) → Fit from ends steps → end ≡ from + length steps + length row
+pub rows-more : (from : ℕ) (ends : List ℕ) (steps row : List Step) (end : ℕ) → Fit from ends steps
+    → end ≡ from + length steps + length row
     → rows from (ends ++ end ∷ []) (steps ++ row) ≡ rows from ends steps ++ row ∷ []
 rows-more from [] steps row end fit is =
     let none : length steps ≡ 0 = ap length fit in
     let size : length row ≤ end - from = omega (arith, is, none) in
-    ap (λ (ss : List Step). take (end - from) (ss ++ row) ∷ []) fit ∙ ap (λ (ss : List Step). ss ∷ []) (take_all (end - from) row size)
+    ap (λ (ss : List Step). take (end - from) (ss ++ row) ∷ []) fit
+    ∙ ap (λ (ss : List Step). ss ∷ []) (take_all (end - from) row size)
 rows-more from (first ∷ ends) steps row end fit is =
     let size = length-drop (first - from) steps in
-    let here : take (first - from) (steps ++ row) ≡ take (first - from) steps = take-append-le (first - from) steps row fit.1 in
-    let rest : drop (first - from) (steps ++ row) ≡ drop (first - from) steps ++ row = drop-append-le (first - from) steps row fit.1 in
+    let here : take (first - from) (steps ++ row) ≡ take (first - from) steps =
+    take-append-le (first - from) steps row fit.1 in
+    let rest : drop (first - from) (steps ++ row) ≡ drop (first - from) steps ++ row =
+    drop-append-le (first - from) steps row fit.1 in
     ap (λ (ss : List Step). ss ∷ rows first (ends ++ end ∷ []) (drop (first - from) (steps ++ row))) here
     ∙ ap (λ (ss : List Step). take (first - from) steps ∷ rows first (ends ++ end ∷ []) ss) rest
     ∙ ap (λ (rs : List (List Step)). take (first - from) steps ∷ rs)
     (rows-more first ends (drop (first - from) steps) row end fit.2 (omega (arith, is, size, fit.0, fit.1)))
 
 -- they fit still
-pub fit-more : (from : ℕ) (ends : List ℕ) (steps row : List Step) (end : ℕ) → Fit from ends steps → end ≡ from + length steps + length row
+pub fit-more : (from : ℕ) (ends : List ℕ) (steps row : List Step) (end : ℕ) → Fit from ends steps
+    → end ≡ from + length steps + length row
     → Fit from (ends ++ end ∷ []) (steps ++ row)
 fit-more from [] steps row end fit is =
     let none : length steps ≡ 0 = ap length fit in
     let size = length-append steps row in
-    let past : length (drop (end - from) (steps ++ row)) ≡ 0 = omega (arith, is, none, size, length-drop (end - from) (steps ++ row)) in
+    let past : length (drop (end - from) (steps ++ row)) ≡ 0 =
+    omega (arith, is, none, size, length-drop (end - from) (steps ++ row)) in
     (omega (arith, is), omega (arith, is, size), nothing (drop (end - from) (steps ++ row)) past)
   where
     nothing : (ss : List Step) → length ss ≡ 0 → ss ≡ []

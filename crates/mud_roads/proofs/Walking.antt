@@ -19,7 +19,8 @@ use Rattle.mud_world.specs.State.{State, record_at, exists, has, is_exit, is_num
 use Rattle.mud_world.specs.State.{within, passage_of, destination_of, leaving_of, opens, unlocked}
 use Rattle.mud_world.specs.Sound.{IsSound}
 use Rattle.mud_world.specs.Legal.{fails, refusal, after as world_after}
-use Rattle.mud_world.specs.Inner.{with_record, moved, leaves_from}
+use Rattle.mud_world.specs.inner.Parts.{with_record, moved, leaves_from}
+use Rattle.mud_world.proofs.KindLemmas.{same_passage, same_player}
 use Rattle.mud_world.proofs.Records.{record_cases, lookup-set_value_same, lookup-set_value_other}
 use Rattle.mud_world.proofs.Numbering.{passing-keep}
 use Rattle.mud_world.proofs.Going.{moved_by}
@@ -28,7 +29,7 @@ use Rattle.mud_world.proofs.Sounding.{soundness_law}
 use Rattle.mud_roads.specs.declared.label.Step.{Step}
 use Rattle.mud_roads.specs.Walks.{Roads, Walk}
 use Rattle.mud_roads.specs.Open.{passable, roads_of}
-use Rattle.mud_roads.specs.Inner.{open_step}
+use Rattle.mud_roads.specs.inner.Steps.{open_step}
 use Rattle.mud_roads.specs.Laws.{IsRoad, IsWalked}
 use Rattle.mud_roads.proofs.Roads.{road-at}
 
@@ -56,28 +57,16 @@ module _ (w : State) (p y : ℕ) (r : Record) (at : record_at w p ≡ Some r) wh
       (λ apart. ap f (there n apart))
       (cases_eq n p)
 
-  same_passage : (k : Kind) → kind_passage (kind_at y k) ≡ kind_passage k
-  same_passage Room = refl
-  same_passage (Exit a) = refl
-  same_passage (Thing q) = refl
-  same_passage (Player q) = refl
-
-  same_player : (k : Kind) → is_player_kind (kind_at y k) ≡ is_player_kind k
-  same_player Room = refl
-  same_player (Exit a) = refl
-  same_player (Thing q) = refl
-  same_player (Player q) = refl
-
   kept_passage : (n : ℕ) → passage_of w' n ≡ passage_of w n
-  kept_passage n = kept (λ v. option_and_then (λ r. kind_passage r.kind) v) (same_passage r.kind) n
+  kept_passage n = kept (λ v. option_and_then (λ r. kind_passage r.kind) v) (same_passage y r.kind) n
 
   kept_leaving : (n : ℕ) → leaving_of w' n ≡ leaving_of w n
   kept_leaving n =
       passing-keep (λ r. is_number n (option_map (λ p. p.source) (kind_passage r.kind))) p r' r w.objects at
-      (ap (λ v. is_number n (option_map (λ p. p.source) v)) (same_passage r.kind))
+      (ap (λ v. is_number n (option_map (λ p. p.source) v)) (same_passage y r.kind))
 
   pub kept-player : is_player w' p ≡ is_player w p
-  kept-player = kept (λ v. option_map_or (λ r. is_player_kind r.kind) v false) (same_player r.kind) p
+  kept-player = kept (λ v. option_map_or (λ r. is_player_kind r.kind) v false) (same_player y r.kind) p
 
   -- following places to p does not ask where p is
   kept_comes : (n o : ℕ) → comes_to w' n o p ≡ comes_to w n o p

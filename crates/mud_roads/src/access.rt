@@ -2,8 +2,8 @@
 
 ghost use Rattle.std.specs.Prelude.{◌≡◌, ℕ, [], ◌++◌, IfOk, OnOk, slice_index_or, false};
 ghost use Rattle.mud_roads.specs.Open.{passable, roads_of};
-ghost use Rattle.mud_roads.specs.Inner.{open_step};
-ghost use Rattle.mud_roads.specs.Tables.{Knows};
+ghost use Rattle.mud_roads.specs.inner.Steps.{open_step};
+ghost use Rattle.mud_roads.specs.inner.Tables.{Knows};
 
 use crate::Step;
 use crate::table::Table;
@@ -36,7 +36,7 @@ impl Access {
     }
 
     // Whether the object is unlocked for him.
-    fn is_open(&self, number: u32) -> bool
+    fn is_unlocked(&self, number: u32) -> bool
         ensures { result ≡ slice_index_or self.now.opened.items number false }
     {
         match self.opened.get(number as usize) {
@@ -51,7 +51,7 @@ impl Access {
         ensures { result ≡ open_step world.now self.now.player exit }
     {
         let passage = world.passage(exit)?;
-        if self.is_open(exit) && self.is_open(passage.destination) {
+        if self.is_unlocked(exit) && self.is_unlocked(passage.destination) {
             Some(Step {
                 exit,
                 to: passage.destination,
@@ -68,7 +68,7 @@ impl Access {
         ensures { result ≡ passable world.now self.now.player exit }
     {
         match world.passage(exit) {
-            Some(passage) => self.is_open(exit) && self.is_open(passage.destination),
+            Some(passage) => self.is_unlocked(exit) && self.is_unlocked(passage.destination),
             None => false,
         }
     }

@@ -1,7 +1,7 @@
 //! Steps by room.
 
 ghost use Rattle.std.specs.Prelude.{◌≡◌, ◌-◌, ◌<◌, ◌≤◌, [], ◌∷◌, length, take, drop, slice_index_or};
-ghost use Rattle.mud_roads.specs.Tables.{rows, Fit};
+ghost use Rattle.mud_roads.specs.inner.Tables.{rows, Fit};
 
 use crate::Step;
 use std::marker::Model;
@@ -18,7 +18,7 @@ pub(crate) struct Table {
 impl Model for Table {
     ghost use Rattle.std.specs.Prelude.{List};
     ghost use Rattle.mud_roads.specs.declared.label.Step.{Step};
-    ghost use Rattle.mud_roads.specs.Tables.{rows, Fit};
+    ghost use Rattle.mud_roads.specs.inner.Tables.{rows, Fit};
 
     ghost Value = { List (List Step) };
 

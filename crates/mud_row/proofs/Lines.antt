@@ -1,29 +1,30 @@
 -- The text of a history, one line further.
-use Rattle.std.proofs.Common.{◌≡◌, ◌≤◌, ℕ, ◌+◌, List, [], ◌∷◌, ◌++◌, length, drop, Some, slice_get, codes, refl, sym, ap}
+use Rattle.std.proofs.Common.{◌≡◌, ◌≤◌, ℕ, ◌+◌, List, [], ◌∷◌, ◌++◌, length, drop, Some, slice_get, codes, refl, sym}
+use Rattle.std.proofs.Common.{ap}
 use Rattle.std.proofs.Common.{◌∙◌, append_assoc, add-one}
 use Rattle.std.proofs.lemmas.List.{drop_more, drop_all, append-nil}
 use Rattle.std.proofs.lemmas.Option.{slice_get_within, get_or_from_slice_get}
 use Rattle.mud_chron.specs.declared.format.Format.TheVariants.{Two}
-use Rattle.mud_chron.specs.Entry.{Accepted}
+use Rattle.mud_chron.specs.Entry.{Entry}
 use Rattle.mud_chron.specs.Text.{entry_line, entries_text, end_line, history_text, line_feed}
 use Rattle.mud_row.specs.Known.{entry_at, lines_after}
 
 -- entries are counted from 1, and places from 0
-pub entry_at-place : (es : List Accepted) (n : ℕ) → entry_at es (n + 1) ≡ slice_get es n
+pub entry_at-place : (es : List Entry) (n : ℕ) → entry_at es (n + 1) ≡ slice_get es n
 entry_at-place es n = rw (add-one n) refl
 
 -- from the entry after the first n on
-drop-at : (es : List Accepted) (n : ℕ) (e : Accepted) → slice_get es n ≡ Some e → drop n es ≡ e ∷ drop (n + 1) es
+drop-at : (es : List Entry) (n : ℕ) (e : Entry) → slice_get es n ≡ Some e → drop n es ≡ e ∷ drop (n + 1) es
 drop-at es n e at =
     drop_more es n e (slice_get_within es n e at)
-    ∙ ap (λ (x : Accepted). x ∷ drop (n + 1) es) (get_or_from_slice_get es n e e at)
+    ∙ ap (λ (x : Entry). x ∷ drop (n + 1) es) (get_or_from_slice_get es n e e at)
 
-lines_after-next : (es : List Accepted) (n : ℕ) (e : Accepted) → slice_get es n ≡ Some e
+lines_after-next : (es : List Entry) (n : ℕ) (e : Entry) → slice_get es n ≡ Some e
     → lines_after n es ≡ (entry_line (n + 1) e ++ line_feed) ++ lines_after (n + 1) es
 lines_after-next es n e at = ap (entries_text (n + 1)) (drop-at es n e at)
 
 -- the line of the entry after the first n was written
-pub line_written : (es : List Accepted) (n : ℕ) (e : Accepted) (old new : List ℕ) → entry_at es (n + 1) ≡ Some e
+pub line_written : (es : List Entry) (n : ℕ) (e : Entry) (old new : List ℕ) → entry_at es (n + 1) ≡ Some e
     → new ≡ old ++ entry_line (n + 1) e ++ line_feed → new ++ lines_after (n + 1) es ≡ old ++ lines_after n es
 line_written es n e old new at is =
     let line : List ℕ = entry_line (n + 1) e in
@@ -33,7 +34,7 @@ line_written es n e old new at is =
     ∙ ap (λ (t : List ℕ). old ++ t) (sym (lines_after-next es n e here))
 
 -- after all lines the last one was written
-pub text_written : (es : List Accepted) (n count : ℕ) (old mid new : List ℕ)
+pub text_written : (es : List Entry) (n count : ℕ) (old mid new : List ℕ)
     → mid ++ lines_after n es ≡ (old ++ codes "mud history 2\n") ++ lines_after 0 es → length es ≤ n → count ≡ length es
     → new ≡ mid ++ end_line count ++ line_feed → new ≡ old ++ history_text Two es
 text_written es n count old mid new so past same is =

@@ -2,55 +2,55 @@
 use Rattle.std.specs.Prelude.{◌≡◌, ◌≤◌, ◌+◌, length, ℕ, zero, suc, List, [], ◌∷◌, ◌++◌, Option, Some, None}
 use Rattle.std.specs.Prelude.{slice_get, take, drop}
 use Rattle.once_cell.specs.declared.race.note.Note.{Note}
-use Rattle.mud_chron.specs.Entry.{Accepted}
+use Rattle.mud_chron.specs.Entry.{Entry}
 use Rattle.mud_chron.specs.Text.{entries_text}
 
 -- a pass: the names of the cells of its row, in order, and the entries of the first cells, which it knows
 pub record Known : Type 0 where
   pub row : List ℕ
-  pub list : List Accepted
+  pub list : List Entry
 
 -- a replica: what its pass knows, and how many of the known entries its world took in
 pub record Standing : Type 0 where
   pub row : List ℕ
-  pub list : List Accepted
+  pub list : List Entry
   pub at : ℕ
 
 -- the names of the cells that these notes are of
-abbrev pub names_of : List (Note Accepted) → List ℕ
+abbrev pub names_of : List (Note Entry) → List ℕ
 names_of [] = []
 names_of (n ∷ ns) = n.cell ∷ names_of ns
 
 -- entries with this one in front, if there is one
-abbrev pub entry_first : Option Accepted → List Accepted → List Accepted
+abbrev pub entry_first : Option Entry → List Entry → List Entry
 entry_first None es = []
 entry_first (Some e) es = e ∷ es
 
 -- the entries of the first so many notes, up to one that knows none
-abbrev pub known_front : ℕ → List (Note Accepted) → List Accepted
+abbrev pub known_front : ℕ → List (Note Entry) → List Entry
 known_front zero ns = []
 known_front (suc k) [] = []
 known_front (suc k) (n ∷ ns) = entry_first n.known (known_front k ns)
 
 -- what a holder of notes knows. A reader need not look into this: contracts give each entry, and speak of a `Known`
-abbrev pub known_of : ℕ → List (Note Accepted) → Known
+abbrev pub known_of : ℕ → List (Note Entry) → Known
 known_of count notes = record { row = names_of notes; list = known_front count notes }
 
 -- how notes stand in memory. A reader need not look into this: contracts speak only of a `Known`
-abbrev pub AreCounted : ℕ → List (Note Accepted) → Type 0
+abbrev pub AreCounted : ℕ → List (Note Entry) → Type 0
 AreCounted count notes = (length notes ≤ 65536) × (length (known_front count notes) ≡ count)
 
 -- entry n, counted from 1
-abbrev pub entry_at : List Accepted → ℕ → Option Accepted
+abbrev pub entry_at : List Entry → ℕ → Option Entry
 entry_at es zero = None
 entry_at es (suc n) = slice_get es n
 
 -- the list is longer by some first ones of the entries
-pub record Fills (old entries new : List Accepted) : Type 0 where
+pub record Fills (old entries new : List Entry) : Type 0 where
   pub count : ℕ
   pub few : count ≤ length entries
   pub is : new ≡ old ++ take count entries
 
 -- the lines of the entries after the first n, in a history's text
-abbrev pub lines_after : ℕ → List Accepted → List ℕ
+abbrev pub lines_after : ℕ → List Entry → List ℕ
 lines_after n es = entries_text (n + 1) (drop n es)

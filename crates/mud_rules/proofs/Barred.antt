@@ -1,6 +1,6 @@
 -- Where a text can't be read, the line is refused by what bars the player already, or by its own refusal.
 use Rattle.std.proofs.Common.{◌≡◌, ℕ, Bool, true, false, cond, List, [], ◌∷◌, ◌++◌, Option, Some, None, refl, sym}
-use Rattle.std.proofs.Common.{◌∙◌, ap}
+use Rattle.std.proofs.Common.{◌∙◌, ap, drop}
 use Rattle.std.specs.Prelude.{find, not, ◌||◌, unwrap_or, if◌then◌else◌}
 use Rattle.std.specs.Option.{option_map_or}
 use Rattle.mud_key.specs.Tree.{Tree}
@@ -21,8 +21,8 @@ use Rattle.mud_world.specs.Conditions.{owns}
 use Rattle.mud_world.specs.Legal.{fails, refusal}
 use Rattle.mud_rules.specs.declared.verdict.Verdict.TheVariants.{Change as Changes, Refused}
 use Rattle.mud_rules.specs.Outcome.{outcome, does}
-use Rattle.mud_rules.specs.Inner.{all_refusals, refuses}
-use Rattle.mud_rules.specs.Steps.{no_player, no_room, not_his}
+use Rattle.mud_rules.specs.inner.Parts.{all_refusals, refuses}
+use Rattle.mud_rules.specs.inner.Steps.{no_player, no_room, not_his}
 use Rattle.mud_rules.proofs.Least.{Agree, lesser-agree}
 use Rattle.mud_rules.proofs.Ordered.{outcome_is, outcome_first}
 
@@ -189,110 +189,23 @@ as_own w e own same =
     (find-agree (λ f. refuses None f || fails w e f) (λ f. refuses (Some own) f || fails w e f) all_refusals same)
     ∙ sym (outcome_first w (Some own) e)
 
+-- where no text is said, the condition of the name holds of the change, and own or not makes no difference
+agree-but_name : (w : State) (e : Change) → fails w e BadName ≡ true
+    → Agree (λ f. refuses None f || fails w e f) (λ f. refuses (Some BadName) f || fails w e f) all_refusals
+agree-but_name w e bad = (refl, (refl, (refl, (refl, (refl, (refl, (bad, later)))))))
+  where
+    later : Agree (λ f. refuses None f || fails w e f) (λ f. refuses (Some BadName) f || fails w e f)
+        (drop 7 all_refusals)
+    later = (refl, (refl, (refl, (refl, (refl, (refl, (refl, (refl, (refl, (refl, (refl, tt)))))))))))
+
 pub saying_barred : (w : State) (p : ℕ) (text : List ℕ) → is_speech text ≡ false
     → Refused (unwrap_or (no_player w p) BadName) ≡ does w p None (Say text)
 saying_barred w p text silent =
     by_player w p (Say text) (refl, (refl, (refl, (refl, tt))))
-    ∙ sym (as_own w (done p (Say text)) BadName (
-      refl,
-      (
-        refl,
-        (
-          refl,
-          (
-            refl,
-            (
-              refl,
-              (
-                refl,
-                (
-                  ap not silent,
-                  (
-                    refl,
-                    (
-                      refl,
-                      (
-                        refl,
-                        (
-                          refl,
-                          (
-                            refl,
-                            (
-                              refl,
-                              (
-                                refl,
-                                (
-                                  refl,
-                                  (
-                                    refl,
-                                    (refl, (refl, tt)),
-                                  ),
-                                ),
-                              ),
-                            ),
-                          ),
-                        ),
-                      ),
-                    ),
-                  ),
-                ),
-              ),
-            ),
-          ),
-        ),
-      ),
-    ))
+    ∙ sym (as_own w (done p (Say text)) BadName (agree-but_name w (done p (Say text)) (ap not silent)))
 
 pub emoting_barred : (w : State) (p : ℕ) (text : List ℕ) → is_speech text ≡ false
     → Refused (unwrap_or (no_player w p) BadName) ≡ does w p None (Emote text)
 emoting_barred w p text silent =
     by_player w p (Emote text) (refl, (refl, (refl, (refl, tt))))
-    ∙ sym (as_own w (done p (Emote text)) BadName (
-      refl,
-      (
-        refl,
-        (
-          refl,
-          (
-            refl,
-            (
-              refl,
-              (
-                refl,
-                (
-                  ap not silent,
-                  (
-                    refl,
-                    (
-                      refl,
-                      (
-                        refl,
-                        (
-                          refl,
-                          (
-                            refl,
-                            (
-                              refl,
-                              (
-                                refl,
-                                (
-                                  refl,
-                                  (
-                                    refl,
-                                    (refl, (refl, tt)),
-                                  ),
-                                ),
-                              ),
-                            ),
-                          ),
-                        ),
-                      ),
-                    ),
-                  ),
-                ),
-              ),
-            ),
-          ),
-        ),
-      ),
-    ))
+    ∙ sym (as_own w (done p (Emote text)) BadName (agree-but_name w (done p (Emote text)) (ap not silent)))

@@ -19,7 +19,7 @@ use Rattle.mud_key.proofs.NamesTaken.{are_names}
 use Rattle.mud_key.proofs.Resolving.{resolved_key}
 use Rattle.mud_words.specs.Line.{Line}
 use Rattle.mud_words.specs.Parse.{parsed}
-use Rattle.mud_words.specs.Searching.{joined}
+use Rattle.mud_words.specs.inner.Searching.{joined}
 use Rattle.mud_words.specs.declared.Prep.TheVariants.{With, To, Is}
 use Rattle.mud_world.specs.Speech.{is_speech}
 use Rattle.mud_world.specs.Refusals.{number, lesser}
@@ -27,7 +27,7 @@ use Rattle.mud_world.specs.State.{State, exists, named_player, is_room, is_playe
 use Rattle.mud_world.specs.Sound.{IsSound}
 use Rattle.mud_world.specs.Legal.{refusal, is_arrival}
 use Rattle.mud_world.specs.Parts.{HasParts, IsTarget}
-use Rattle.mud_world.specs.Inner.{AreDoors}
+use Rattle.mud_world.specs.inner.Parts.{AreDoors}
 use Rattle.mud_world.specs.declared.change.Change.{Change}
 use Rattle.mud_world.specs.declared.change.Deed.{Deed}
 use Rattle.mud_world.specs.declared.change.Deed.TheVariants as deed
@@ -53,10 +53,10 @@ use Rattle.mud_rules.specs.declared.verdict.Journey.TheVariants.{Route}
 use Rattle.mud_rules.proofs.Parties.{meet-lawful}
 use Rattle.mud_rules.specs.Commands.{key_meant}
 use Rattle.mud_rules.specs.Commands.{doors_in, is_bar, target_in, dig_between}
-use Rattle.mud_rules.specs.Inner.{create, rename, cost, lock, dig_room, has_bar, dig_exits, connecting, connect}
-use Rattle.mud_rules.specs.Inner.{route, meet, is_aimed}
-use Rattle.mud_rules.specs.Inner.{near_named}
-use Rattle.mud_rules.specs.Inner.{first_of, has_empty_side}
+use Rattle.mud_rules.specs.inner.Parts.{create, rename, cost, lock, dig_room, has_bar, dig_exits, connecting, connect}
+use Rattle.mud_rules.specs.inner.Parts.{route, meet, is_aimed}
+use Rattle.mud_rules.specs.inner.Parts.{near_named}
+use Rattle.mud_rules.specs.inner.Parts.{first_of, has_empty_side}
 use Rattle.mud_rules.specs.Shapes.{all_of, looked_at, is_pair, text_behind}
 use Rattle.mud_rules.specs.Shapes.{object_named, object_before}
 use Rattle.mud_rules.specs.Table.{connect_line, journey_of, command, other_line, guest, decision, verb_named}

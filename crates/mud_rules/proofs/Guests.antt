@@ -18,7 +18,7 @@ use Rattle.mud_rules.specs.declared.verdict.Verdict.{Verdict}
 use Rattle.mud_rules.specs.declared.verdict.Verdict.TheVariants as verdict
 use Rattle.mud_rules.specs.Outcome.{outcome, shaped}
 use Rattle.mud_rules.specs.Matching.{is_empty}
-use Rattle.mud_rules.specs.Inner.{connect, connecting, first_of}
+use Rattle.mud_rules.specs.inner.Parts.{connect, connecting, first_of}
 use Rattle.mud_rules.specs.Table.{guest, decision, verb_named}
 use Rattle.mud_rules.specs.declared.verdict.Journey.{Journey}
 use Rattle.mud_rules.proofs.Ordered.{outcome_is}

@@ -15,8 +15,8 @@ use Rattle.mud_rules.specs.declared.matching.Likeness.TheVariants.{Equal, Prefix
 use Rattle.mud_rules.specs.declared.matching.Match.{Match}
 use Rattle.mud_rules.specs.declared.matching.Match.TheVariants.{NoSuch, Ambiguous}
 use Rattle.mud_rules.specs.Matching.{is_like, sole, sole_like}
-use Rattle.mud_rules.specs.Inner.{is_named}
-use Rattle.mud_rules.specs.Steps.{fits, sole_fit}
+use Rattle.mud_rules.specs.inner.Parts.{is_named}
+use Rattle.mud_rules.specs.inner.Steps.{fits, sole_fit}
 use Rattle.mud_rules.proofs.Least.{bool_cases}
 
 -- ---- one name

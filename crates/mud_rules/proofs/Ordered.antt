@@ -19,8 +19,8 @@ use Rattle.mud_rules.specs.declared.verdict.Verdict.TheVariants.{Change as Chang
 use Rattle.mud_rules.specs.Outcome.{outcome}
 use Rattle.mud_rules.specs.declared.verdict.Journey.TheVariants.{Meet}
 use Rattle.mud_rules.specs.Journeys.{meeting, least_refusal}
-use Rattle.mud_rules.specs.Inner.{members, all_refusals, refuses}
-use Rattle.mud_rules.specs.Steps.{unfit}
+use Rattle.mud_rules.specs.inner.Parts.{members, all_refusals, refuses}
+use Rattle.mud_rules.specs.inner.Steps.{unfit}
 use Rattle.mud_rules.proofs.Least.{lesser_first, find-append_miss}
 
 -- three refusals are of lines alone

@@ -14,8 +14,8 @@ use Rattle.mud_world.specs.State.{State, is_player}
 use Rattle.mud_rules.specs.Matching.{player_match}
 use Rattle.mud_rules.specs.Party.{IsParty, all_distinct, is_party}
 use Rattle.mud_rules.specs.Journeys.{player_meant, least_refusal}
-use Rattle.mud_rules.specs.Inner.{members, meet}
-use Rattle.mud_rules.specs.Steps.{unfit}
+use Rattle.mud_rules.specs.inner.Parts.{members, meet}
+use Rattle.mud_rules.specs.inner.Steps.{unfit}
 use Rattle.mud_key.specs.Parts.{parts_of}
 use Rattle.mud_rules.specs.declared.verdict.Journey.TheVariants.{Meet}
 use Rattle.mud_rules.specs.Outcome.{IsJourney, of_kind, found as meant}

@@ -10,7 +10,7 @@ use Rattle.std.proofs.lemmas.Bool.{true≢false}
 use Rattle.mud_key.specs.Reading.{name_in}
 use Rattle.mud_words.specs.Line.{Line}
 use Rattle.mud_words.specs.Parse.{parsed}
-use Rattle.mud_words.specs.Searching.{joined}
+use Rattle.mud_words.specs.inner.Searching.{joined}
 use Rattle.mud_words.specs.declared.Prep.TheVariants.{To}
 use Rattle.mud_world.specs.Refusals.{lesser}
 use Rattle.mud_world.specs.State.{State, named_player}
@@ -27,10 +27,11 @@ use Rattle.mud_rules.specs.declared.verdict.Verdict.{Verdict}
 use Rattle.mud_rules.specs.declared.verdict.Verdict.TheVariants as verdict
 use Rattle.mud_rules.specs.Matching.{is_empty}
 use Rattle.mud_rules.specs.Outcome.{outcome, does, on_found, shaped}
-use Rattle.mud_rules.specs.Inner.{connect, connecting, dig_room, dig_exits, first_of, has_empty_side}
+use Rattle.mud_rules.specs.inner.Parts.{connect, connecting, dig_room, dig_exits, first_of, has_empty_side}
 use Rattle.mud_rules.specs.Shapes.{all_of, looked_at, object_named, is_pair, text_behind}
 use Rattle.mud_rules.specs.Table.{journey_of}
-use Rattle.mud_rules.specs.Table.{question_verbs, other_verbs, verb_named, connect_line, command, other_line, guest, decision}
+use Rattle.mud_rules.specs.Table.{question_verbs, other_verbs, verb_named, connect_line, command, other_line, guest}
+use Rattle.mud_rules.specs.Table.{decision}
 use Rattle.mud_rules.specs.Laws.{AreQuestions}
 use Rattle.mud_rules.proofs.Ordered.{outcome_is}
 use Rattle.mud_rules.proofs.Finding.{lookup-append}

@@ -10,5 +10,4 @@ pub mod Listing
 pub mod Replies
 pub mod Answers
 pub mod Hearing
-pub mod Steps
-pub mod Inner
+pub mod inner

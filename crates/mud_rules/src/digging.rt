@@ -2,7 +2,7 @@
 
 ghost use Rattle.std.specs.Prelude.{◌≡◌, IfOk};
 ghost use Rattle.mud_rules.specs.Commands.{doors_in, target_in};
-ghost use Rattle.mud_rules.specs.Inner.{has_empty_side};
+ghost use Rattle.mud_rules.specs.inner.Parts.{has_empty_side};
 
 use crate::matching::object_number;
 use crate::naming::names_in;

@@ -7,8 +7,8 @@ ghost use Rattle.mud_rules.specs.Matching.{room_match};
 ghost use Rattle.mud_rules.specs.Party.{all_distinct, is_party};
 ghost use Rattle.mud_rules.specs.Outcome.{found as found_one, of_kind};
 ghost use Rattle.mud_rules.specs.Journeys.{player_meant, meeting, least_refusal};
-ghost use Rattle.mud_rules.specs.Inner.{route, members, meet};
-ghost use Rattle.mud_rules.specs.Steps.{unfit};
+ghost use Rattle.mud_rules.specs.inner.Parts.{route, members, meet};
+ghost use Rattle.mud_rules.specs.inner.Steps.{unfit};
 
 use crate::actor::Actor;
 use crate::matching::{player_match, room_match};

@@ -4,9 +4,9 @@ ghost use Rattle.std.specs.Prelude.{◌≡◌, ◌&&◌, ◌<◌, filter, length
 ghost use Rattle.std.specs.List.{list_any, range_with_len};
 ghost use Rattle.mud_rules.specs.declared.matching.Likeness.TheVariants.{Equal, Prefix};
 ghost use Rattle.mud_rules.specs.Matching.{is_like, sole_like, or_else, number_in, object_number};
-ghost use Rattle.mud_rules.specs.Inner.{is_named, digits_value};
+ghost use Rattle.mud_rules.specs.inner.Parts.{is_named, digits_value};
 ghost use Rattle.mud_rules.specs.Matching.{candidates, match_with, local_match, room_match, player_match};
-ghost use Rattle.mud_rules.specs.Steps.{direct_match, fits, sole_fit, together, is_sort};
+ghost use Rattle.mud_rules.specs.inner.Steps.{direct_match, fits, sole_fit, together, is_sort};
 ghost use Rattle.mud_world.specs.State.{exists, place_of};
 
 use crate::comparing::is_same;

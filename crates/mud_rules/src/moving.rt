@@ -6,7 +6,7 @@ ghost use Rattle.mud_world.specs.Conditions.{shares_room};
 ghost use Rattle.mud_world.specs.declared.change.Deed.TheVariants as deed;
 ghost use Rattle.mud_rules.specs.Outcome.{found as found_one, on_found, does};
 ghost use Rattle.mud_rules.specs.Commands.{give};
-ghost use Rattle.mud_rules.specs.Inner.{drop_down, put};
+ghost use Rattle.mud_rules.specs.inner.Parts.{drop_down, put};
 ghost use Rattle.mud_rules.specs.Table.{command};
 ghost use Rattle.mud_rules.specs.declared.verb.Verb.{Verb};
 

@@ -2,9 +2,9 @@
 
 ghost use Rattle.std.specs.Prelude.{◌≡◌, ◌∷◌, IfOk, map, string_bytes};
 ghost use Rattle.mud_words.specs.Line.{line_of};
-ghost use Rattle.mud_words.specs.Searching.{joined};
+ghost use Rattle.mud_words.specs.inner.Searching.{joined};
 ghost use Rattle.mud_rules.specs.Shapes.{all_of, looked_at, is_prep, is_pair};
-ghost use Rattle.mud_rules.specs.Inner.{first_of, is_aimed};
+ghost use Rattle.mud_rules.specs.inner.Parts.{first_of, is_aimed};
 
 use mud_words::{Parsed, Prep};
 use std::alloc::{AllocError, Global};

@@ -4,7 +4,7 @@ ghost use Rattle.std.specs.Prelude.{◌≡◌, map};
 ghost use Rattle.std.specs.Option.{is_some};
 ghost use Rattle.std.specs.Map.{lookup};
 ghost use Rattle.std.specs.Str.{str_eq_ignore_ascii_case};
-ghost use Rattle.mud_rules.specs.Steps.{row_of};
+ghost use Rattle.mud_rules.specs.inner.Steps.{row_of};
 ghost use Rattle.mud_rules.specs.Table.{verb_named, question_verbs};
 
 use crate::comparing::is_word;
@@ -80,7 +80,10 @@ impl Verb {
     pub(crate) fn named(text: &str) -> Option<Verb>
         ensures { result ≡ verb_named text.now }
     {
-        verb_in(QUESTIONS, text).or(verb_in(OTHERS, text))
+        match verb_in(QUESTIONS, text) {
+            Some(verb) => Some(verb),
+            None => verb_in(OTHERS, text),
+        }
     }
 
     /// Whether a word names the verb of a question.

@@ -16,7 +16,7 @@ use Rattle.mud_roads.proofs.Routes.{label-ext}
 use Rattle.mud_search.specs.declared.slot.Slot.{Slot}
 use Rattle.mud_search.specs.declared.slot.Slot.TheVariants.{Unknown, Open, Held, Finished}
 use Rattle.mud_search.specs.Boards.{slot_at, label_at, is_below, falls, offered, offers, settled, Below, IsBoardOf}
-use Rattle.mud_search.specs.Trails.{visited, is_in, IsWalked}
+use Rattle.mud_search.specs.inner.Trails.{visited, is_in, IsWalked}
 use Rattle.mud_search.specs.Slots.{label_of, is_open, is_held}
 use Rattle.mud_search.proofs.Inside.{AreWithin}
 use Rattle.mud_search.proofs.Trails.{Falls, trail-falls, trail-reaches, trail-walk, trail-short, trail-cost}

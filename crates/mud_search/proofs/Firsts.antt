@@ -11,7 +11,7 @@ use Rattle.mud_search.specs.declared.slot.Slot.TheVariants.{Unknown, Open}
 use Rattle.mud_search.specs.declared.task.Task.{Task}
 use Rattle.mud_search.specs.Boards.{slot_at, is_below, IsBefore, slot_of, lesser}
 use Rattle.mud_search.specs.Tasks.{IsFirst}
-use Rattle.mud_search.specs.Inner.{IsTaskBefore}
+use Rattle.mud_search.specs.inner.Order.{IsTaskBefore}
 
 -- the task is the first of the members so far; with none no room of theirs is open
 abbrev pub BestSoFar : List (List Slot) → ℕ → Option Task → Type 0

@@ -27,7 +27,7 @@ use Rattle.mud_search.specs.Slots.{label_of, is_open, is_held}
 use Rattle.mud_search.specs.Facts.{IsFrontier}
 use Rattle.mud_search.specs.Tasks.{IsBegun, IsChanged, IsDone}
 use Rattle.mud_search.specs.Least.{AreLeast, AreBounded, label_in}
-use Rattle.mud_search.specs.Inner.{labels_in}
+use Rattle.mud_search.specs.inner.Order.{labels_in}
 use Rattle.mud_search.specs.Tables.{table}
 use Rattle.mud_search.proofs.Trails.{Falls, trail-walk, total-reverse}
 use Rattle.mud_search.proofs.Faithful.{faithful-relabelled, faithful-settled, label-bound, rest-least, IsStill}

@@ -8,7 +8,7 @@ use Rattle.std.proofs.lemmas.List.{length-map, ext_get_or, get_or-map, get_or_pa
 use Rattle.std.proofs.lemmas.List.{get_or-replicate, length-replicate}
 use Rattle.mud_roads.specs.declared.label.Label.{Label}
 use Rattle.mud_search.specs.declared.queue.Entry.{Entry}
-use Rattle.mud_search.specs.Queues.{entry_at, place_at, label_there, waiting_labels, IsMatched, IsSwapped}
+use Rattle.mud_search.specs.inner.Queues.{entry_at, place_at, label_there, waiting_labels, IsMatched, IsSwapped}
 
 pub length_labels : (es : List Entry) (ps : List ℕ) (w : ℕ) → IsMatched es ps
     → length (waiting_labels es ps w) ≡ length es

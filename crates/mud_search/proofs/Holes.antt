@@ -3,8 +3,8 @@ use Rattle.std.proofs.Common.{◌≡◌, ◌≢◌, ℕ, ◌-◌, ◌/◌, ◌<�
 use Rattle.std.proofs.Common.{get_or, get_or-set_same, get_or-set_other, length-set}
 use Rattle.std.proofs.lemmas.List.{get_or_read, set-set, set_comm, set-get_or}
 use Rattle.mud_search.specs.declared.queue.Entry.{Entry}
-use Rattle.mud_search.specs.Queues.{entry_at, place_at, waiting_labels, IsMatched, IsNoLater, IsFirstBelow}
-use Rattle.mud_search.specs.Queues.{IsOrderedDownTo, IsSwapped}
+use Rattle.mud_search.specs.inner.Queues.{entry_at, place_at, waiting_labels, IsMatched, IsNoLater, IsFirstBelow}
+use Rattle.mud_search.specs.inner.Queues.{IsOrderedDownTo, IsSwapped}
 use Rattle.mud_search.proofs.Heaps.{swapped_entries, swapped_matched, swapped_labels, one_entry}
 use Rattle.mud_search.proofs.Mending.{moved, sunk}
 
@@ -59,7 +59,8 @@ sunk_on es ps w at below e n m fits within f before is o =
     let rooms : e.room ≢ n.room =
     λ same. apart (one_entry fs qs below at m other one (ap room (sym there) ∙ sym same ∙ ap room here)) in
     let places : set (set qs n.room at) e.room below ≡ rs =
-    ap (λ xs. set xs e.room below) (set_comm ps e.room n.room at at rooms) ∙ set-set (set ps n.room at) e.room at below in
+    ap (λ xs. set xs e.room below) (set_comm ps e.room n.room at at rooms)
+    ∙ set-set (set ps n.room at) e.room at below in
     let Q : List Entry → Type 0 = λ xs. IsMatched (set xs below e) (set (set qs n.room at) e.room below) in
     let R : List ℕ → Type 0 = λ xs. IsMatched gs xs in
     let matched : IsMatched gs rs =

@@ -1,7 +1,7 @@
 -- The order of entries.
 use Rattle.std.proofs.Common.{◌≤◌, arith}
 use Rattle.mud_search.specs.declared.queue.Entry.{Entry}
-use Rattle.mud_search.specs.Queues.{IsNoLater}
+use Rattle.mud_search.specs.inner.Queues.{IsNoLater}
 
 pub no_later_itself : (a : Entry) → IsNoLater a a
 no_later_itself a = (omega arith, λ e. (omega arith, λ f. omega arith))

@@ -11,7 +11,7 @@ use Rattle.mud_roads.specs.Walks.{Least}
 use Rattle.mud_roads.specs.Open.{Knowledge, roads_of}
 use Rattle.mud_search.specs.Least.{label_in}
 use Rattle.mud_search.specs.Tables.{Table, table, lists_in}
-use Rattle.mud_search.specs.Parts.{AreFound}
+use Rattle.mud_search.specs.inner.Parts.{AreFound}
 
 -- two tables, one after the other
 abbrev pub beside : Table (Option Label) → Table (Option Label) → Table (Option Label)

@@ -16,7 +16,7 @@ use Rattle.mud_roads.specs.Walks.{Roads, Walk, AtMost, total}
 use Rattle.mud_roads.specs.Labels.{start_label, Reaches}
 use Rattle.mud_roads.proofs.Bounds.{reaches-weaken}
 use Rattle.mud_roads.proofs.Routes.{walk-snoc, label-ext}
-use Rattle.mud_search.specs.Trails.{visited, is_in, Trail}
+use Rattle.mud_search.specs.inner.Trails.{visited, is_in, Trail}
 use Rattle.mud_search.proofs.Inside.{AreWithin}
 
 -- what reaches a room under the one labels does under the other

@@ -14,7 +14,7 @@ use Rattle.mud_search.specs.declared.slot.Slot.{Slot}
 use Rattle.mud_search.specs.declared.slot.Slot.TheVariants.{Unknown, Open, Held, Finished}
 use Rattle.mud_search.specs.declared.task.Task.{Task}
 use Rattle.mud_search.specs.Slots.{is_open, is_held, label_of}
-use Rattle.mud_search.specs.Trails.{IsTraced}
+use Rattle.mud_search.specs.inner.Trails.{IsTraced}
 
 -- ---- one member's slots
 

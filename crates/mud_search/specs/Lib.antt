@@ -1,11 +1,8 @@
 pub mod Boards
 pub mod Facts
 pub mod Least
-pub mod Parts
-pub mod Queues
 pub mod Rooms
 pub mod Slots
 pub mod Tables
 pub mod Tasks
-pub mod Trails
-pub mod Inner
+pub mod inner

@@ -38,7 +38,7 @@ pub(crate) struct Queue {
 impl Model for Queue {
     ghost use Rattle.std.specs.Prelude.{List, Option};
     ghost use Rattle.mud_roads.specs.declared.label.Label.{Label};
-    ghost use Rattle.mud_search.specs.Queues.{IsQueue, heap_labels};
+    ghost use Rattle.mud_search.specs.inner.Queues.{IsQueue, heap_labels};
 
     ghost Value = { List (Option Label) };
 
@@ -118,8 +118,8 @@ impl Queue {
 }
 
 impl Heap {
-    ghost use Rattle.mud_search.specs.Queues.{entry_at, heap_labels, IsNoLater, IsMatched, IsQueue, IsOrderedBut};
-    ghost use Rattle.mud_search.specs.Queues.{IsOrderedDownTo, IsFirstBelow, IsSwapped};
+    ghost use Rattle.mud_search.specs.inner.Queues.{entry_at, heap_labels, IsNoLater, IsMatched, IsQueue, IsOrderedBut};
+    ghost use Rattle.mud_search.specs.inner.Queues.{IsOrderedDownTo, IsFirstBelow, IsSwapped};
 
     // Brings a room to those that wait, and says where it stands; its label means nothing yet.
     fn admit(&mut self, room: u32) -> usize

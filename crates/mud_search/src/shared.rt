@@ -4,7 +4,7 @@ ghost use Rattle.std.specs.Prelude.{◌≡◌, ◌≤◌, ℕ, All, None, IfOk, 
 ghost use Rattle.std.specs.Thread.{IsSync};
 ghost use Rattle.mud_roads.specs.Open.{IsTraveller};
 ghost use Rattle.mud_search.specs.Least.{label_in, AreLeast, AreBounded};
-ghost use Rattle.mud_search.specs.Parts.{AreFound};
+ghost use Rattle.mud_search.specs.inner.Parts.{AreFound};
 
 use crate::found::Labels;
 use crate::frontier::Frontier;

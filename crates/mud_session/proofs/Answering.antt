@@ -25,7 +25,7 @@ use Rattle.mud_session.specs.State.{State, DoorState, talk_of}
 use Rattle.mud_session.specs.Session.{TakingIn, IsShared, Said, Turn, Does, Rests, Looks, IsActed, IsAsked}
 use Rattle.mud_session.specs.Session.{IsAnswered, numbered, reply_line, sent, answer_to}
 use Rattle.mud_session.specs.Feeding.{Nudges}
-use Rattle.mud_session.specs.Turning.{sends, sent_for, Told, Looked, IsSaid, Replied, HasTurn}
+use Rattle.mud_session.specs.inner.Turning.{sends, sent_for, Told, Looked, IsSaid, Replied, HasTurn}
 use Rattle.mud_session.proofs.Sending.{sends_twice}
 
 pub on_ok : {A E P Q : Type 0} (r : Result A E) → (P → Q) → OnOk r P → OnOk r Q
@@ -211,7 +211,8 @@ pub blank_rested : (T : TakingIn) (line : List ℕ) (old new : State) (old_door 
 blank_rested T line old new old_door new_door goes blank is same =
     rested T (Text line) old new old_door new_door goes
     (λ turn rests. subst (λ (b : Bool). MatchBool b (Rests (talk_of old old_door) turn (talk_of new new_door))
-    (IsAnswered T (talk_of old old_door) (parsed line) turn.notices turn.reply (talk_of new new_door))) (sym blank) rests)
+    (IsAnswered T (talk_of old old_door) (parsed line) turn.notices turn.reply (talk_of new new_door)))
+    (sym blank) rests)
     (is ∙ ap (λ (b : Bool). sends old (if b then [] else sent (codes "(out of memory)"))) (sym blank)) same
 
 pub line_turned : (T : TakingIn) (line : List ℕ) (old new : State) (old_door new_door : DoorState)

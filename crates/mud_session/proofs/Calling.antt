@@ -71,7 +71,8 @@ answered old line lines None new looks = looked old.capacity old.desk (Some (Tex
 answered old line lines (Some said) new is = go (is_question (parsed line)) is
   where
     go : (b : Bool)
-        → MatchBool b (IsAsked TakesIn old (parsed line) lines said new) (IsActed TakesIn old (parsed line) lines said new)
+        → MatchBool b (IsAsked TakesIn old (parsed line) lines said new)
+        (IsActed TakesIn old (parsed line) lines said new)
         → IsCalls old.capacity old.desk (Some (Text line)) lines (Some said) new.desk
     go true asks = asked old line lines said new asks
     go false acts = acted old line lines said new acts
@@ -98,7 +99,8 @@ turned old turn new (Some Ayt) does = rested old turn new (Some Ayt) does
 turned old turn new (Some (Answer bytes)) does = rested old turn new (Some (Answer bytes)) does
 turned old turn new (Some (Text line)) does = go (is_blank line) does
   where
-    go : (b : Bool) → MatchBool b (Rests old turn new) (IsAnswered TakesIn old (parsed line) turn.notices turn.reply new)
+    go : (b : Bool)
+        → MatchBool b (Rests old turn new) (IsAnswered TakesIn old (parsed line) turn.notices turn.reply new)
         → Of old turn new (Some (Text line))
     go true rests = rested old turn new (Some (Text line)) rests
     go false is = answered old line turn.notices turn.reply new is

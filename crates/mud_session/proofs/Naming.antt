@@ -24,17 +24,17 @@ use Rattle.mud_rules.specs.declared.verdict.Verdict.TheVariants as verdict
 use Rattle.mud_rules.specs.Table.{is_question}
 use Rattle.mud_rules.specs.Hearing.{heard_line}
 use Rattle.mud_rules.specs.Replies.{welcome_text, refusal_text}
-use Rattle.mud_chron.specs.Entry.{Accepted as Entry}
+use Rattle.mud_chron.specs.Entry.{Entry}
 use Rattle.mud_hall.specs.declared.fault.Fault.TheVariants.{OutOfMemory, HistoryFull, Unpublished, DesksFull}
 use Rattle.mud_hall.specs.Told.{world_after, notices}
-use Rattle.mud_hall.specs.Inner.{notice_of, notice_in}
+use Rattle.mud_hall.specs.inner.Desks.{notice_of, notice_in}
 use Rattle.mud_hall.specs.Desk.{DeskState, TakesIn}
 use Rattle.mud_hall.specs.Replies.{Reply, Accepted, Became, Refused, Question, Failed, Stores, Replies, verdict_on}
 use Rattle.mud_hall.proofs.Coming.{Plain as Comes, plainly}
 use Rattle.mud_session.specs.State.{State, DoorState, talk_of}
 use Rattle.mud_session.specs.Session.{Talk, Said, Turn, Takes, Plays, Does, Rests, IsActed, IsAsked, IsAnswered}
 use Rattle.mud_session.specs.Session.{numbered, reply_line, sent, answer_to, text_of_turn, text_of}
-use Rattle.mud_session.specs.Inner.{greeting}
+use Rattle.mud_session.specs.inner.Parts.{greeting}
 use Rattle.mud_session.specs.Feeding.{Feeds, Nudges}
 use Rattle.mud_session.specs.Naming.{Piece, Numbered, Notice, Plain, Signal, plain_lines, IsSaidOf, IsNotice, bytes_of}
 use Rattle.mud_session.specs.Naming.{IsUpTo, NamesUpTo}
@@ -291,7 +291,8 @@ answered old new line lines None looks = silent new line (is_blank line)
 answered old new line lines (Some said) is = go (is_question (parsed line)) is
   where
     go : (b : Bool)
-        → MatchBool b (IsAsked TakesIn old (parsed line) lines said new) (IsActed TakesIn old (parsed line) lines said new)
+        → MatchBool b (IsAsked TakesIn old (parsed line) lines said new)
+        (IsActed TakesIn old (parsed line) lines said new)
         → NamesUpTo (length new.desk.seen) (sent said.text)
     go true asks = asked old new (parsed line) lines said asks
     go false acts = acted old new (parsed line) lines said acts
@@ -308,7 +309,8 @@ turned old new turn (Some (Answer bytes)) (verb, option, is) does =
     (names-one (length new.desk.seen) (Signal verb option) tt)
 turned old new turn (Some (Text line)) signals does = go (is_blank line) does
   where
-    go : (b : Bool) → MatchBool b (Rests old turn new) (IsAnswered TakesIn old (parsed line) turn.notices turn.reply new)
+    go : (b : Bool)
+        → MatchBool b (Rests old turn new) (IsAnswered TakesIn old (parsed line) turn.notices turn.reply new)
         → Answers new (Some (Text line)) turn.reply
     go true rests = rested old new turn (Some (Text line)) (silent new line (is_blank line)) rests
     go false is = answered old new line turn.notices turn.reply is
@@ -345,7 +347,8 @@ plays-on old new (turn ∷ turns) signals (goes, mid, takes, plays) told =
     record {
       grows = omega (arith, one.grows, rest.grows);
       names = names-append (length new.desk.seen) (text_of_turn turn) (text_of turns)
-          (names-more (length mid.desk.seen) (length new.desk.seen) (text_of_turn turn) rest.grows one.names) rest.names;
+          (names-more (length mid.desk.seen) (length new.desk.seen) (text_of_turn turn) rest.grows one.names)
+          rest.names;
       told = rest.told;
     }
 

@@ -20,7 +20,7 @@ use Rattle.mud_rules.specs.declared.verdict.Verdict.{Verdict}
 use Rattle.mud_rules.specs.declared.verdict.Verdict.TheVariants as verdict
 use Rattle.mud_rules.specs.Replies.{reply_text, refusal_text, welcome_text}
 use Rattle.mud_rules.specs.Table.{is_question}
-use Rattle.mud_chron.specs.Entry.{Accepted as Entry}
+use Rattle.mud_chron.specs.Entry.{Entry}
 use Rattle.mud_cert.specs.Certificate.{Certificate}
 use Rattle.mud_cert.specs.Text.{cert_text}
 use Rattle.mud_guide.specs.declared.answer.Answer.{Answer}
@@ -35,7 +35,7 @@ use Rattle.mud_hall.specs.Answers.{Answered, Answers, IsGuided, IsShown, Shows}
 use Rattle.mud_hall.proofs.Worlds.{world-sound}
 use Rattle.mud_session.specs.Session.{Said, Talk, TakesNone, IsShared, Turn, Looks, IsActed, IsAsked, IsAnswered}
 use Rattle.mud_session.specs.Session.{Rests, Does, Takes, Plays, numbered, reply_line, text_of}
-use Rattle.mud_session.specs.Inner.{is_last, replied}
+use Rattle.mud_session.specs.inner.Parts.{is_last, replied}
 use Rattle.mud_session.specs.Script.{begins}
 use Rattle.mud_session.specs.Laws.{ScriptTextIsOne}
 use Rattle.mud_session.proofs.Playing.{unit_of}
@@ -141,7 +141,8 @@ stored-then capacity s e said (Became v text) new free x line = absurd x
 stored-then capacity s e said (Refused v f text) new free x line = absurd x
 stored-then capacity s e said (Question v) new free x line = absurd x
 
-reply-then : (capacity : ℕ) (s : DeskState) (line : Line) (said : List ℕ) (r : Reply) (new : DeskState) → r ≢ Failed Unpublished
+reply-then : (capacity : ℕ) (s : DeskState) (line : Line) (said : List ℕ) (r : Reply) (new : DeskState)
+    → r ≢ Failed Unpublished
     → Replies capacity s line r new → reply_line r ≡ Some said
     → IsThen capacity s (verdict_on s.seen s.player line) said new
 reply-then capacity s line said r new free x e =
@@ -309,7 +310,8 @@ line-one : (old a b : Talk) (line : List ℕ) (blank : Bool) (t u : Turn) → ol
     → MatchBool blank (Rests old u b) (IsAnswered TakesNone old (parsed line) u.notices u.reply b)
     → AreOne t.notices u.notices t.reply u.reply a.desk b.desk
 line-one old a b line true t u none e x y = rests-one old a b t u none x y
-line-one old a b line false t u none e x y = answered-one old a b (parsed line) t.notices u.notices t.reply u.reply none e x y
+line-one old a b line false t u none e x y =
+    answered-one old a b (parsed line) t.notices u.notices t.reply u.reply none e x y
 
 does-one : (old a b : Talk) (unit : Option Given) (t u : Turn) → old.desk.told ≡ [] → is_some t.reply ≡ is_some u.reply
     → Does TakesNone old t a unit → Does TakesNone old u b unit

@@ -13,10 +13,10 @@ use Rattle.mud_world.specs.declared.change.Change.{Change}
 use Rattle.mud_rules.specs.declared.verdict.Verdict.{Verdict}
 use Rattle.mud_rules.specs.declared.verdict.Verdict.TheVariants as verdict
 use Rattle.mud_rules.specs.Table.{is_question}
-use Rattle.mud_chron.specs.Entry.{Accepted as Entry}
+use Rattle.mud_chron.specs.Entry.{Entry}
 use Rattle.mud_hall.specs.declared.fault.Fault.TheVariants.{OutOfMemory, HistoryFull, Unpublished, DesksFull}
 use Rattle.mud_hall.specs.Desk.{DeskState, HandsOut}
-use Rattle.mud_hall.specs.Inner.{took_in}
+use Rattle.mud_hall.specs.inner.Desks.{took_in}
 use Rattle.mud_hall.specs.Replies.{Reply, Accepted, Became, Refused, Question, Failed, Stores, Replies, verdict_on}
 use Rattle.mud_hall.specs.Steps.{Call, See, Act, Ask, Told, Performs, Hall, seats, lone_desk, opened_alone, At, Makes}
 use Rattle.mud_hall.specs.Steps.{Grows, IsRun}
@@ -181,7 +181,8 @@ turned old turn new (Some Ayt) does = rested old turn new (Some Ayt) does
 turned old turn new (Some (Answer bytes)) does = rested old turn new (Some (Answer bytes)) does
 turned old turn new (Some (Text line)) does = go (is_blank line) does
   where
-    go : (b : Bool) → MatchBool b (Rests old turn new) (IsAnswered TakesNone old (parsed line) turn.notices turn.reply new)
+    go : (b : Bool)
+        → MatchBool b (Rests old turn new) (IsAnswered TakesNone old (parsed line) turn.notices turn.reply new)
         → IsTurn old.capacity old.desk (Some (Text line)) turn.reply new.desk
     go true rests = rested old turn new (Some (Text line)) rests
     go false is = answered old line turn.notices turn.reply new is

@@ -12,9 +12,9 @@ use Rattle.mud_nvt.specs.History.{StandsAfter}
 use Rattle.mud_session.specs.State.{State, DoorState, talk_of}
 use Rattle.mud_ends.specs.Ends.{Reader, Writer, unread}
 use Rattle.mud_session.specs.Session.{TakingIn, Talk, Turn, Plays, Play, text_of}
-use Rattle.mud_session.specs.Serving.{Serves, ServesInPart}
+use Rattle.mud_session.specs.inner.Serving.{Serves, ServesInPart}
 use Rattle.mud_session.specs.Script.{Script, IsWhole, IsFront, IsOpen}
-use Rattle.mud_session.specs.Inner.{heard}
+use Rattle.mud_session.specs.inner.Parts.{heard}
 use Rattle.mud_session.proofs.Playing.{unit_of, retold, joined, text_of-append}
 
 -- a read saw the end, or did not

@@ -2,7 +2,7 @@
 use Rattle.std.proofs.Common.{◌≡◌, ℕ, List, [], ◌++◌, sym, ap, append_assoc}
 use Rattle.std.proofs.lemmas.List.{append-nil}
 use Rattle.mud_session.specs.State.{State}
-use Rattle.mud_session.specs.Turning.{sends}
+use Rattle.mud_session.specs.inner.Turning.{sends}
 
 abbrev with_out : State → List ℕ → State
 with_out s out = record { terminal = s.terminal; has_ended = s.has_ended; out = out }

@@ -6,7 +6,7 @@ use Rattle.std.proofs.KnownBytes.{Appends-nil}
 use Rattle.mud_session.specs.State.{State, DoorState, talk_of}
 use Rattle.mud_session.specs.Session.{TakingIn, text_of}
 use Rattle.mud_session.specs.Feeding.{Feeds}
-use Rattle.mud_session.specs.Serving.{Serves, ServesInPart}
+use Rattle.mud_session.specs.inner.Serving.{Serves, ServesInPart}
 use Rattle.mud_session.proofs.Fresh.{fresh_units}
 
 -- nothing was written

@@ -10,7 +10,7 @@ use Rattle.mud_nvt.specs.Shown.{shown, all_shown}
 use Rattle.mud_session.specs.State.{State, DoorState, talk_of}
 use Rattle.mud_session.specs.Session.{TakingIn, Talk, Plays, Play, text_of, text_of_turn}
 use Rattle.mud_session.specs.Feeding.{Feeds}
-use Rattle.mud_session.specs.Turning.{HasTurn}
+use Rattle.mud_session.specs.inner.Turning.{HasTurn}
 use Rattle.mud_session.proofs.Playing.{unit_of, joined, text_of-append}
 
 -- each of these units had its turn, up to the last reply, and what is sent for them is to be taken out

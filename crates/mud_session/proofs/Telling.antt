@@ -11,7 +11,7 @@ use Rattle.mud_world.specs.declared.change.Change.{Change}
 use Rattle.mud_rules.specs.declared.verdict.Verdict.{Verdict}
 use Rattle.mud_rules.specs.declared.verdict.Verdict.TheVariants as verdict
 use Rattle.mud_rules.specs.Table.{is_question}
-use Rattle.mud_chron.specs.Entry.{Accepted as Entry}
+use Rattle.mud_chron.specs.Entry.{Entry}
 use Rattle.mud_hall.specs.declared.fault.Fault.TheVariants.{OutOfMemory, HistoryFull, Unpublished, DesksFull}
 use Rattle.mud_hall.specs.Desk.{DeskState, TakesIn, HandsOut}
 use Rattle.mud_hall.specs.Replies.{Reply, Accepted, Became, Refused, Question, Failed, Stores, Replies, verdict_on}
@@ -117,7 +117,8 @@ turned old new turn (Some Ayt) does = rested old new turn does
 turned old new turn (Some (Answer bytes)) does = rested old new turn does
 turned old new turn (Some (Text line)) does = go (is_blank line) does
   where
-    go : (b : Bool) → MatchBool b (Rests old turn new) (IsAnswered TakesIn old (parsed line) turn.notices turn.reply new)
+    go : (b : Bool)
+        → MatchBool b (Rests old turn new) (IsAnswered TakesIn old (parsed line) turn.notices turn.reply new)
         → IsToldOnce old.desk turn.notices new.desk
     go true rests = rested old new turn rests
     go false is = answered old new (parsed line) turn.notices turn.reply is

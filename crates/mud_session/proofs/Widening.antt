@@ -10,7 +10,7 @@ use Rattle.std.proofs.lemmas.List.{take_all, take_more, take-set-le, drop-set, a
 use Rattle.std.proofs.lemmas.List.Concat.{flat_map-append}
 use Rattle.std.proofs.lemmas.List.Elements.{All-head, All-tail}
 use Rattle.mud_chron.specs.Faults.{HasNoLineFeed}
-use Rattle.mud_session.specs.Inner.{on_wire}
+use Rattle.mud_session.specs.inner.Parts.{on_wire}
 
 -- the text on the wire
 abbrev wide : List ℕ → List ℕ

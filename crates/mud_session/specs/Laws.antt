@@ -3,7 +3,7 @@ use Rattle.std.specs.Prelude.{◌≡◌, ◌⊎◌, ℕ, Option, Some, List, [],
 use Rattle.std.specs.Option.{option_to_list}
 use Rattle.std.specs.List.{flat_map}
 use Rattle.mud_nvt.specs.Units.{Given, Text, units}
-use Rattle.mud_chron.specs.Entry.{Accepted}
+use Rattle.mud_chron.specs.Entry.{Entry}
 use Rattle.mud_hall.specs.Told.{notices}
 use Rattle.mud_hall.specs.Desk.{DeskState}
 use Rattle.mud_hall.specs.Steps.{Call, Act, Ask, Told, PerformsAll, Hall, opened_alone, At, IsRun}
@@ -23,10 +23,10 @@ ScriptTextIsOne =
 
 -- a desk saw entries of others, and made one or none; what was sent and is left is what it was told and their notices
 pub record IsToldOnce (old : DeskState) (lines : List (List ℕ)) (new : DeskState) : Type 0 where
-  pub others : List Accepted
-  pub own : List Accepted
+  pub others : List Entry
+  pub own : List Entry
   pub seen : new.seen ≡ old.seen ++ (others ++ own)
-  pub mine : (own ≡ []) ⊎ ((e : Accepted) × (own ≡ e ∷ []) × (e.desk ≡ old.number))
+  pub mine : (own ≡ []) ⊎ ((e : Entry) × (own ≡ e ∷ []) × (e.desk ≡ old.number))
   pub told : old.told ++ notices old.player old.seen others ≡ lines ++ new.told
 
 -- ---- turns are calls

@@ -7,7 +7,7 @@ ghost use Rattle.mud_hall.specs.Alone.{alone};
 ghost use Rattle.mud_session.specs.Session.{TakesNone};
 ghost use Rattle.mud_session.specs.State.{talk_of};
 ghost use Rattle.mud_session.specs.Script.{begins, IsWhole, IsFront, IsOpen};
-ghost use Rattle.mud_session.specs.Serving.{Serves, ServesInPart};
+ghost use Rattle.mud_session.specs.inner.Serving.{Serves, ServesInPart};
 
 use crate::door::Door;
 use crate::session::Session;

@@ -21,10 +21,10 @@ use std::sync::Wait;
 use std::thread::Threads;
 
 // Room for what is sent with a text: its number, and its end.
-const MORE: usize = 16;
+const NUMBERED_BYTES: usize = 16;
 
-// The longest answer that is copied into what is sent.
-const SHORT: usize = 4096;
+// An answer of so many bytes is copied, whatever is to be sent before it.
+const COPIED_BYTES: usize = 4096;
 
 /// One session: its terminal, whether it has ended, and what is to be sent.
 #[derive(Drop)]
@@ -50,7 +50,7 @@ impl Session {
     ghost use Rattle.mud_hall.specs.Desk.{with_told};
     ghost use Rattle.mud_hall.specs.Replies.{shown as replied};
     ghost use Rattle.mud_session.specs.Session.{sent, numbered, reply_line};
-    ghost use Rattle.mud_session.specs.Turning.{sends, sent_for, Told, Looked, IsSaid, Replied, HasTurn};
+    ghost use Rattle.mud_session.specs.inner.Turning.{sends, sent_for, Told, Looked, IsSaid, Replied, HasTurn};
     ghost use Rattle.mud_session.specs.Feeding.{Feeds, Nudges};
 
     /// A session to which nothing came, and which sent nothing, or only the greeting. The only error
@@ -332,18 +332,19 @@ impl Session {
     fn send_numbered(&mut self, version: u32, text: &str) -> Result<(), AllocError>
         ensures { OnOk result (self.new ≡ sends self.old (sent (numbered version text.now))) }
     {
-        self.out.reserve(text.len().saturating_add(MORE))?;
+        self.out.reserve(text.len().saturating_add(NUMBERED_BYTES))?;
         push_on_wire(&mut self.out, b"[")?;
         push_on_wire(&mut self.out, Buffer::new().format(version).as_bytes())?;
         push_on_wire(&mut self.out, b"] ")?;
         self.send(text)
     }
 
-    // Sends an answer. A long one is made what is sent where it stands.
+    // Sends an answer. One that is long, and longer than what is to be sent before it, is made what is sent where it
+    // stands: so in all no more is moved than is sent.
     fn send_answer(&mut self, version: u32, text: String) -> Result<(), AllocError>
         ensures { OnOk result (self.new ≡ sends self.old (sent (numbered version (string_bytes text)))) }
     {
-        if text.len() <= SHORT {
+        if text.len() <= self.out.len().max(COPIED_BYTES) {
             return self.send_numbered(version, text.as_str());
         }
         let number = format!(in self.alloc; "[{version}] ")?;

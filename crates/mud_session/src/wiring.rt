@@ -2,7 +2,7 @@
 
 ghost use Rattle.std.specs.Prelude.{◌≡◌, ◌++◌, ◌+◌, ◌≤◌, length, take, drop, IfOk, OnOk, string_bytes};
 ghost use Rattle.std.specs.List.{flat_map};
-ghost use Rattle.mud_session.specs.Inner.{on_wire};
+ghost use Rattle.mud_session.specs.inner.Parts.{on_wire};
 
 use memchr::memchr;
 use std::alloc::AllocError;

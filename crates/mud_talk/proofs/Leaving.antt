@@ -6,7 +6,7 @@ use Rattle.websocket.specs.declared.error.Error.{Error}
 use Rattle.mud_nvt.specs.History as Nvt
 use Rattle.mud_hall.specs.Desk.{DeskState, TakesIn as TakesInEntries}
 use Rattle.mud_session.specs.State.{State, DoorState}
-use Rattle.mud_session.specs.Inner.{greeting}
+use Rattle.mud_session.specs.inner.Parts.{greeting}
 use Rattle.mud_session.specs.Laws.{NamesSeen}
 use Rattle.mud_talk.proofs.Naming.{NothingBeyond}
 use Rattle.mud_session.proofs.Naming.{begins_so, taken_so, names-nil}

@@ -7,7 +7,7 @@ use Rattle.mud_hall.specs.Desk.{DeskState, TakesIn}
 use Rattle.mud_session.specs.declared.fault.SessionFault.TheVariants.{Ended}
 use Rattle.mud_session.specs.State.{State, DoorState}
 use Rattle.mud_session.specs.Feeding.{Feeds, Nudges}
-use Rattle.mud_session.specs.Inner.{greeting}
+use Rattle.mud_session.specs.inner.Parts.{greeting}
 use Rattle.mud_session.specs.Naming.{NamesUpTo}
 use Rattle.mud_session.specs.Laws.{NamesSeen}
 use Rattle.mud_session.proofs.Naming.{begins_so, taken_so, names-nil}

@@ -6,7 +6,7 @@ use Rattle.mud_world.specs.Legal.{after}
 use Rattle.mud_chron.specs.declared.fault.ChronFault.{ChronFault}
 use Rattle.mud_chron.specs.declared.fault.ChronFault.TheVariants.{OutOfMemory, NotHistory, BadLine, BadChange, TooLong}
 use Rattle.mud_chron.specs.declared.fault.ChronFault.TheVariants.{NoEnd}
-use Rattle.mud_chron.specs.Entry.{Accepted as Entry}
+use Rattle.mud_chron.specs.Entry.{Entry}
 use Rattle.mud_chron.specs.History.{SpellsHistory}
 use Rattle.mud_chron.specs.Replay.{changes_of, AreLegal, AreLegalFrom, HasIllegal}
 use Rattle.mud_cert.specs.declared.finding.Finding.{Finding}

@@ -12,5 +12,7 @@ texts_arrive (b ∷ bs) rest valid some small =
 
 pub messages_type : MessagesType
 messages_type bs key rest valid fits mask =
-    let read = read_step_written opened (text bs) (Some key) rest refl refl refl mask valid tt fits fits (omega (arith, fits)) in
+    let read =
+    read_step_written opened (text bs) (Some key) rest refl refl refl mask valid tt fits fits
+    (omega (arith, fits)) in
     (read.0, read.1, ap typed_by read.2)

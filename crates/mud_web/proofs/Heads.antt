@@ -1,5 +1,6 @@
 -- A head that was parsed, and what it asks for.
-use Rattle.std.proofs.Common.{◌≡◌, ℕ, ◌+◌, ◌<◌, ◌≤◌, Bool, true, false, if◌then◌else◌, List, [], ◌∷◌, ◌++◌, length, take, get_or, map, Result, Ok, Err, refl, sym, ap, ◌∙◌, subst, arith, append-nil}
+use Rattle.std.proofs.Common.{◌≡◌, ℕ, ◌+◌, ◌<◌, ◌≤◌, Bool, true, false, if◌then◌else◌, List, [], ◌∷◌, ◌++◌, length}
+use Rattle.std.proofs.Common.{take, get_or, map, Result, Ok, Err, refl, sym, ap, ◌∙◌, subst, arith, append-nil}
 use Rattle.std.specs.Prelude.{◌↔◌, IsTrue}
 use Rattle.std.proofs.lemmas.List.{take_more, take_all, map-append, length-map, length-take}
 use Rattle.httparse.specs.declared.spans.HeaderSpan.{HeaderSpan}
@@ -28,7 +29,8 @@ values_if false value one more = refl
 values-append : (some more : Fields) (name : List ℕ) → values (some ++ more) name ≡ values some name ++ values more name
 values-append [] more name = refl
 values-append (field ∷ some) more name =
-    rw (values-append some more name) (values_if (eq_ignore_case field.0 name) field.1 (values some name) (values more name))
+    rw (values-append some more name)
+    (values_if (eq_ignore_case field.0 name) field.1 (values some name) (values more name))
 
 pub values_more : (buf : List ℕ) (spans : List HeaderSpan) (name : List ℕ) (i : ℕ) (d : HeaderSpan) → i < length spans
     → values (fields_of buf (take (i + 1) spans)) name
@@ -37,13 +39,17 @@ values_more buf spans name i d inside =
     rw (take_more spans i d inside, map-append (header_bytes buf) (take i spans) (get_or spans i d ∷ []))
     (values-append (fields_of buf (take i spans)) (fields_of buf (get_or spans i d ∷ [])) name)
 
-pub seen_more : (buf : List ℕ) (spans : List HeaderSpan) (name : List ℕ) (i : ℕ) (d : HeaderSpan) (seen : Seen) (origin : List ℕ) → i < length spans
-    → IsSeen seen (values (fields_of buf (take i spans)) name ++ values (header_bytes buf (get_or spans i d) ∷ []) name) origin
+pub seen_more : (buf : List ℕ) (spans : List HeaderSpan) (name : List ℕ) (i : ℕ) (d : HeaderSpan) (seen : Seen)
+    (origin : List ℕ) → i < length spans
+    → IsSeen seen
+    (values (fields_of buf (take i spans)) name ++ values (header_bytes buf (get_or spans i d) ∷ []) name) origin
     → IsSeen seen (values (fields_of buf (take (i + 1) spans)) name) origin
 seen_more buf spans name i d seen origin inside is = rw (values_more buf spans name i d inside) is
 
-pub seen_all : (buf : List ℕ) (spans : List HeaderSpan) (name : List ℕ) (i : ℕ) (seen : Seen) (origin : List ℕ) → length spans ≤ i
-    → IsSeen seen (values (fields_of buf (take i spans)) name) origin → IsSeen seen (values (fields_of buf spans) name) origin
+pub seen_all : (buf : List ℕ) (spans : List HeaderSpan) (name : List ℕ) (i : ℕ) (seen : Seen) (origin : List ℕ)
+    → length spans ≤ i
+    → IsSeen seen (values (fields_of buf (take i spans)) name) origin
+    → IsSeen seen (values (fields_of buf spans) name) origin
 seen_all buf spans name i seen origin all is = rw (take_all i spans all) at is
 
 pub own_decides : (seen : Seen) (found : List (List ℕ)) (origin : List ℕ) → IsSeen seen found origin

@@ -1,5 +1,7 @@
 -- UTF-8 has no byte 255, and bytes without one are lines to a terminal.
-use Rattle.std.proofs.Common.{◌≡◌, ℕ, zero, suc, ◌<◌, Bool, true, false, if◌then◌else◌, ◌==◌, ◌&&◌, ◌||◌, nat_le, nat_lt, List, [], ◌∷◌, length, drop, All, Option, None, Some, Result, Ok, Err, refl, arith}
+use Rattle.std.proofs.Common.{◌≡◌, ℕ, zero, suc, ◌<◌, Bool, true, false, if◌then◌else◌, ◌==◌, ◌&&◌, ◌||◌, nat_le}
+use Rattle.std.proofs.Common.{nat_lt, List, [], ◌∷◌, length, drop, All, Option, None, Some, Result, Ok, Err, refl}
+use Rattle.std.proofs.Common.{arith}
 use Rattle.std.specs.Prelude.{cond, IfSome, IsUtf8}
 use Rattle.std.proofs.lemmas.List.Elements.{All-nil, All-cons, All-head, All-tail, All-append, All-push}
 use Rattle.std.proofs.lemmas.Bool.Decides.{nat_tests}
@@ -16,7 +18,8 @@ use Rattle.mud_nvt.specs.declared.telnet.Piece.TheVariants.{Data}
 use Rattle.mud_nvt.specs.declared.telnet.Place.{Place}
 use Rattle.mud_nvt.specs.declared.telnet.Place.TheVariants.{Between}
 use Rattle.mud_nvt.specs.declared.strokes.Stroke.{Stroke}
-use Rattle.mud_nvt.specs.declared.strokes.Stroke.TheVariants.{Character, EraseCharacter, EraseLine, EndLine, AreYouThere, Refuse, Nothing}
+use Rattle.mud_nvt.specs.declared.strokes.Stroke.TheVariants.{Character, EraseCharacter, EraseLine, EndLine}
+use Rattle.mud_nvt.specs.declared.strokes.Stroke.TheVariants.{AreYouThere, Refuse, Nothing}
 use Rattle.mud_nvt.specs.Editing.{stroke}
 use Rattle.mud_nvt.specs.Units.{Given, Text, TooLong, units}
 use Rattle.mud_nvt.specs.Machine.{Held, start, next, next_place, finished_piece, stroke_units, byte_units, run_units}
@@ -29,7 +32,8 @@ IsLow b = b < 255
 
 -- ---- UTF-8
 
-low_cond : (t : Bool) (xs ys : List ℕ) → (t ≡ true → All IsLow xs) → (t ≡ false → All IsLow ys) → All IsLow (cond t xs ys)
+low_cond : (t : Bool) (xs ys : List ℕ) → (t ≡ true → All IsLow xs) → (t ≡ false → All IsLow ys)
+    → All IsLow (cond t xs ys)
 low_cond true xs ys f g = f refl
 low_cond false xs ys f g = g refl
 
@@ -59,7 +63,8 @@ encode_low c is =
     (λ h. let small = below c 2048 h in two_low _ _ (omega (arith, small)) (omega arith))
     (λ h. low_cond (nat_lt c 65536) _ _
     (λ h. let small = below c 65536 h in three_low _ _ _ (omega (arith, small)) (omega arith) (omega arith))
-    (λ h. let small = scalar_below c is in four_low _ _ _ _ (omega (arith, small)) (omega arith) (omega arith) (omega arith))))
+    (λ h. let small = scalar_below c is in
+    four_low _ _ _ _ (omega (arith, small)) (omega arith) (omega arith) (omega arith))))
 
 both : (a b : Bool) → (a && b) ≡ true → (a ≡ true) × (b ≡ true)
 both true b h = (refl, h)
@@ -84,7 +89,8 @@ message_low (Some (ping bs)) valid = All-nil IsLow
 message_low (Some (pong bs)) valid = All-nil IsLow
 message_low (Some (close frame)) valid = All-nil IsLow
 
-reads_low_by : (n : ℕ) (conn : Connection) (bs : List ℕ) (r : Result (FrameStatus (ℕ × Effect)) Error) → read_step conn bs ≡ r
+reads_low_by : (n : ℕ) (conn : Connection) (bs : List ℕ) (r : Result (FrameStatus (ℕ × Effect)) Error)
+    → read_step conn bs ≡ r
     → ((next : Connection) (rest : List ℕ) → All IsLow (typed (read_times n next rest).effects))
     → All IsLow (typed (after_read (read_times n) conn bs r).effects)
 reads_low_by n conn bs (Err e) read later = All-nil IsLow
@@ -149,7 +155,8 @@ is_data place b between low = rw (between, is_no_iac b low) refl
 
 byte_lines : (h : Held) (b : ℕ) → h.place ≡ Between → b < 255 → All IsLine (byte_units h b)
 byte_lines h b between low =
-    rw (is_data h.place b between low) (stroke_lines h.too_long h.text (stroke h.after_cr (Data b)) (data_typing h.after_cr b))
+    rw (is_data h.place b between low)
+    (stroke_lines h.too_long h.text (stroke h.after_cr (Data b)) (data_typing h.after_cr b))
 
 run_lines : (bytes : List ℕ) (h : Held) → h.place ≡ Between → All IsLow bytes → All IsLine (run_units h bytes)
 run_lines [] h between low = All-nil IsLine

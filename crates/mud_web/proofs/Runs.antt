@@ -1,5 +1,6 @@
 -- Steps, one after the other, are a run over all that came.
-use Rattle.std.proofs.Common.{◌≡◌, ℕ, zero, suc, ◌<◌, List, [], ◌∷◌, ◌++◌, length, drop, Result, Ok, Err, refl, sym, ◌∙◌, ap, arith, append-nil, append_assoc, length-drop}
+use Rattle.std.proofs.Common.{◌≡◌, ℕ, zero, suc, ◌<◌, List, [], ◌∷◌, ◌++◌, length, drop, Result, Ok, Err, refl, sym}
+use Rattle.std.proofs.Common.{◌∙◌, ap, arith, append-nil, append_assoc, length-drop}
 use Rattle.std.specs.Prelude.{option_map}
 use Rattle.websocket.specs.declared.error.Error.{Error}
 use Rattle.websocket.specs.declared.protocol.config.Role.TheVariants.{Server}
@@ -16,7 +17,8 @@ use Rattle.websocket.specs.Connection.{Connection, Effect, read_step, failed_con
 use Rattle.websocket.specs.Stream.{Trace, prepend, after_read, read_times, read_all}
 use Rattle.websocket.specs.View.{Returns, ReadLeaves}
 use Rattle.websocket.proofs.StreamLemmas.{TookFrame_from_read, receive-read_all}
-use Rattle.mud_web.specs.Channel.{Standing, opened, typed_by, reply_by, typed, replies, StandsAfter, Grows, TakesIn, EndsWith}
+use Rattle.mud_web.specs.Channel.{Standing, opened, typed_by, reply_by, typed, replies, StandsAfter, Grows, TakesIn}
+use Rattle.mud_web.specs.Channel.{EndsWith}
 use Rattle.mud_web.specs.Closing.{closes_for, ending_of}
 use Rattle.mud_web.specs.Steps.{Took, Steps, Refuses, IfOver, Reached, closes_in}
 use Rattle.mud_web.proofs.Roles.{IsLive, role_kept, live_kept, sends_server, stands_live, closes_is}
@@ -35,7 +37,8 @@ pub record IsRead (conn next : Connection) (input left : List ℕ) (step : Step)
   pub role : next.role ≡ Server
 
 is_read_by : (r : Outcome) (conn next : Connection) (input left : List ℕ) (step : Step) (old new : List ℕ)
-    → read_step conn input ≡ r → conn.role ≡ Server → Returns r left (Complete step) → ReadLeaves r conn next old new → IsRead conn next input left step old new
+    → read_step conn input ≡ r → conn.role ≡ Server → Returns r left (Complete step) → ReadLeaves r conn next old new
+    → IsRead conn next input left step old new
 is_read_by (Err e) conn next input left step old new is role returns leaves = absurd returns
 is_read_by (Ok (Partial n)) conn next input left step old new is role returns leaves = absurd (cc returns)
 is_read_by (Ok (Complete p)) conn next input left step old new is role returns leaves =
@@ -51,27 +54,35 @@ is_read_by (Ok (Complete p)) conn next input left step old new is role returns l
     }
 
 pub is_read : (conn next : Connection) (input left : List ℕ) (step : Step) (old new : List ℕ)
-    → conn.role ≡ Server → Returns (read_step conn input) left (Complete step) → ReadLeaves (read_step conn input) conn next old new → IsRead conn next input left step old new
-is_read conn next input left step old new role returns leaves = is_read_by _ conn next input left step old new refl role returns leaves
+    → conn.role ≡ Server → Returns (read_step conn input) left (Complete step)
+    → ReadLeaves (read_step conn input) conn next old new → IsRead conn next input left step old new
+is_read conn next input left step old new role returns leaves =
+    is_read_by _ conn next input left step old new refl role returns leaves
 
 -- ---- many
 
-after_read_same : (f g : Connection → List ℕ → Trace) (conn : Connection) (bs : List ℕ) (r : Outcome) → read_step conn bs ≡ r
-    → ((next : Connection) (rest : List ℕ) → length rest < length bs → f next rest ≡ g next rest) → after_read f conn bs r ≡ after_read g conn bs r
+after_read_same : (f g : Connection → List ℕ → Trace) (conn : Connection) (bs : List ℕ) (r : Outcome)
+    → read_step conn bs ≡ r
+    → ((next : Connection) (rest : List ℕ) → length rest < length bs → f next rest ≡ g next rest)
+    → after_read f conn bs r ≡ after_read g conn bs r
 after_read_same f g conn bs (Err e) is same = refl
 after_read_same f g conn bs (Ok (Partial n)) is same = refl
 after_read_same f g conn bs (Ok (Complete p)) is same =
     let took = TookFrame_from_read conn bs p is in
-    ap (prepend (p.1 ∷ [])) (same p.1.next (drop p.0 bs) (omega (arith, length-drop p.0 bs, took.not_empty, took.inside)))
+    ap (prepend (p.1 ∷ []))
+    (same p.1.next (drop p.0 bs) (omega (arith, length-drop p.0 bs, took.not_empty, took.inside)))
 
-enough : (n m : ℕ) (conn : Connection) (bs : List ℕ) → length bs < n → length bs < m → read_times n conn bs ≡ read_times m conn bs
+enough : (n m : ℕ) (conn : Connection) (bs : List ℕ) → length bs < n → length bs < m
+    → read_times n conn bs ≡ read_times m conn bs
 unfolding read_times
 enough zero m conn bs hn hm = absurd (omega arith)
 enough (suc n) zero conn bs hn hm = absurd (omega arith)
 enough (suc n) (suc m) conn bs hn hm =
-    after_read_same (read_times n) (read_times m) conn bs _ refl (λ next rest h. enough n m next rest (omega arith) (omega arith))
+    after_read_same (read_times n) (read_times m) conn bs _ refl
+    (λ next rest h. enough n m next rest (omega arith) (omega arith))
 
-all_first : (conn : Connection) (bs : List ℕ) → read_all conn bs ≡ after_read (read_times (length bs)) conn bs (read_step conn bs)
+all_first : (conn : Connection) (bs : List ℕ)
+    → read_all conn bs ≡ after_read (read_times (length bs)) conn bs (read_step conn bs)
 unfolding read_times
 all_first conn bs = refl
 
@@ -91,7 +102,8 @@ pub all_fails : (conn : Connection) (bs : List ℕ) (e : Error) → read_step co
 all_fails conn bs e is = rw (all_first conn bs, is) refl
 
 pub goes_on : (line : Standing) (earlier bytes : List ℕ) → StandsAfter line earlier
-    → read_all opened (earlier ++ bytes) ≡ prepend (read_all opened earlier).effects (read_all line.conn (line.unread ++ bytes))
+    → read_all opened (earlier ++ bytes)
+    ≡ prepend (read_all opened earlier).effects (read_all line.conn (line.unread ++ bytes))
 goes_on line earlier bytes stands = rw (sym (receive-read_all opened earlier bytes), stands.is) refl
 
 -- ---- grows, one step after the other
@@ -107,10 +119,16 @@ replies_more (x ∷ done) e = rw (replies_more done e, append_assoc) refl
 prepend-prepend : (a b : List Effect) (t : Trace) → prepend a (prepend b t) ≡ prepend (a ++ b) t
 prepend-prepend a b t = rw append_assoc refl
 
-pub reached_none : (conn : Connection) (input : List ℕ) (line : Standing) (t r : List ℕ) → line.conn ≡ conn → line.unread ≡ input
+pub reached_none : (conn : Connection) (input : List ℕ) (line : Standing) (t r : List ℕ) → line.conn ≡ conn
+    → line.unread ≡ input
     → Reached conn input line t t r r
 reached_none conn input line t r same_conn same_input =
-    record { done = []; rest = rw (same_conn, same_input) refl; types = rw append-nil refl; answers = rw append-nil refl }
+    record {
+      done = [];
+      rest = rw (same_conn, same_input) refl;
+      types = rw append-nil refl;
+      answers = rw append-nil refl;
+    }
 
 pub reached_more : (conn : Connection) (input : List ℕ) (line next : Standing) (t0 t1 t2 r0 r1 r2 : List ℕ)
     → Reached conn input line t0 t1 r0 r1 → Took line next t1 t2 r1 r2 → Reached conn input next t0 t2 r0 r2
@@ -192,7 +210,8 @@ pub feeds_ok : (old line next : Standing) (bytes t0 t1 t2 r0 r1 r2 : List ℕ) (
     → Keeps old bytes line t0 t1 r0 r1 → Steps line next t1 t2 r1 r2 more → TakesIn old next bytes t0 t2 r0 r2
 feeds_ok old line next bytes t0 t1 t2 r0 r1 r2 true h keeps took = absurd (cc h)
 feeds_ok old line next bytes t0 t1 t2 r0 r1 r2 false h keeps waits =
-    rw (waits.same, waits.types, waits.answers) (takes_in old line bytes t0 t1 r0 r1 waits.needed keeps.goes_on keeps.reached waits.reads)
+    rw (waits.same, waits.types, waits.answers)
+    (takes_in old line bytes t0 t1 r0 r1 waits.needed keeps.goes_on keeps.reached waits.reads)
 
 pub feeds_on : (old line next : Standing) (bytes t0 t1 t2 r0 r1 r2 : List ℕ) (more : Bool) → more ≡ true
     → Keeps old bytes line t0 t1 r0 r1 → Steps line next t1 t2 r1 r2 more → Keeps old bytes next t0 t2 r0 r2
@@ -221,7 +240,8 @@ feeds_over old line next bytes t0 t1 t2 r0 r1 r2 r3 step_fault (Over e) keeps re
 
 -- ---- what a step needs
 
-pub took_from : (conn next : Connection) (input left unread : List ℕ) (step : Step) (has_ended : Bool) (t0 t1 r0 r1 : List ℕ)
+pub took_from : (conn next : Connection) (input left unread : List ℕ) (step : Step) (has_ended : Bool)
+    (t0 t1 r0 r1 : List ℕ)
     → IsRead conn next input left step r0 r1 → t1 ≡ t0 ++ typed_by (option_map (received_content left) step.message)
     → unread ≡ drop step.consumed input
     → Took (record { conn = conn; unread = input; has_ended = has_ended })
@@ -238,5 +258,7 @@ took_from conn next input left unread step has_ended t0 t1 r0 r1 read types rest
 }
 
 pub role_after : (conn next : Connection) (input left : List ℕ) (step : Step) (old new : List ℕ)
-    → conn.role ≡ Server → Returns (read_step conn input) left (Complete step) → ReadLeaves (read_step conn input) conn next old new → next.role ≡ Server
-role_after conn next input left step old new role returns leaves = (is_read conn next input left step old new role returns leaves).role
+    → conn.role ≡ Server → Returns (read_step conn input) left (Complete step)
+    → ReadLeaves (read_step conn input) conn next old new → next.role ≡ Server
+role_after conn next input left step old new role returns leaves =
+    (is_read conn next input left step old new role returns leaves).role

@@ -28,7 +28,8 @@ said_again mid new is = rw is refl
 
 pub answered : (takes_in : TakingIn) (line : List ℕ) (channel : Standing) (old mid : State) (new : WebState)
     (old_door new_door : DoorState) (out_old out_new : List ℕ)
-    → ((earlier : List ℕ) → Nvt.StandsAfter old.terminal earlier → Feeds takes_in earlier line old mid old_door new_door)
+    → ((earlier : List ℕ) → Nvt.StandsAfter old.terminal earlier
+    → Feeds takes_in earlier line old mid old_door new_door)
     → Sent (record { channel = channel; session = mid }) new out_old out_new
     → AnswersTyped takes_in line (record { channel = channel; session = old }) new old_door new_door out_old out_new
 answered takes_in line channel old mid new old_door new_door out_old out_new feeds sent = record {
@@ -59,7 +60,8 @@ pub fed : (takes_in : TakingIn) (bytes line : List ℕ) (old mid new : WebState)
     → FeedsWeb takes_in earlier bytes old new old_door new_door out_old out_new
 fed takes_in bytes line old mid new old_door new_door out_old out_mid out_new same takes answers earlier stands =
     let grows : Grows earlier bytes [] line out_old out_mid [] = takes.grows earlier stands.channel in
-    let feeds : Feeds takes_in (typed_of earlier) (typed grows.fresh) old.session (saying new.session answers.said) old_door new_door =
+    let feeds : Feeds takes_in (typed_of earlier) (typed grows.fresh) old.session
+    (saying new.session answers.said) old_door new_door =
     rw (same, grows.types) at (answers.feeds (typed_of earlier) (rw same stands.terminal)) in
     record {
       stands = record {
@@ -77,7 +79,8 @@ fed takes_in bytes line old mid new old_door new_door out_old out_mid out_new sa
 pub fed_to_end : (takes_in : TakingIn) (bytes line : List ℕ) (old new : WebState) (mid : State)
     (old_door new_door : DoorState) (out_old out_new : List ℕ) (e : Error) → mid ≡ old.session
     → EndsWith old.channel bytes [] line out_old out_new e
-    → ((earlier : List ℕ) → Nvt.StandsAfter mid.terminal earlier → Feeds takes_in earlier line mid new.session old_door new_door)
+    → ((earlier : List ℕ) → Nvt.StandsAfter mid.terminal earlier
+    → Feeds takes_in earlier line mid new.session old_door new_door)
     → (earlier : List ℕ) → StandsAfter old earlier
     → EndsWeb takes_in earlier bytes old new old_door new_door out_old out_new e
 fed_to_end takes_in bytes line old new mid old_door new_door out_old out_new e same ends feeds earlier stands =
@@ -97,7 +100,8 @@ pub typed_none : typed_of [] ≡ []
 unfolding read_times read_step decode_frame decode_header
 typed_none = refl
 
-pub begins : (channel : Standing) (session : State) → Channel.StandsAfter channel [] → Nvt.StandsAfter session.terminal []
+pub begins : (channel : Standing) (session : State) → Channel.StandsAfter channel []
+    → Nvt.StandsAfter session.terminal []
     → StandsAfter (record { channel = channel; session = session }) []
 begins channel session stands terminal = record { channel = stands; terminal = rw typed_none terminal }
 
@@ -108,6 +112,9 @@ pub fed_on : {T E : Type 0} (takes_in : TakingIn) (bytes none line given : List 
     → OnOk r (AnswersTyped takes_in given mid new old_door new_door out_mid out_new)
     → OnOk r ((earlier : List ℕ) → StandsAfter old earlier
     → FeedsWeb takes_in earlier bytes old new old_door new_door out_old out_new)
-fed_on takes_in bytes none line given old mid new old_door new_door out_old out_mid out_new (Err e) nothing same session takes answers = tt
-fed_on takes_in bytes none line given old mid new old_door new_door out_old out_mid out_new (Ok x) nothing same session takes answers =
-    fed takes_in bytes line old mid new old_door new_door out_old out_mid out_new session (rw nothing at takes) (rw same at answers)
+fed_on takes_in bytes none line given old mid new old_door new_door out_old out_mid out_new
+    (Err e) nothing same session takes answers = tt
+fed_on takes_in bytes none line given old mid new old_door new_door out_old out_mid out_new
+    (Ok x) nothing same session takes answers =
+    fed takes_in bytes line old mid new old_door new_door out_old out_mid out_new session (rw nothing at takes)
+    (rw same at answers)

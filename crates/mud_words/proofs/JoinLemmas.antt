@@ -6,7 +6,7 @@ use Rattle.std.proofs.lemmas.List.{append-nil, take-map, drop-map}
 use Rattle.mud_words.specs.declared.prepositions.Spot.{Spot}
 use Rattle.mud_words.specs.Prepositions.{Found, counted}
 use Rattle.mud_words.specs.Parse.{round}
-use Rattle.mud_words.specs.Searching.{spot_of, split, joined}
+use Rattle.mud_words.specs.inner.Searching.{spot_of, split, joined}
 
 -- the library's words for the same
 pub joined_by : {X : Type 0} (f : X → List ℕ) (xs : List X) → join_by f (32 ∷ []) xs ≡ joined (map f xs)

@@ -9,7 +9,7 @@ use Rattle.mud_words.specs.declared.piece.Piece.{Piece}
 use Rattle.mud_words.specs.declared.piece.Piece.TheVariants.{Gap, Char}
 use Rattle.mud_words.specs.Words.{pieces_from, pieces, is_gap, text_of, texts_of, plain_words, is_space}
 use Rattle.mud_words.specs.Laws.{is_mark, quoted, is_empty}
-use Rattle.mud_words.specs.Cutting.{goes_on}
+use Rattle.mud_words.specs.inner.Cutting.{goes_on}
 use Rattle.mud_words.proofs.CuttingLemmas.{onto, more_mark, mark}
 
 -- ---- words between quotes

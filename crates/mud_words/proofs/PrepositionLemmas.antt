@@ -1,6 +1,7 @@
 -- Prepositions, as the code meets them word by word.
 use Rattle.std.proofs.Common.{◌≡◌, ℕ, ◌+◌, ◌-◌, ◌<◌, ◌≤◌, false, eqb, List, [], ◌∷◌, ◌++◌, length, map, take, drop}
-use Rattle.std.proofs.Common.{get_or, filter, Option, Some, None, option_map, refl, sym, ap, subst, ◌∙◌, inl, inr, arith}
+use Rattle.std.proofs.Common.{get_or, filter, Option, Some, None, option_map, refl, sym, ap, subst, ◌∙◌, inl, inr}
+use Rattle.std.proofs.Common.{arith}
 use Rattle.std.proofs.Common.{add-zero, zero-add}
 use Rattle.std.specs.Char.{to_ascii_lowercase}
 use Rattle.std.specs.List.{find, starts_with}
@@ -12,7 +13,7 @@ use Rattle.std.proofs.lemmas.List.{nil_from_length}
 use Rattle.std.proofs.lemmas.Slice.Eq.{bytes_eq-Decides}
 use Rattle.mud_words.specs.declared.Prep.{Prep}
 use Rattle.mud_words.specs.Prepositions.{Phrase, Found, lower, begins, of_length, phrase_at, or_later, counted}
-use Rattle.mud_words.specs.Searching.{spot_of, phrase_len}
+use Rattle.mud_words.specs.inner.Searching.{spot_of, phrase_len}
 
 -- the same phrase, so many words further on
 abbrev pub moved : ℕ → Found → Found

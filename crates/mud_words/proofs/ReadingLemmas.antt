@@ -11,7 +11,7 @@ use Rattle.mud_words.specs.declared.piece.Piece.{Piece}
 use Rattle.mud_words.specs.declared.piece.Piece.TheVariants.{Gap, Mark, Char}
 use Rattle.mud_words.specs.Words.{piece, quoted_after, escaped_after, is_gap, pieces_from, pieces, texts_of}
 use Rattle.mud_words.specs.Words.{plain_words, after_first_word, is_space, without_front, spelled_out, words}
-use Rattle.mud_words.specs.Cutting.{goes_on, rest_words}
+use Rattle.mud_words.specs.inner.Cutting.{goes_on, rest_words}
 use Rattle.mud_words.proofs.PieceLemmas.{piece-low, of_char, after_gap, from_gap, drop-past_one}
 use Rattle.mud_words.proofs.CuttingLemmas.{onto, more_mark}
 use Rattle.mud_words.proofs.BlankLemmas.{begins_blank, bare}

@@ -3,7 +3,7 @@ ghost use Rattle.std.specs.Char.{to_ascii_lowercase};
 ghost use Rattle.std.specs.List.{find};
 ghost use Rattle.std.specs.Option.{option_map};
 ghost use Rattle.mud_words.specs.Prepositions.{begins, phrase_at, counted};
-ghost use Rattle.mud_words.specs.Searching.{shown, texts, spot_of, phrase_len};
+ghost use Rattle.mud_words.specs.inner.Searching.{shown, texts, spot_of, phrase_len};
 
 use crate::Prep;
 

@@ -2,7 +2,7 @@ ghost use Rattle.std.specs.Prelude.{◌≡◌, ℕ, List, [], ◌∷◌, map, st
 ghost use Rattle.mud_words.specs.Words.{plain_words, without_front, without_back};
 ghost use Rattle.mud_words.specs.Line.{line_of};
 ghost use Rattle.mud_words.specs.Parse.{said};
-ghost use Rattle.mud_words.specs.Searching.{line_with, split, joined};
+ghost use Rattle.mud_words.specs.inner.Searching.{line_with, split, joined};
 
 use crate::cut::push_words;
 use crate::prepositions::counted;

@@ -1,5 +1,6 @@
 -- A world stays sound when new objects are added.
-use Rattle.std.proofs.Common.{◌≡◌, ℕ, zero, suc, ◌+◌, ◌≤◌, Bool, true, false, cond, List, [], ◌∷◌, ◌++◌, length, Some, None, refl, sym, ◌∙◌, ap, subst, arith}
+use Rattle.std.proofs.Common.{◌≡◌, ℕ, zero, suc, ◌+◌, ◌≤◌, Bool, true, false, cond, List, [], ◌∷◌, ◌++◌, length, Some}
+use Rattle.std.proofs.Common.{None, refl, sym, ◌∙◌, ap, subst, arith}
 use Rattle.std.specs.Prelude.{nat_eq, is_some, IfSome}
 use Rattle.std.specs.Option.{option_map_or, option_and_then}
 use Rattle.std.specs.List.{list_all}
@@ -12,24 +13,31 @@ use Rattle.mud_world.specs.declared.record.Kind.TheVariants.{Room, Exit, Thing, 
 use Rattle.mud_world.specs.Kinds.{kind_place, is_room_kind, is_exit_kind}
 use Rattle.mud_world.specs.State.{State, record_at, exists, has, is_room, is_exit, place_of, key_of, nests, follow}
 use Rattle.mud_world.specs.Sound.{IsSound, IsRising, IsPlacedWell}
-use Rattle.mud_world.specs.Inner.{AreNamedApart}
+use Rattle.mud_world.specs.inner.Parts.{AreNamedApart}
 use Rattle.mud_world.specs.Legal.{with_new, numbered_from}
-use Rattle.mud_world.specs.Going.{IsNew}
-use Rattle.mud_world.proofs.Records.{record_cases, in_bounds, lookup-append_left, lookup-append_right, option_map_or-agree_keys, list_all-agree}
+use Rattle.mud_world.specs.inner.CanGo.{IsNew}
+use Rattle.mud_world.proofs.Records.{record_cases, in_bounds, lookup-append_left, lookup-append_right}
+use Rattle.mud_world.proofs.Records.{option_map_or-agree_keys, list_all-agree}
 use Rattle.mud_world.proofs.Places.{option_cases, follow_by, no_circle-from_end, ends_by-bound}
 use Rattle.mud_world.proofs.Moving.{place-below}
 
-IsRising-append : (low mid high : ℕ) (es fs : List (ℕ × Record)) → IsRising low es mid → IsRising mid fs high → IsRising low (es ++ fs) high
+IsRising-append : (low mid high : ℕ) (es fs : List (ℕ × Record)) → IsRising low es mid → IsRising mid fs high
+    → IsRising low (es ++ fs) high
 IsRising-append low mid high [] fs first second = weaker fs first second
   where
     weaker : (fs : List (ℕ × Record)) → low ≤ mid → IsRising mid fs high → IsRising low fs high
     weaker [] le rises = omega (arith, rises)
     weaker (f ∷ fs) le rises = (omega (arith, rises.0), rises.1)
-IsRising-append low mid high (e ∷ es) fs first second = (first.0, IsRising-append (e.0 + 1) mid high es fs first.1 second)
+IsRising-append low mid high (e ∷ es) fs first second =
+    (first.0, IsRising-append (e.0 + 1) mid high es fs first.1 second)
 
 IsRising-numbered : (n : ℕ) (rs : List Record) → IsRising n (numbered_from n rs) (n + length rs)
 IsRising-numbered n [] = omega arith
-IsRising-numbered n (r ∷ rs) = (omega arith, subst (λ (m : ℕ). IsRising (n + 1) (numbered_from (n + 1) rs) m) (omega arith) (IsRising-numbered (n + 1) rs))
+IsRising-numbered n (r ∷ rs) = (
+  omega arith,
+  subst (λ (m : ℕ). IsRising (n + 1) (numbered_from (n + 1) rs) m) (omega arith)
+      (IsRising-numbered (n + 1) rs),
+)
 
 module _ (w : State) (sound : IsSound w) (rs : List Record) (room : w.next + length rs ≤ 8192) where
   abbrev w' : State
@@ -43,7 +51,8 @@ module _ (w : State) (sound : IsSound w) (rs : List Record) (room : w.next + len
     new_at n at = lookup-append_right n w.objects (numbered_from w.next rs) at
 
     -- an object of the new world is old, or new
-    either_at : {P : Type 0} (n : ℕ) (r : Record) → record_at w' n ≡ Some r → (record_at w n ≡ Some r → P) → (record_at w n ≡ None → IsNew w w' r → P) → P
+    either_at : {P : Type 0} (n : ℕ) (r : Record) → record_at w' n ≡ Some r → (record_at w n ≡ Some r → P)
+        → (record_at w n ≡ None → IsNew w w' r → P) → P
     either_at n r at f g =
         record_cases (record_at w n)
         (λ e. g e (new n r (sym (new_at n e) ∙ at)))
@@ -65,11 +74,17 @@ module _ (w : State) (sound : IsSound w) (rs : List Record) (room : w.next + len
     kept_exit n there is =
         record_cases (record_at w n)
         (λ e. absurd (true≢false (sym there ∙ ap is_some e)))
-        (λ r e. ap (λ v. option_map_or (λ r. is_exit_kind r.kind) v false) (old_at n r e) ∙ sym (ap (λ v. option_map_or (λ r. is_exit_kind r.kind) v false) e) ∙ is)
+        (λ r e. ap (λ v. option_map_or (λ r. is_exit_kind r.kind) v false) (old_at n r e)
+        ∙ sym (ap (λ v. option_map_or (λ r. is_exit_kind r.kind) v false) e) ∙ is)
 
     kept_well : (k : Kind) → IsPlacedWell w k → IsPlacedWell w' k
     kept_well Room well = tt
-    kept_well (Exit p) well = (kept_has (λ r. is_room_kind r.kind) p.source well.0, kept_has (λ r. is_room_kind r.kind) p.destination well.1, well.2)
+    kept_well (Exit p) well = (
+      kept_has (λ r. is_room_kind r.kind) p.source well.0,
+      kept_has
+          (λ r. is_room_kind r.kind) p.destination well.1,
+      well.2,
+    )
     kept_well (Thing p) well = (kept_exists p well.0, kept_exit p well.0 well.1)
     kept_well (Player p) well = kept_has (λ r. is_room_kind r.kind) p well
 
@@ -80,7 +95,9 @@ module _ (w : State) (sound : IsSound w) (rs : List Record) (room : w.next + len
     place_exists (Player q) p well e =
         let same : q ≡ p = cc in
         record_cases (record_at w p)
-        (λ f. absurd (true≢false (sym well ∙ ap (is_room w) same ∙ ap (λ v. option_map_or (λ r. is_room_kind r.kind) v false) f)))
+        (λ f. absurd
+        (true≢false
+        (sym well ∙ ap (is_room w) same ∙ ap (λ v. option_map_or (λ r. is_room_kind r.kind) v false) f)))
         (λ r f. ap is_some f)
 
     -- chains of old objects stay as they were
@@ -96,13 +113,19 @@ module _ (w : State) (sound : IsSound w) (rs : List Record) (room : w.next + len
         (λ f. follow_by w' n a None (is ∙ f))
         (λ p f.
         follow_by w' n a (Some p) (is ∙ f)
-        ∙ ends_kept n p (place_exists r.kind p (sound.placed a r e) f) (sym (follow_by w n a (Some p) (was ∙ f)) ∙ ends)))
+        ∙ ends_kept n p (place_exists r.kind p (sound.placed a r e) f)
+        (sym (follow_by w n a (Some p) (was ∙ f)) ∙ ends)))
 
     old_ends : (a : ℕ) → exists w a ≡ true → (n : ℕ) × (follow w' n a ≡ None)
     old_ends a there =
         record_cases (record_at w a)
         (λ e. absurd (true≢false (sym there ∙ ap is_some e)))
-        (λ r e. (w.next, ends_kept w.next a there (ends_by-bound w w.next (place-below w sound) sound.no_circle a (in_bounds 0 w.next a r w.objects sound.rising e).1)))
+        (λ r e. (
+          w.next,
+          ends_kept w.next a there
+              (ends_by-bound w w.next (place-below w sound) sound.no_circle a
+              (in_bounds 0 w.next a r w.objects sound.rising e).1),
+        ))
 
     all_end : (a : ℕ) → (n : ℕ) × (follow w' n a ≡ None)
     all_end a =
@@ -124,22 +147,30 @@ module _ (w : State) (sound : IsSound w) (rs : List Record) (room : w.next + len
         (λ e.
         record_cases (record_at w' o)
         (λ f. ap (option_and_then (λ r. r.key)) f ∙ sym (ap (option_and_then (λ r. r.key)) e))
-        (λ r f. ap (option_and_then (λ r. r.key)) f ∙ (new o r (sym (new_at o e) ∙ f)).keyless ∙ sym (ap (option_and_then (λ r. r.key)) e)))
+        (λ r f. ap (option_and_then (λ r. r.key)) f ∙ (new o r (sym (new_at o e) ∙ f)).keyless
+        ∙ sym (ap (option_and_then (λ r. r.key)) e)))
         (λ r e. ap (option_and_then (λ r. r.key)) (old_at o r e) ∙ sym (ap (option_and_then (λ r. r.key)) e))
 
-    nest_new : (m : ℕ) (fs : List Record) → ((n : ℕ) (r : Record) → lookup (nat_eq n) (numbered_from m fs) ≡ Some r → r.key ≡ None) → list_all (λ e. option_map_or (nests w' 3) e.1.key true) (numbered_from m fs) ≡ true
+    nest_new : (m : ℕ) (fs : List Record)
+        → ((n : ℕ) (r : Record) → lookup (nat_eq n) (numbered_from m fs) ≡ Some r → r.key ≡ None)
+        → list_all (λ e. option_map_or (nests w' 3) e.1.key true) (numbered_from m fs) ≡ true
     nest_new m [] none = refl
     nest_new m (r ∷ fs) none =
         and_from _ _
-        (ap (λ v. option_map_or (nests w' 3) v true) (none m r (ap (λ b. cond b (Some r) (lookup (nat_eq m) (numbered_from (m + 1) fs))) (eq_self m))))
+        (ap (λ v. option_map_or (nests w' 3) v true)
+        (none m r (ap (λ b. cond b (Some r) (lookup (nat_eq m) (numbered_from (m + 1) fs))) (eq_self m))))
         (nest_new (m + 1) fs (λ n s at.
-        let above = (in_bounds (m + 1) (m + 1 + length fs) n s (numbered_from (m + 1) fs) (IsRising-numbered (m + 1) fs) at).0 in
-        none n s (ap (λ b. cond b (Some r) (lookup (nat_eq n) (numbered_from (m + 1) fs))) (ne_eqb n m (λ same. omega (arith, above, same))) ∙ at)))
+        let above =
+        (in_bounds (m + 1) (m + 1 + length fs) n s (numbered_from (m + 1) fs) (IsRising-numbered (m + 1) fs) at).0
+        in
+        none n s (ap (λ b. cond b (Some r) (lookup (nat_eq n) (numbered_from (m + 1) fs)))
+        (ne_eqb n m (λ same. omega (arith, above, same))) ∙ at)))
       where
         eq_self : (m : ℕ) → nat_eq m m ≡ true
         eq_self m = grind arith
 
-    list_all-append : (p : ℕ × Record → Bool) (es fs : List (ℕ × Record)) → list_all p es ≡ true → list_all p fs ≡ true → list_all p (es ++ fs) ≡ true
+    list_all-append : (p : ℕ × Record → Bool) (es fs : List (ℕ × Record)) → list_all p es ≡ true → list_all p fs ≡ true
+        → list_all p (es ++ fs) ≡ true
     list_all-append p [] fs first second = second
     list_all-append p (e ∷ es) fs first second =
         let parts = and_parts (p e) (list_all p es) first in
@@ -147,12 +178,14 @@ module _ (w : State) (sound : IsSound w) (rs : List Record) (room : w.next + len
 
     pub sound-new : AreNamedApart w' → IsSound w'
     sound-new named = record {
-      rising = IsRising-append 0 w.next (w.next + length rs) w.objects (numbered_from w.next rs) sound.rising (IsRising-numbered w.next rs);
+      rising = IsRising-append 0 w.next (w.next + length rs) w.objects (numbered_from w.next rs) sound.rising
+          (IsRising-numbered w.next rs);
       limit = room;
       placed = λ n r at. either_at n r at (λ old. kept_well r.kind (sound.placed n r old)) (λ gone is. is.well);
       no_circle = λ m k. let ends = all_end m in no_circle-from_end w' ends.0 m k ends.1;
       keyless = λ n r at. either_at n r at (λ old. sound.keyless n r old) (λ gone is place e. is.keyless);
-      locked = λ n r at. either_at n r at (λ old. sound.locked n r old) (λ gone is. subst (λ k. IfSome k IsKey) (sym is.keyless) tt);
+      locked = λ n r at. either_at n r at (λ old. sound.locked n r old)
+          (λ gone is. subst (λ k. IfSome k IsKey) (sym is.keyless) tt);
       nesting =
           list_all-append _ w.objects (numbered_from w.next rs)
           (list_all-agree _ _ (λ e. option_map_or-agree_keys w w' same_key 3 e.1.key) w.objects ∙ sound.nesting)

@@ -1,5 +1,6 @@
 -- Askers put into lists and taken out again.
-use Rattle.std.proofs.Common.{◌≡◌, ℕ, Bool, true, false, cond, not, ◌&&◌, ◌||◌, List, [], ◌∷◌, refl, sym, ◌∙◌, ap, inl, inr, ⊎_elim}
+use Rattle.std.proofs.Common.{◌≡◌, ℕ, Bool, true, false, cond, not, ◌&&◌, ◌||◌, List, [], ◌∷◌, refl, sym, ◌∙◌, ap, inl}
+use Rattle.std.proofs.Common.{inr, ⊎_elim}
 use Rattle.std.specs.Prelude.{nat_eq, nat_lt, IsTrue}
 use Rattle.std.specs.List.{list_any}
 use Rattle.std.specs.Option.{option_map}
@@ -10,15 +11,17 @@ use Rattle.mud_world.specs.declared.record.Kind.{Kind}
 use Rattle.mud_world.specs.declared.links.Links.{Links}
 use Rattle.mud_world.specs.Kinds.{kind_place, kind_passage}
 use Rattle.mud_world.specs.State.{is_number}
-use Rattle.mud_world.specs.Edits.{AreLinked, AreSameLinks, IsInNone}
+use Rattle.mud_world.specs.inner.Edits.{AreLinked, AreSameLinks, IsInNone}
 use Rattle.mud_world.proofs.Records.{bool_cases}
 
 any-inserted : (n : ℕ) (xs : List ℕ) → list_any (nat_eq n) (inserted n xs) ≡ true
 any-inserted n [] = or_left (nat_eq n n) false (eq-eqb n n refl)
 any-inserted n (x ∷ xs) =
     bool_cases (nat_lt n x)
-    (λ e. ap (λ b. list_any (nat_eq n) (cond b (n ∷ x ∷ xs) (x ∷ inserted n xs))) e ∙ or_left (nat_eq n n) _ (eq-eqb n n refl))
-    (λ e. ap (λ b. list_any (nat_eq n) (cond b (n ∷ x ∷ xs) (x ∷ inserted n xs))) e ∙ or_right (nat_eq n x) _ (any-inserted n xs))
+    (λ e. ap (λ b. list_any (nat_eq n) (cond b (n ∷ x ∷ xs) (x ∷ inserted n xs))) e
+    ∙ or_left (nat_eq n n) _ (eq-eqb n n refl))
+    (λ e. ap (λ b. list_any (nat_eq n) (cond b (n ∷ x ∷ xs) (x ∷ inserted n xs))) e
+    ∙ or_right (nat_eq n x) _ (any-inserted n xs))
 
 pub put-there : (n : ℕ) (xs : List ℕ) → list_any (nat_eq n) xs ≡ true → put n xs ≡ xs
 put-there n xs e = ap (λ b. cond b xs (inserted n xs)) e
@@ -36,12 +39,14 @@ pub without-absent : (n : ℕ) (xs : List ℕ) → list_any (nat_eq n) xs ≡ fa
 without-absent n [] e = refl
 without-absent n (x ∷ xs) e =
     bool_cases (nat_eq x n)
-    (λ here. absurd (true≢false (sym (or_left (nat_eq n x) (list_any (nat_eq n) xs) (eq-eqb n x (sym (eqb-true x n here)))) ∙ e)))
+    (λ here. absurd
+    (true≢false (sym (or_left (nat_eq n x) (list_any (nat_eq n) xs) (eq-eqb n x (sym (eqb-true x n here)))) ∙ e)))
     (λ past.
     ap (λ b. cond (not b) (x ∷ without n xs) (without n xs)) past
     ∙ ap (λ v. x ∷ v)
     (without-absent n xs
-    (bool_cases (list_any (nat_eq n) xs) (λ f. absurd (true≢false (sym (or_right (nat_eq n x) (list_any (nat_eq n) xs) f) ∙ e))) (λ f. f))))
+    (bool_cases (list_any (nat_eq n) xs)
+    (λ f. absurd (true≢false (sym (or_right (nat_eq n x) (list_any (nat_eq n) xs) f) ∙ e))) (λ f. f))))
 
 absent-without : (n : ℕ) (xs : List ℕ) → list_any (nat_eq n) (without n xs) ≡ false
 absent-without n [] = refl
@@ -68,7 +73,8 @@ without-inserted n (x ∷ xs) =
     ∙ ap (λ v. cond (not (nat_eq x n)) (x ∷ v) v) (without-inserted n xs))
 
 -- ---- changes one after the other, of f done twice as once
-module _ (p q t : ℕ → Bool) (whole : (n : ℕ) → t n ≡ (p n || q n)) (f : List ℕ → List ℕ) (twice : (xs : List ℕ) → f (f xs) ≡ f xs) (l l1 l2 : List (ℕ × List ℕ)) where
+module _ (p q t : ℕ → Bool) (whole : (n : ℕ) → t n ≡ (p n || q n)) (f : List ℕ → List ℕ)
+    (twice : (xs : List ℕ) → f (f xs) ≡ f xs) (l l1 l2 : List (ℕ × List ℕ)) where
   step : (a b : Bool) (xs : List ℕ) → cond b (f (cond a (f xs) xs)) (cond a (f xs) xs) ≡ cond (a || b) (f xs) xs
   step true true xs = twice xs
   step true false xs = refl
@@ -90,13 +96,15 @@ module _ (p q t : ℕ → Bool) (whole : (n : ℕ) → t n ≡ (p n || q n)) (f 
       let passes : t n ≡ true = whole n ∙ or_left (p n) (q n) e in
       ⊎_elim
       (λ (same : list_at l2 n ≡ list_at l1 n). inr (passes, same ∙ done))
-      (λ (more : IsTrue (q n) × (list_at l2 n ≡ f (list_at l1 n))). inr (passes, more.1 ∙ ap f done ∙ twice (list_at l n)))
+      (λ (more : IsTrue (q n) × (list_at l2 n ≡ f (list_at l1 n))). inr
+      (passes, more.1 ∙ ap f done ∙ twice (list_at l n)))
       (second n))
       (λ e.
       let done : list_at l1 n ≡ list_at l n = first n ∙ ap (λ b. cond b (f (list_at l n)) (list_at l n)) e in
       ⊎_elim
       (λ (same : list_at l2 n ≡ list_at l1 n). inl (same ∙ done))
-      (λ (more : IsTrue (q n) × (list_at l2 n ≡ f (list_at l1 n))). inr (whole n ∙ or_right (p n) (q n) more.0, more.1 ∙ ap f done))
+      (λ (more : IsTrue (q n) × (list_at l2 n ≡ f (list_at l1 n))). inr
+      (whole n ∙ or_right (p n) (q n) more.0, more.1 ∙ ap f done))
       (second n))
 
 pub split_and : (k a b : Bool) → (not k && (a || b)) ≡ ((not k && a) || (not k && b))
@@ -104,7 +112,8 @@ split_and true a b = refl
 split_and false a b = refl
 
 -- what was put in is taken out again, but where it was before
-pub taken_out : (m : ℕ) (new old : ℕ → Bool) (l l1 l2 : List (ℕ × List ℕ)) → ((n : ℕ) → list_any (nat_eq m) (list_at l n) ≡ old n) → AreBetween new (put m) l l1
+pub taken_out : (m : ℕ) (new old : ℕ → Bool) (l l1 l2 : List (ℕ × List ℕ))
+    → ((n : ℕ) → list_any (nat_eq m) (list_at l n) ≡ old n) → AreBetween new (put m) l l1
     → AreChanged (λ n. not (old n) && new n) (without m) l1 l2 → AreSame l l2
 taken_out m new old l l1 l2 known between is = λ n.
     is n
@@ -135,20 +144,32 @@ taken_out m new old l l1 l2 known between is = λ n.
     either false xs = refl
 
 -- what was put into lists that did not have it is taken out again
-pub inserted-out : (m : ℕ) (t : ℕ → Bool) (l l1 l2 : List (ℕ × List ℕ)) → ((n : ℕ) → list_any (nat_eq m) (list_at l n) ≡ false) → AreChanged t (inserted m) l l1
+pub inserted-out : (m : ℕ) (t : ℕ → Bool) (l l1 l2 : List (ℕ × List ℕ))
+    → ((n : ℕ) → list_any (nat_eq m) (list_at l n) ≡ false) → AreChanged t (inserted m) l l1
     → AreChanged t (without m) l1 l2 → AreSame l l2
 inserted-out m t l l1 l2 absent in' out = λ n.
     out n
     ∙ ap (λ v. cond (t n) (without m v) v) (in' n)
     ∙ back (t n) n
   where
-    back : (b : Bool) (n : ℕ) → cond b (without m (cond b (inserted m (list_at l n)) (list_at l n))) (cond b (inserted m (list_at l n)) (list_at l n)) ≡ list_at l n
+    back : (b : Bool) (n : ℕ)
+        → cond b (without m (cond b (inserted m (list_at l n)) (list_at l n)))
+        (cond b (inserted m (list_at l n)) (list_at l n)) ≡ list_at l n
     back true n = without-inserted m (list_at l n) ∙ without-absent m (list_at l n) (absent n)
     back false n = refl
 
-pub linked-out : (k : Kind) (m : ℕ) (l l1 l2 : Links) → IsInNone m l → AreLinked k (inserted m) l l1 → AreLinked k (without m) l1 l2 → AreSameLinks l l2
+pub linked-out : (k : Kind) (m : ℕ) (l l1 l2 : Links) → IsInNone m l → AreLinked k (inserted m) l l1
+    → AreLinked k (without m) l1 l2 → AreSameLinks l l2
 linked-out k m l l1 l2 absent in' out = record {
-  contents = inserted-out m (λ n. is_number n (kind_place k)) l.contents l1.contents l2.contents absent.contents in'.contents out.contents;
-  leaving = inserted-out m (λ n. is_number n (option_map (λ p. p.source) (kind_passage k))) l.leaving l1.leaving l2.leaving absent.leaving in'.leaving out.leaving;
-  arriving = inserted-out m (λ n. is_number n (option_map (λ p. p.destination) (kind_passage k))) l.arriving l1.arriving l2.arriving absent.arriving in'.arriving out.arriving;
+  contents =
+      inserted-out m
+      (λ n. is_number n (kind_place k)) l.contents l1.contents l2.contents absent.contents in'.contents out.contents;
+  leaving =
+      inserted-out m
+      (λ n. is_number n (option_map (λ p. p.source) (kind_passage k))) l.leaving l1.leaving l2.leaving absent.leaving
+      in'.leaving out.leaving;
+  arriving =
+      inserted-out m
+      (λ n. is_number n (option_map (λ p. p.destination) (kind_passage k))) l.arriving l1.arriving l2.arriving
+      absent.arriving in'.arriving out.arriving;
 }

@@ -1,5 +1,6 @@
 -- Going downwards through contents gives what an object carries.
-use Rattle.std.proofs.Common.{◌≡◌, ℕ, zero, suc, ◌+◌, ◌<◌, ◌≤◌, Bool, true, false, cond, ◌||◌, List, [], ◌∷◌, ◌++◌, length, get_or, Option, Some, None, refl, sym, ◌∙◌, ap, subst, arith, ⊎_elim}
+use Rattle.std.proofs.Common.{◌≡◌, ℕ, zero, suc, ◌+◌, ◌<◌, ◌≤◌, Bool, true, false, cond, ◌||◌, List, [], ◌∷◌, ◌++◌}
+use Rattle.std.proofs.Common.{length, get_or, Option, Some, None, refl, sym, ◌∙◌, ap, subst, arith, ⊎_elim}
 use Rattle.std.specs.Prelude.{Result, Ok, Err, IfOk, IsTrue, ◌↔◌, nat_eq, is_some, slice_get}
 use Rattle.std.specs.Option.{option_map_or, option_and_then}
 use Rattle.std.specs.List.{list_any, IsDistinct}
@@ -11,7 +12,8 @@ use Rattle.mud_world.specs.declared.record.Record.{Record}
 use Rattle.mud_world.specs.declared.record.Kind.{Kind}
 use Rattle.mud_world.specs.declared.record.Kind.TheVariants.{Room, Exit, Thing, Player}
 use Rattle.mud_world.specs.Kinds.{kind_place, is_room_kind}
-use Rattle.mud_world.specs.State.{State, has, opens, record_at, exists, place_of, is_number, contents_of, follow, within, Within, IsHolding}
+use Rattle.mud_world.specs.State.{State, has, opens, record_at, exists, place_of, is_number, contents_of, follow}
+use Rattle.mud_world.specs.State.{within, Within, IsHolding}
 use Rattle.mud_world.specs.Truth.{key_true}
 use Rattle.mud_world.specs.Sound.{IsSound, IsRising, IsPlacedWell}
 use Rattle.mud_world.proofs.Records.{record_cases, bool_cases, in_bounds}
@@ -22,10 +24,13 @@ use Rattle.mud_world.proofs.Removing.{lookup-below}
 use Rattle.mud_world.proofs.Listing.{has_exists}
 
 -- ---- a number among those that pass a test
-listed_by : (test : Record → Bool) (o : ℕ) (e : ℕ × Record) (es : List (ℕ × Record)) (b : Bool) → test e.1 ≡ b → list_any (nat_eq o) (passing test (e ∷ es)) ≡ list_any (nat_eq o) (cond b (e.0 ∷ passing test es) (passing test es))
+listed_by : (test : Record → Bool) (o : ℕ) (e : ℕ × Record) (es : List (ℕ × Record)) (b : Bool) → test e.1 ≡ b
+    → list_any (nat_eq o) (passing test (e ∷ es))
+    ≡ list_any (nat_eq o) (cond b (e.0 ∷ passing test es) (passing test es))
 listed_by test o e es b is = ap (list_any (nat_eq o)) (passing_by test e es b is)
 
-pub listed : (test : Record → Bool) (o low high : ℕ) (es : List (ℕ × Record)) → IsRising low es high → list_any (nat_eq o) (passing test es) ≡ option_map_or test (lookup (nat_eq o) es) false
+pub listed : (test : Record → Bool) (o low high : ℕ) (es : List (ℕ × Record)) → IsRising low es high
+    → list_any (nat_eq o) (passing test es) ≡ option_map_or test (lookup (nat_eq o) es) false
 listed test o low high [] rises = refl
 listed test o low high (e ∷ es) rises =
     let rest = listed test o (e.0 + 1) high es rises.1 in
@@ -34,29 +39,40 @@ listed test o low high (e ∷ es) rises =
     let found : lookup (nat_eq o) (e ∷ es) ≡ Some e.1 = ap (λ b. cond b (Some e.1) (lookup (nat_eq o) es)) here in
     let same = eqb-true o e.0 here in
     bool_cases (test e.1)
-    (λ in'. listed_by test o e es true in' ∙ ap (λ b. b || list_any (nat_eq o) (passing test es)) here ∙ sym (ap (λ v. option_map_or test v false) found ∙ in'))
+    (λ in'. listed_by test o e es true in' ∙ ap (λ b. b || list_any (nat_eq o) (passing test es)) here
+    ∙ sym (ap (λ v. option_map_or test v false) found ∙ in'))
     (λ out.
     listed_by test o e es false out ∙ rest
     ∙ ap (λ v. option_map_or test v false) (lookup-below o (e.0 + 1) high es rises.1 (omega (arith, same)))
     ∙ sym (ap (λ v. option_map_or test v false) found ∙ out)))
     (λ past.
-    let found : lookup (nat_eq o) (e ∷ es) ≡ lookup (nat_eq o) es = ap (λ b. cond b (Some e.1) (lookup (nat_eq o) es)) past in
+    let found : lookup (nat_eq o) (e ∷ es) ≡ lookup (nat_eq o) es =
+    ap (λ b. cond b (Some e.1) (lookup (nat_eq o) es)) past in
     bool_cases (test e.1)
-    (λ in'. listed_by test o e es true in' ∙ ap (λ b. b || list_any (nat_eq o) (passing test es)) past ∙ rest ∙ sym (ap (λ v. option_map_or test v false) found))
+    (λ in'. listed_by test o e es true in' ∙ ap (λ b. b || list_any (nat_eq o) (passing test es)) past ∙ rest
+    ∙ sym (ap (λ v. option_map_or test v false) found))
     (λ out. listed_by test o e es false out ∙ rest ∙ sym (ap (λ v. option_map_or test v false) found)))
 
 module _ (w : State) (sound : IsSound w) where
   -- what lies in n has n as its place
-  listed-contents : (o n : ℕ) → list_any (nat_eq o) (contents_of w n) ≡ option_map_or (λ r. is_number n (kind_place r.kind)) (record_at w o) false
+  listed-contents : (o n : ℕ)
+      → list_any (nat_eq o) (contents_of w n)
+      ≡ option_map_or (λ r. is_number n (kind_place r.kind)) (record_at w o) false
   listed-contents o n = listed (λ r. is_number n (kind_place r.kind)) o 0 w.next w.objects sound.rising
 
-  pub content-place : (o n : ℕ) → list_any (nat_eq o) (contents_of w n) ≡ true → (exists w o ≡ true) × (place_of w o ≡ Some n)
+  pub content-place : (o n : ℕ) → list_any (nat_eq o) (contents_of w n) ≡ true
+      → (exists w o ≡ true) × (place_of w o ≡ Some n)
   content-place o n among =
-      let is : option_map_or (λ r. is_number n (kind_place r.kind)) (record_at w o) false ≡ true = sym (listed-contents o n) ∙ among in
+      let is : option_map_or (λ r. is_number n (kind_place r.kind)) (record_at w o) false ≡ true =
+      sym (listed-contents o n) ∙ among in
       record_cases (record_at w o)
       (λ e. absurd (true≢false (sym is ∙ ap (λ v. option_map_or (λ r. is_number n (kind_place r.kind)) v false) e)))
-      (λ r e.
-      (ap is_some e, ap (option_and_then (λ r. kind_place r.kind)) e ∙ same_number (kind_place r.kind) (sym (ap (λ v. option_map_or (λ r. is_number n (kind_place r.kind)) v false) e) ∙ is)))
+      (λ r e. (
+        ap is_some e,
+        ap (option_and_then (λ r. kind_place r.kind)) e
+            ∙ same_number (kind_place r.kind)
+            (sym (ap (λ v. option_map_or (λ r. is_number n (kind_place r.kind)) v false) e) ∙ is),
+      ))
     where
       same_number : (v : Option ℕ) → is_number n v ≡ true → v ≡ Some n
       same_number None e = absurd (true≢false (sym e))
@@ -68,7 +84,8 @@ module _ (w : State) (sound : IsSound w) where
       (λ e. let bad : None ≡ Some n = sym (ap (option_and_then (λ r. kind_place r.kind)) e) ∙ at in absurd (cc))
       (λ r e.
       let here : kind_place r.kind ≡ Some n = sym (ap (option_and_then (λ r. kind_place r.kind)) e) ∙ at in
-      listed-contents o n ∙ ap (λ v. option_map_or (λ r. is_number n (kind_place r.kind)) v false) e ∙ ap (is_number n) here ∙ eq-eqb n n refl)
+      listed-contents o n ∙ ap (λ v. option_map_or (λ r. is_number n (kind_place r.kind)) v false) e
+      ∙ ap (is_number n) here ∙ eq-eqb n n refl)
 
   place-exists : (a p : ℕ) → place_of w a ≡ Some p → exists w p ≡ true
   place-exists a p at =
@@ -80,7 +97,8 @@ module _ (w : State) (sound : IsSound w) where
       of_kind Room e well = absurd (let bad : None ≡ Some p = e in cc)
       of_kind (Exit x) e well = absurd (let bad : None ≡ Some p = e in cc)
       of_kind (Thing q) e well = let same : q ≡ p = cc in subst (λ (v : ℕ). exists w v ≡ true) same well.0
-      of_kind (Player q) e well = let same : q ≡ p = cc in subst (λ (v : ℕ). exists w v ≡ true) same (has_exists w (λ r. is_room_kind r.kind) q well)
+      of_kind (Player q) e well = let same : q ≡ p = cc in
+          subst (λ (v : ℕ). exists w v ≡ true) same (has_exists w (λ r. is_room_kind r.kind) q well)
 
 -- ---- the numbers found so far, of which the first i were looked into
 pub record Gathers (w : State) (c : ℕ) (keys : List ℕ) (i : ℕ) : Type 0 where
@@ -97,10 +115,12 @@ length-push : (ks : List ℕ) (k : ℕ) → length ks ≤ length (ks ++ k ∷ []
 length-push [] k = omega arith
 length-push (x ∷ ks) k = let rest = length-push ks k in omega (arith, rest)
 
-key-kept : (ks : List ℕ) (k j : ℕ) → j < length ks → (slice_get (insert_key nat_eq ks k) j ≡ slice_get ks j) × (length ks ≤ length (insert_key nat_eq ks k))
+key-kept : (ks : List ℕ) (k j : ℕ) → j < length ks
+    → (slice_get (insert_key nat_eq ks k) j ≡ slice_get ks j) × (length ks ≤ length (insert_key nat_eq ks k))
 key-kept ks k j lt = by (list_any (nat_eq k) ks)
   where
-    by : (b : Bool) → (slice_get (cond b ks (ks ++ k ∷ [])) j ≡ slice_get ks j) × (length ks ≤ length (cond b ks (ks ++ k ∷ [])))
+    by : (b : Bool)
+        → (slice_get (cond b ks (ks ++ k ∷ [])) j ≡ slice_get ks j) × (length ks ≤ length (cond b ks (ks ++ k ∷ [])))
     by true = (refl, omega arith)
     by false = (get-push ks k j lt, length-push ks k)
 
@@ -121,9 +141,11 @@ or-more false b c = refl
 
 any-push : (o k : ℕ) (ks : List ℕ) → list_any (nat_eq o) (ks ++ k ∷ []) ≡ (list_any (nat_eq o) ks || nat_eq o k)
 any-push o k [] = or-false (nat_eq o k)
-any-push o k (x ∷ ks) = ap (λ b. nat_eq o x || b) (any-push o k ks) ∙ or-more (nat_eq o x) (list_any (nat_eq o) ks) (nat_eq o k)
+any-push o k (x ∷ ks) = ap (λ b. nat_eq o x || b) (any-push o k ks)
+    ∙ or-more (nat_eq o x) (list_any (nat_eq o) ks) (nat_eq o k)
 
-pub any-one : (o k : ℕ) (ks : List ℕ) → list_any (nat_eq o) (insert_key nat_eq ks k) ≡ (list_any (nat_eq o) ks || nat_eq o k)
+pub any-one : (o k : ℕ) (ks : List ℕ)
+    → list_any (nat_eq o) (insert_key nat_eq ks k) ≡ (list_any (nat_eq o) ks || nat_eq o k)
 any-one o k ks =
     bool_cases (list_any (nat_eq k) ks)
     (λ old.
@@ -133,7 +155,8 @@ any-one o k ks =
     (λ e. sym (ap (λ b. list_any (nat_eq o) ks || b) e ∙ or-false (list_any (nat_eq o) ks))))
     (λ new. ap (λ b. list_any (nat_eq o) (cond b ks (ks ++ k ∷ []))) new ∙ any-push o k ks)
 
-any-all : (o : ℕ) (xs ks : List ℕ) → list_any (nat_eq o) (insert_all nat_eq ks xs) ≡ (list_any (nat_eq o) ks || list_any (nat_eq o) xs)
+any-all : (o : ℕ) (xs ks : List ℕ)
+    → list_any (nat_eq o) (insert_all nat_eq ks xs) ≡ (list_any (nat_eq o) ks || list_any (nat_eq o) xs)
 any-all o [] ks = sym (or-false (list_any (nat_eq o) ks))
 any-all o (x ∷ xs) ks =
     any-all o xs (insert_key nat_eq ks x)
@@ -141,7 +164,8 @@ any-all o (x ∷ xs) ks =
     ∙ sym (or-more (list_any (nat_eq o) ks) (nat_eq o x) (list_any (nat_eq o) xs))
 
 -- nothing was looked into yet: there is only c, if it exists
-pub gathers-one : (w : State) (c : ℕ) (keys : List ℕ) → exists w c ≡ true → keys ≡ insert_key nat_eq [] c → Gathers w c keys 0
+pub gathers-one : (w : State) (c : ℕ) (keys : List ℕ) → exists w c ≡ true → keys ≡ insert_key nat_eq [] c
+    → Gathers w c keys 0
 gathers-one w c keys there is = record {
   inside = λ o among.
       let same : nat_eq o c ≡ true = sym (ap (list_any (nat_eq o)) is ∙ or-false (nat_eq o c)) ∙ among in
@@ -158,7 +182,8 @@ gathers-none w c keys gone is = record {
   closed = λ j p o low got placed. absurd (omega (arith, low));
 }
 
-member-at : (p : ℕ) (ks : List ℕ) → list_any (nat_eq p) ks ≡ true → (j : ℕ) × (j < length ks) × (slice_get ks j ≡ Some p)
+member-at : (p : ℕ) (ks : List ℕ) → list_any (nat_eq p) ks ≡ true
+    → (j : ℕ) × (j < length ks) × (slice_get ks j ≡ Some p)
 member-at p [] among = absurd (true≢false (sym among))
 member-at p (x ∷ ks) among =
     ⊎_elim
@@ -168,7 +193,8 @@ member-at p (x ∷ ks) among =
 
 module _ (w : State) (sound : IsSound w) (c : ℕ) where
   -- one more looked into
-  pub gathers-more : (keys keys' : List ℕ) (i at : ℕ) → Gathers w c keys i → slice_get keys i ≡ Some at → i < length keys → keys' ≡ insert_all nat_eq keys (contents_of w at) → Gathers w c keys' (i + 1)
+  pub gathers-more : (keys keys' : List ℕ) (i at : ℕ) → Gathers w c keys i → slice_get keys i ≡ Some at
+      → i < length keys → keys' ≡ insert_all nat_eq keys (contents_of w at) → Gathers w c keys' (i + 1)
   gathers-more keys keys' i at was here lt is = record {
     inside = λ o among.
         ⊎_elim
@@ -180,7 +206,8 @@ module _ (w : State) (sound : IsSound w) (c : ℕ) where
         (or_cases _ _ (sym (union o) ∙ among));
     first = λ there. union c ∙ or_left _ _ (was.first there);
     closed = λ j p o low got placed.
-        let before : slice_get keys j ≡ Some p = sym (keys-kept (contents_of w at) keys j (omega (arith, low, lt))) ∙ ap (λ v. slice_get v j) (sym is) ∙ got in
+        let before : slice_get keys j ≡ Some p = sym (keys-kept (contents_of w at) keys j (omega (arith, low, lt)))
+        ∙ ap (λ v. slice_get v j) (sym is) ∙ got in
         ⊎_elim
         (λ (less : j < i). union o ∙ or_left _ _ (was.closed j p o less before placed))
         (λ (le : i ≤ j).
@@ -204,7 +231,8 @@ module _ (w : State) (sound : IsSound w) (c : ℕ) where
 
   -- there are no more than there are numbers
   pub gathers-few : (keys : List ℕ) (i : ℕ) → Gathers w c keys i → IsDistinct nat_eq keys → length keys ≤ w.next
-  gathers-few keys i all distinct = length-le_from_distinct_below keys w.next distinct (λ q among. low q (all.inside q among).0)
+  gathers-few keys i all distinct =
+      length-le_from_distinct_below keys w.next distinct (λ q among. low q (all.inside q among).0)
     where
       low : (q : ℕ) → exists w q ≡ true → q < w.next
       low q there =
@@ -219,21 +247,25 @@ module _ (w : State) (sound : IsSound w) (c : ℕ) where
       (λ e. e ∙ sym ((within-Within w sound o c).1 (all.inside o e)))
       (λ e.
       bool_cases (within w o c)
-      (λ is. let inside = (within-Within w sound o c).0 is in absurd (true≢false (sym (reached inside.1.0 o inside.0 inside.1.1) ∙ e)))
+      (λ is. let inside = (within-Within w sound o c).0 is in
+      absurd (true≢false (sym (reached inside.1.0 o inside.0 inside.1.1) ∙ e)))
       (λ is. e ∙ sym is))
     where
       reached : (k o : ℕ) → exists w o ≡ true → follow w k o ≡ Some c → list_any (nat_eq o) keys ≡ true
-      reached zero o there at = let same : o ≡ c = cc in ap (λ v. list_any (nat_eq v) keys) same ∙ all.first (ap (exists w) (sym same) ∙ there)
+      reached zero o there at = let same : o ≡ c = cc in ap (λ v. list_any (nat_eq v) keys) same
+          ∙ all.first (ap (exists w) (sym same) ∙ there)
       reached (suc k) o there at =
           option_cases (place_of w o)
           (λ e. let bad : None ≡ Some c = sym (follow_by w k o None e) ∙ at in absurd (cc))
           (λ p e.
-          let held = member-at p keys (reached k p (place-exists w sound o p e) (sym (follow_by w k o (Some p) e) ∙ at)) in
+          let held =
+          member-at p keys (reached k p (place-exists w sound o p e) (sym (follow_by w k o (Some p) e) ∙ at)) in
           let low = held.1 in
           all.closed held.0 p o (omega (arith, low, done)) held.2 e)
 
 -- the members of a holding are what lies within
-pub holding-members : (w : State) → IsSound w → (c : ℕ) (held : List ℕ) → IsHolding w c held → (o : ℕ) → IsTrue (list_any (nat_eq o) held) ↔ Within w o c
+pub holding-members : (w : State) → IsSound w → (c : ℕ) (held : List ℕ) → IsHolding w c held → (o : ℕ)
+    → IsTrue (list_any (nat_eq o) held) ↔ Within w o c
 holding-members w sound c held is o =
     let same = within-Within w sound o c in
     (λ among. same.0 (sym (is o) ∙ among), λ inside. is o ∙ same.1 inside)
@@ -264,7 +296,8 @@ get_or-past (x ∷ xs) zero le = absurd (omega arith)
 get_or-past (x ∷ xs) (suc i) le = get_or-past xs i (omega arith)
 
 -- the answers of a level less give those of the next
-pub next-level : (w : State) (held : ℕ → Bool) (before : List Bool) (n : ℕ) → ((o : ℕ) → get_or before o false ≡ opens w n held o) → (o : ℕ)
+pub next-level : (w : State) (held : ℕ → Bool) (before : List Bool) (n : ℕ)
+    → ((o : ℕ) → get_or before o false ≡ opens w n held o) → (o : ℕ)
     → has w o (λ r. option_map_or (key_true held (λ a. get_or before a false)) r.key true) ≡ opens w (suc n) held o
 next-level w held before n is o = λ i. has w o (λ r. option_map_or (key_true held (λ a. is a i)) r.key true)
 

@@ -9,7 +9,7 @@ use Rattle.mud_world.specs.declared.record.Kind.TheVariants.{Room, Exit, Thing, 
 use Rattle.mud_world.specs.Kinds.{kind_place, is_room_kind, is_exit_kind}
 use Rattle.mud_world.specs.State.{State, record_at, place_of, follow, all_nest}
 use Rattle.mud_world.specs.Sound.{IsPlacedWell, IsSound}
-use Rattle.mud_world.specs.Inner.{IsKeyless, IsLockedWell, AreNamedApart, with_record}
+use Rattle.mud_world.specs.inner.Parts.{IsKeyless, IsLockedWell, AreNamedApart, with_record}
 use Rattle.mud_world.proofs.Places.{option_cases, follow_by, no_circle-from_end}
 use Rattle.mud_world.proofs.Records.{lookup-set_value_same, lookup-set_value_other, IsRising-set_value}
 use Rattle.mud_world.proofs.Moving.{ends_before}
@@ -23,7 +23,8 @@ pub record IsLike (w : State) (r r' : Record) : Type 0 where
   pub keyless : IsKeyless r'
   pub locked : IsLockedWell r'
 
-module _ (w : State) (sound : IsSound w) (n : ℕ) (r r' : Record) (at : record_at w n ≡ Some r) (like : IsLike w r r') where
+module _ (w : State) (sound : IsSound w) (n : ℕ) (r r' : Record) (at : record_at w n ≡ Some r)
+    (like : IsLike w r r') where
   abbrev w' : State
   w' = with_record w n r'
 
@@ -34,17 +35,29 @@ module _ (w : State) (sound : IsSound w) (n : ℕ) (r r' : Record) (at : record_
   there q apart = lookup-set_value_other n q apart r' w.objects
 
   -- an answer that both records give alike stays
-  pub answer-kept : {X : Type 0} (f : Option Record → X) → f (Some r') ≡ f (Some r) → (q : ℕ) → f (record_at w' q) ≡ f (record_at w q)
+  pub answer-kept : {X : Type 0} (f : Option Record → X) → f (Some r') ≡ f (Some r) → (q : ℕ)
+      → f (record_at w' q) ≡ f (record_at w q)
   answer-kept f same q =
       ⊎_elim
-      (λ (e : q ≡ n). ap (λ m. f (record_at w' m)) e ∙ ap f here ∙ same ∙ sym (ap f at) ∙ sym (ap (λ m. f (record_at w m)) e))
+      (λ (e : q ≡ n). ap (λ m. f (record_at w' m)) e ∙ ap f here ∙ same ∙ sym (ap f at)
+      ∙ sym (ap (λ m. f (record_at w m)) e))
       (λ apart. ap f (there q apart))
       (cases_eq q n)
 
   well_kept : (k : Kind) → IsPlacedWell w k → IsPlacedWell w' k
   well_kept Room well = tt
-  well_kept (Exit p) well = (answer-kept (λ v. option_map_or (λ r. is_room_kind r.kind) v false) like.room p.source ∙ well.0, answer-kept (λ v. option_map_or (λ r. is_room_kind r.kind) v false) like.room p.destination ∙ well.1, well.2)
-  well_kept (Thing p) well = (answer-kept is_some refl p ∙ well.0, answer-kept (λ v. option_map_or (λ r. is_exit_kind r.kind) v false) like.exit p ∙ well.1)
+  well_kept (Exit p) well = (
+    answer-kept (λ v. option_map_or (λ r. is_room_kind r.kind) v false) like.room p.source
+        ∙ well.0,
+    answer-kept (λ v. option_map_or (λ r. is_room_kind r.kind) v false) like.room p.destination
+        ∙ well.1,
+    well.2,
+  )
+  well_kept (Thing p) well = (
+    answer-kept is_some refl p
+        ∙ well.0,
+    answer-kept (λ v. option_map_or (λ r. is_exit_kind r.kind) v false) like.exit p ∙ well.1,
+  )
   well_kept (Player p) well = answer-kept (λ v. option_map_or (λ r. is_room_kind r.kind) v false) like.room p ∙ well
 
   place_kept : (q : ℕ) → place_of w' q ≡ place_of w q
@@ -58,7 +71,8 @@ module _ (w : State) (sound : IsSound w) (n : ℕ) (r r' : Record) (at : record_
       (λ p e. follow_by w' k q (Some p) (place_kept q ∙ e) ∙ follow_kept k p (sym (follow_by w k q (Some p) e) ∙ ends))
 
   -- what holds of each old record and of the new one holds of each
-  pub each-kept : (P : Record → Type 0) → P r' → ((q : ℕ) (s : Record) → record_at w q ≡ Some s → P s) → (q : ℕ) (s : Record) → record_at w' q ≡ Some s → P s
+  pub each-kept : (P : Record → Type 0) → P r' → ((q : ℕ) (s : Record) → record_at w q ≡ Some s → P s)
+      → (q : ℕ) (s : Record) → record_at w' q ≡ Some s → P s
   each-kept P new old q s is =
       ⊎_elim
       (λ (e : q ≡ n).
@@ -72,8 +86,10 @@ module _ (w : State) (sound : IsSound w) (n : ℕ) (r r' : Record) (at : record_
   sound-changed nesting named = record {
     rising = IsRising-set_value 0 w.next n r' w.objects sound.rising;
     limit = sound.limit;
-    placed = each-kept (λ s. IsPlacedWell w' s.kind) (well_kept r'.kind like.well) (λ q s is. well_kept s.kind (sound.placed q s is));
-    no_circle = λ m k. let first = ends_before w sound m in no_circle-from_end w' first.0 m k (follow_kept first.0 m first.1);
+    placed = each-kept (λ s. IsPlacedWell w' s.kind) (well_kept r'.kind like.well)
+        (λ q s is. well_kept s.kind (sound.placed q s is));
+    no_circle = λ m k. let first = ends_before w sound m in
+        no_circle-from_end w' first.0 m k (follow_kept first.0 m first.1);
     keyless = each-kept IsKeyless like.keyless sound.keyless;
     locked = each-kept IsLockedWell like.locked sound.locked;
     nesting = nesting;

@@ -1,6 +1,7 @@
--- After a lock, each key nests at most 3 exactly where the questions that lead to the object and those that its key begins are at
--- most 3 together.
-use Rattle.std.proofs.Common.{◌≡◌, ◌≢◌, ℕ, zero, suc, ◌+◌, ◌-◌, ◌<◌, ◌≤◌, Bool, true, false, not, List, [], ◌∷◌, length, drop, get_or, Option, Some, None, refl, sym, ◌∙◌, ap, subst, arith, inl, inr, ⊎_elim}
+-- After a lock, each key nests at most 3 exactly where the questions that lead to the object and those that its key
+-- begins are at most 3 together.
+use Rattle.std.proofs.Common.{◌≡◌, ◌≢◌, ℕ, zero, suc, ◌+◌, ◌-◌, ◌<◌, ◌≤◌, Bool, true, false, not, List, [], ◌∷◌, length}
+use Rattle.std.proofs.Common.{drop, get_or, Option, Some, None, refl, sym, ◌∙◌, ap, subst, arith, inl, inr, ⊎_elim}
 use Rattle.std.specs.Prelude.{nat_eq, ◌⊎◌}
 use Rattle.std.specs.Option.{option_map_or, option_and_then}
 use Rattle.std.specs.List.{list_any, list_all, AllByRecursion}
@@ -9,10 +10,10 @@ use Rattle.mud_key.specs.Tree.{Tree}
 use Rattle.mud_world.specs.declared.record.Record.{Record}
 use Rattle.mud_world.specs.State.{State, record_at, key_of, nests, all_nest}
 use Rattle.mud_world.specs.Sound.{IsSound, IsRising}
-use Rattle.mud_world.specs.Inner.{locked}
+use Rattle.mud_world.specs.inner.Parts.{locked}
 use Rattle.mud_world.specs.Nesting.{Question, Questions}
-use Rattle.mud_world.specs.Climbing.{askers_of, climbs}
-use Rattle.mud_world.specs.Edits.{asked_by}
+use Rattle.mud_world.specs.inner.Askers.{askers_of, climbs}
+use Rattle.mud_world.specs.inner.Edits.{asked_by}
 use Rattle.mud_world.proofs.Records.{bool_cases, record_cases, IsRising-set_value}
 use Rattle.mud_world.proofs.Carrying.{listed}
 use Rattle.mud_world.proofs.Listing.{All-from_lookups}
@@ -27,29 +28,35 @@ all_nest-found w all a k at =
     (λ e. let bad : None ≡ Some k = sym (ap (option_and_then (λ r. r.key)) e) ∙ at in absurd (cc))
     (λ r e.
     let has : r.key ≡ Some k = sym (ap (option_and_then (λ r. r.key)) e) ∙ at in
-    sym (ap (λ v. option_map_or (nests w 3) v true) has) ∙ list_all-found (λ r. option_map_or (nests w 3) r.key true) a r w.objects e all)
+    sym (ap (λ v. option_map_or (nests w 3) v true) has)
+    ∙ list_all-found (λ r. option_map_or (nests w 3) r.key true) a r w.objects e all)
 
-all_nest-each : (w : State) → IsRising 0 w.objects w.next → ((a : ℕ) (k : Tree ℕ) → key_of w a ≡ Some k → nests w 3 k ≡ true) → all_nest w ≡ true
+all_nest-each : (w : State) → IsRising 0 w.objects w.next
+    → ((a : ℕ) (k : Tree ℕ) → key_of w a ≡ Some k → nests w 3 k ≡ true) → all_nest w ≡ true
 all_nest-each w rising each =
     together (λ r. option_map_or (nests w 3) r.key true) w.objects
     (All-from_lookups (λ r. option_map_or (nests w 3) r.key true ≡ true) 0 w.next w.objects rising
     (λ n r at. by r.key (λ k has. each n k (ap (option_and_then (λ r. r.key)) at ∙ has))))
   where
-    together : (p : Record → Bool) (es : List (ℕ × Record)) → AllByRecursion (λ e. p e.1 ≡ true) es → list_all (λ e. p e.1) es ≡ true
+    together : (p : Record → Bool) (es : List (ℕ × Record)) → AllByRecursion (λ e. p e.1 ≡ true) es
+        → list_all (λ e. p e.1) es ≡ true
     together p [] all = refl
     together p (e ∷ es) all = and_from _ _ all.0 (together p es all.1)
 
-    by : (v : Option (Tree ℕ)) → ((k : Tree ℕ) → v ≡ Some k → nests w 3 k ≡ true) → option_map_or (nests w 3) v true ≡ true
+    by : (v : Option (Tree ℕ)) → ((k : Tree ℕ) → v ≡ Some k → nests w 3 k ≡ true)
+        → option_map_or (nests w 3) v true ≡ true
     by None f = refl
     by (Some k) f = f k refl
 
 -- ---- ways that lead upwards
-any-some : (p : ℕ → Bool) (xs : List ℕ) → list_any p xs ≡ true → (c : ℕ) × (list_any (nat_eq c) xs ≡ true) × (p c ≡ true)
+any-some : (p : ℕ → Bool) (xs : List ℕ) → list_any p xs ≡ true
+    → (c : ℕ) × (list_any (nat_eq c) xs ≡ true) × (p c ≡ true)
 any-some p [] any = absurd (true≢false (sym any))
 any-some p (x ∷ xs) any =
     ⊎_elim
     (λ (e : p x ≡ true). (x, or_left (nat_eq x x) (list_any (nat_eq x) xs) (eq-eqb x x refl), e))
-    (λ later. let rest = any-some p xs later in (rest.0, or_right (nat_eq rest.0 x) (list_any (nat_eq rest.0) xs) rest.1, rest.2))
+    (λ later. let rest = any-some p xs later in
+    (rest.0, or_right (nat_eq rest.0 x) (list_any (nat_eq rest.0) xs) rest.1, rest.2))
     (or_cases (p x) (list_any p xs) any)
 
 some-any : (p : ℕ → Bool) (c : ℕ) (xs : List ℕ) → list_any (nat_eq c) xs ≡ true → p c ≡ true → list_any p xs ≡ true
@@ -86,7 +93,8 @@ module _ (w : State) (sound : IsSound w) where
       let is = sym (listed (λ r. asked_by o r.key) a 0 w.next w.objects sound.rising) ∙ among in
       record_cases (record_at w a)
       (λ e. absurd (true≢false (sym is ∙ ap (λ v. option_map_or (λ r. asked_by o r.key) v false) e)))
-      (λ r e. by r.key (sym (ap (λ v. option_map_or (λ r. asked_by o r.key) v false) e) ∙ is) (ap (option_and_then (λ r. r.key)) e))
+      (λ r e. by r.key (sym (ap (λ v. option_map_or (λ r. asked_by o r.key) v false) e) ∙ is)
+      (ap (option_and_then (λ r. r.key)) e))
     where
       by : (v : Option (Tree ℕ)) → asked_by o v ≡ true → key_of w a ≡ v → Question w a o
       by None asks at = absurd (true≢false (sym asks))
@@ -118,7 +126,8 @@ module _ (w : State) (sound : IsSound w) where
   -- no way in the world is longer than 3
   pub ways-few : (m a b : ℕ) → Questions w m a b → m ≤ 3
   ways-few zero a b way = omega arith
-  ways-few (suc m) a b way = questions-few w 3 a way.1.key way.1.is (all_nest-found w sound.nesting a way.1.key way.1.is) (suc m) b way
+  ways-few (suc m) a b way =
+      questions-few w 3 a way.1.key way.1.is (all_nest-found w sound.nesting a way.1.key way.1.is) (suc m) b way
 
   module _ (n : ℕ) (r : Record) (at : record_at w n ≡ Some r) (key : Tree ℕ) where
     abbrev w' : State
@@ -131,10 +140,12 @@ module _ (w : State) (sound : IsSound w) where
     same_question a b apart q = record { key = q.key; is = key_of-locked_other w n key a apart ∙ q.is; asks = q.asks }
 
     old_question : (a b : ℕ) → a ≢ n → Question w' a b → Question w a b
-    old_question a b apart q = record { key = q.key; is = sym (key_of-locked_other w n key a apart) ∙ q.is; asks = q.asks }
+    old_question a b apart q =
+        record { key = q.key; is = sym (key_of-locked_other w n key a apart) ∙ q.is; asks = q.asks }
 
     -- a way of the new world is one of the old, or comes to the object and goes on by its key
-    split : (m a b : ℕ) → Questions w' m a b → Questions w m a b ⊎ ((i : ℕ) × (j : ℕ) × (m ≡ i + j) × Questions w i a n × Questions w' j n b)
+    split : (m a b : ℕ) → Questions w' m a b
+        → Questions w m a b ⊎ ((i : ℕ) × (j : ℕ) × (m ≡ i + j) × Questions w i a n × Questions w' j n b)
     split zero a b way = inl way
     split (suc m) a b way =
         ⊎_elim
@@ -143,7 +154,8 @@ module _ (w : State) (sound : IsSound w) where
         let q = old_question a way.0 apart way.1 in
         ⊎_elim
         (λ (old : Questions w m way.0 b). inl (way.0, q, old))
-        (λ (on : (i : ℕ) × (j : ℕ) × (m ≡ i + j) × Questions w i way.0 n × Questions w' j n b). let long = on.2 in inr (suc on.0, on.1, omega (arith, long), (way.0, q, on.3), on.4))
+        (λ (on : (i : ℕ) × (j : ℕ) × (m ≡ i + j) × Questions w i way.0 n × Questions w' j n b). let long = on.2 in
+        inr (suc on.0, on.1, omega (arith, long), (way.0, q, on.3), on.4))
         (split m way.0 b way.2))
         (cases_eq a n)
 
@@ -161,7 +173,9 @@ module _ (w : State) (sound : IsSound w) where
 
     pub nest-within : (d : ℕ) → d ≤ 3 → nests w' d key ≡ true → climbs w (4 - d) n ≡ false → all_nest w' ≡ true
     nest-within d le nest low =
-        all_nest-each w' (subst (λ (v : State). IsRising 0 v.objects v.next) (sym (locked_by w n key r at)) (IsRising-set_value 0 w.next n _ w.objects sound.rising))
+        all_nest-each w'
+        (subst (λ (v : State). IsRising 0 v.objects v.next) (sym (locked_by w n key r at))
+        (IsRising-set_value 0 w.next n _ w.objects sound.rising))
         (λ a k is.
         bool_cases (nests w' 3 k)
         (λ e. e)
@@ -191,7 +205,8 @@ module _ (w : State) (sound : IsSound w) where
       where
         few_of : (t a b : ℕ) → all_nest w' ≡ true → Questions w' t a b → t ≤ 3
         few_of zero a b all way = omega arith
-        few_of (suc t) a b all way = questions-few w' 3 a way.1.key way.1.is (all_nest-found w' all a way.1.key way.1.is) (suc t) b way
+        few_of (suc t) a b all way =
+            questions-few w' 3 a way.1.key way.1.is (all_nest-found w' all a way.1.key way.1.is) (suc t) b way
 
     -- a key that asks nothing is within
     pub nest-plain : nests w' 0 key ≡ true → all_nest w' ≡ true
@@ -202,16 +217,21 @@ module _ (w : State) (sound : IsSound w) where
         (λ e. e))
 
 -- the key nests at most one more than e, and more than e
-pub nest-exactly : (w : State) (sound : IsSound w) (n : ℕ) (r : Record) (at : record_at w n ≡ Some r) (key : Tree ℕ) (e u : ℕ) → e ≤ 2 → u + e ≡ 3
-    → nests (locked w n key) (e + 1) key ≡ true → nests (locked w n key) e key ≡ false → all_nest (locked w n key) ≡ not (climbs w u n)
+pub nest-exactly : (w : State) (sound : IsSound w) (n : ℕ) (r : Record) (at : record_at w n ≡ Some r) (key : Tree ℕ)
+    (e u : ℕ) → e ≤ 2 → u + e ≡ 3
+    → nests (locked w n key) (e + 1) key ≡ true → nests (locked w n key) e key ≡ false
+    → all_nest (locked w n key) ≡ not (climbs w u n)
 nest-exactly w sound n r at key e u le sum within beyond =
     let up : 3 - e ≡ u = omega (arith, sum) in
     let low : 4 - (e + 1) ≡ u = omega (arith, sum) in
     bool_cases (climbs w u n)
-    (λ high. nest-without w sound n r at key e (omega (arith, le)) beyond (ap (λ v. climbs w v n) up ∙ high) ∙ sym (ap not high))
-    (λ none. nest-within w sound n r at key (e + 1) (omega (arith, le)) within (ap (λ v. climbs w v n) low ∙ none) ∙ sym (ap not none))
+    (λ high. nest-without w sound n r at key e (omega (arith, le)) beyond (ap (λ v. climbs w v n) up ∙ high)
+    ∙ sym (ap not high))
+    (λ none. nest-within w sound n r at key (e + 1) (omega (arith, le)) within (ap (λ v. climbs w v n) low ∙ none)
+    ∙ sym (ap not none))
 
-pub nest-missing : (w : State) → IsSound w → (n : ℕ) (key : Tree ℕ) → record_at w n ≡ None → all_nest (locked w n key) ≡ true
+pub nest-missing : (w : State) → IsSound w → (n : ℕ) (key : Tree ℕ) → record_at w n ≡ None
+    → all_nest (locked w n key) ≡ true
 nest-missing w sound n key gone = ap all_nest (locked-missing w n key gone) ∙ sound.nesting
 
 before : (n : ℕ) → n ≡ suc n - 1

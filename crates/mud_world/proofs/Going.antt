@@ -1,5 +1,6 @@
 -- What a legal walk or move needs, and what it leaves of the fields.
-use Rattle.std.proofs.Common.{◌≡◌, ◌≢◌, ℕ, zero, suc, ◌<◌, ◌≤◌, Bool, true, false, cond, List, [], ◌∷◌, Some, None, refl, sym, ◌∙◌, ap, subst, ⊎_elim}
+use Rattle.std.proofs.Common.{◌≡◌, ◌≢◌, ℕ, zero, suc, ◌<◌, ◌≤◌, Bool, true, false, cond, List, [], ◌∷◌, Some, None}
+use Rattle.std.proofs.Common.{refl, sym, ◌∙◌, ap, subst, ⊎_elim}
 use Rattle.std.specs.Prelude.{nat_eq, is_some, find, Result, Ok, Err, OnOk, OnErr}
 use Rattle.std.specs.Option.{option_map, option_map_or, option_and_then}
 use Rattle.std.specs.List.{AllByRecursion}
@@ -11,11 +12,12 @@ use Rattle.mud_world.specs.declared.record.Kind.TheVariants.{Room, Exit, Thing, 
 use Rattle.mud_world.specs.declared.change.Change.{Change}
 use Rattle.mud_world.specs.declared.change.Deed.TheVariants.{Move, Walk}
 use Rattle.mud_world.specs.Kinds.{kind_place, kind_passage, kind_at, is_player_kind, is_room_kind}
-use Rattle.mud_world.specs.State.{State, record_at, exists, is_room, is_exit, is_thing_kind, is_number, place_of, destination_of, follow, comes_to, within}
+use Rattle.mud_world.specs.State.{State, record_at, exists, is_room, is_exit, is_thing_kind, is_number, place_of}
+use Rattle.mud_world.specs.State.{destination_of, follow, comes_to, within}
 use Rattle.mud_world.specs.Sound.{IsSound, IsPlacedWell}
 use Rattle.mud_world.specs.Legal.{refusals, refusal, fails}
-use Rattle.mud_world.specs.Inner.{with_record, moved}
-use Rattle.mud_world.specs.Going.{CanGo}
+use Rattle.mud_world.specs.inner.Parts.{with_record, moved}
+use Rattle.mud_world.specs.inner.CanGo.{CanGo}
 use Rattle.mud_world.proofs.Records.{record_cases, bool_cases, in_bounds}
 use Rattle.mud_world.proofs.Containing.{follow-past}
 use Rattle.mud_world.proofs.Places.{follow_by, comes_to-false, ends_by-bound}
@@ -33,7 +35,8 @@ pub nothing_fails : (w : State) (e : Change) → refusal w e ≡ None → AllByR
 unfolding refusal
 nothing_fails w e legal = find_none (fails w e) refusals legal
 
-pub moved_by : (w : State) (t y : ℕ) (r : Record) → record_at w t ≡ Some r → moved w t y ≡ with_record w t (record r { kind = kind_at y r.kind })
+pub moved_by : (w : State) (t y : ℕ) (r : Record) → record_at w t ≡ Some r
+    → moved w t y ≡ with_record w t (record r { kind = kind_at y r.kind })
 moved_by w t y r at = ap (λ v. option_map_or (λ r. with_record w t (record r { kind = kind_at y r.kind })) v w) at
 
 -- what comes back to where it was is where it was
@@ -46,7 +49,8 @@ moved-same w t q placed =
     (λ e. ap (λ v. option_map_or (λ r. with_record w t (record r { kind = kind_at q r.kind })) v w) e)
     (λ r e.
     let here : kind_place r.kind ≡ Some q = sym (ap (option_and_then (λ r. kind_place r.kind)) e) ∙ placed in
-    moved_by w t q r e ∙ ap (λ k. with_record w t (record r { kind = k })) (same_kind r.kind here) ∙ same_record w t r e)
+    moved_by w t q r e ∙ ap (λ k. with_record w t (record r { kind = k })) (same_kind r.kind here)
+    ∙ same_record w t r e)
   where
     same_kind : (k : Kind) → kind_place k ≡ Some q → kind_at q k ≡ k
     same_kind Room e = refl
@@ -55,7 +59,8 @@ moved-same w t q placed =
     same_kind (Player p) e = let same : p ≡ q = cc in ap (λ v. Player v) (sym same)
 
 -- ---- a legal walk
-module _ (w : State) (sound : IsSound w) (a x : ℕ) (legal : refusal w (record { actor = a; deed = Walk x }) ≡ None) where
+module _ (w : State) (sound : IsSound w) (a x : ℕ)
+    (legal : refusal w (record { actor = a; deed = Walk x }) ≡ None) where
   walker : (r : Record) → record_at w a ≡ Some r → is_player_kind r.kind ≡ true
   walker r at =
       let kinds = (nothing_fails w (record { actor = a; deed = Walk x }) legal).1.0 in
@@ -64,10 +69,15 @@ module _ (w : State) (sound : IsSound w) (a x : ℕ) (legal : refusal w (record 
   leads_to_room : (d : ℕ) → destination_of w x ≡ Some d → is_room w d ≡ true
   leads_to_room d at =
       record_cases (record_at w x)
-      (λ e. let bad : None ≡ Some d = sym (ap (λ v. option_map (λ p. p.destination) (option_and_then (λ r. kind_passage r.kind) v)) e) ∙ at in absurd (cc))
-      (λ r e. room_of r.kind (sym (ap (λ v. option_map (λ p. p.destination) (option_and_then (λ r. kind_passage r.kind) v)) e) ∙ at) (sound.placed x r e))
+      (λ e. let bad : None ≡ Some d =
+      sym (ap (λ v. option_map (λ p. p.destination) (option_and_then (λ r. kind_passage r.kind) v)) e)
+      ∙ at in absurd (cc))
+      (λ r e. room_of r.kind
+      (sym (ap (λ v. option_map (λ p. p.destination) (option_and_then (λ r. kind_passage r.kind) v)) e) ∙ at)
+      (sound.placed x r e))
     where
-      room_of : (k : Kind) → option_map (λ p. p.destination) (kind_passage k) ≡ Some d → IsPlacedWell w k → is_room w d ≡ true
+      room_of : (k : Kind) → option_map (λ p. p.destination) (kind_passage k) ≡ Some d → IsPlacedWell w k
+          → is_room w d ≡ true
       room_of Room e well = absurd (let bad : None ≡ Some d = e in cc)
       room_of (Exit p) e well = let same : p.destination ≡ d = cc in subst (λ (v : ℕ). is_room w v ≡ true) same well.1
       room_of (Thing p) e well = absurd (let bad : None ≡ Some d = e in cc)
@@ -77,7 +87,8 @@ module _ (w : State) (sound : IsSound w) (a x : ℕ) (legal : refusal w (record 
   room_place d room =
       record_cases (record_at w d)
       (λ e. ap (option_and_then (λ r. kind_place r.kind)) e)
-      (λ r e. ap (option_and_then (λ r. kind_place r.kind)) e ∙ no_place r.kind (sym (ap (λ v. option_map_or (λ r. is_room_kind r.kind) v false) e) ∙ room))
+      (λ r e. ap (option_and_then (λ r. kind_place r.kind)) e
+      ∙ no_place r.kind (sym (ap (λ v. option_map_or (λ r. is_room_kind r.kind) v false) e) ∙ room))
     where
       no_place : (k : Kind) → is_room_kind k ≡ true → kind_place k ≡ None
       no_place Room e = refl
@@ -100,13 +111,16 @@ module _ (w : State) (sound : IsSound w) (a x : ℕ) (legal : refusal w (record 
       fit_at (Player p) e = leads_to_room d at
 
       off_at : (k : ℕ) → follow w k d ≢ Some a
-      off_at zero e = let same : d ≡ a = cc in let bad : None ≡ Some q = sym (room_place d (leads_to_room d at)) ∙ ap (place_of w) same ∙ from in cc
-      off_at (suc k) e = let bad : None ≡ Some a = sym (follow_by w k d None (room_place d (leads_to_room d at))) ∙ e in cc
+      off_at zero e = let same : d ≡ a = cc in let bad : None ≡ Some q = sym (room_place d (leads_to_room d at))
+          ∙ ap (place_of w) same ∙ from in cc
+      off_at (suc k) e = let bad : None ≡ Some a = sym (follow_by w k d None (room_place d (leads_to_room d at)))
+          ∙ e in cc
 
 -- a fact that holds whichever way a call went
 
 -- ---- a legal move
-module _ (w : State) (sound : IsSound w) (a t y : ℕ) (legal : refusal w (record { actor = a; deed = Move t y }) ≡ None) where
+module _ (w : State) (sound : IsSound w) (a t y : ℕ)
+    (legal : refusal w (record { actor = a; deed = Move t y }) ≡ None) where
   abbrev none_holds : AllByRecursion (λ f. fails w (record { actor = a; deed = Move t y }) f ≡ false) refusals
   none_holds = nothing_fails w (record { actor = a; deed = Move t y }) legal
 
@@ -129,7 +143,8 @@ module _ (w : State) (sound : IsSound w) (a t y : ℕ) (legal : refusal w (recor
   not_within : comes_to w w.next y t ≡ false
   not_within =
       bool_cases (comes_to w w.next y t)
-      (λ e. let holds : within w y t ≡ true = and_from _ _ both_exist.1 e in absurd (true≢false (sym holds ∙ none_holds.1.1.1.1.1.1.1.1.1.0)))
+      (λ e. let holds : within w y t ≡ true = and_from _ _ both_exist.1 e in
+      absurd (true≢false (sym holds ∙ none_holds.1.1.1.1.1.1.1.1.1.0)))
       (λ e. e)
 
   low : y < w.next
@@ -172,7 +187,8 @@ module _ (w : State) (sound : IsSound w) (a t y : ℕ) (legal : refusal w (recor
       placed (Player p) e f = true≢false (sym e)
 
 -- what follows from two facts of either way
-pub either_way : {T E P P' Q Q' X : Type 0} (r : Result T E) → OnOk r P → OnOk r P' → OnErr r Q → OnErr r Q' → (P → P' → X) → (Q → Q' → X) → X
+pub either_way : {T E P P' Q Q' X : Type 0} (r : Result T E) → OnOk r P → OnOk r P' → OnErr r Q → OnErr r Q'
+    → (P → P' → X) → (Q → Q' → X) → X
 either_way (Ok x) p p' q q' f g = f p p'
 either_way (Err e) p p' q q' f g = g q q'
 

@@ -5,10 +5,11 @@ use Rattle.mud_world.specs.State.{State}
 use Rattle.mud_world.specs.Opening.{opening_state}
 use Rattle.mud_world.specs.Legal.{refusal, after}
 use Rattle.mud_world.specs.History.{world_from, world_of}
-use Rattle.mud_world.specs.Inner.{stepped}
+use Rattle.mud_world.specs.inner.Parts.{stepped}
 use Rattle.mud_world.specs.declared.change.Change.{Change}
 
-pub world_from-push : (w : State) (changes : List Change) (e : Change) → world_from w (changes ++ e ∷ []) ≡ stepped (world_from w changes) e
+pub world_from-push : (w : State) (changes : List Change) (e : Change)
+    → world_from w (changes ++ e ∷ []) ≡ stepped (world_from w changes) e
 world_from-push w [] e = refl
 world_from-push w (c ∷ changes) e = world_from-push (stepped w c) changes e
 
@@ -17,5 +18,7 @@ pub world_of-push : (changes : List Change) (e : Change) → world_of (changes +
 world_of-push changes e = world_from-push opening_state changes e
 
 -- one more change that is legal
-pub world_of-legal : (changes : List Change) (e : Change) → refusal (world_of changes) e ≡ None → world_of (changes ++ e ∷ []) ≡ after (world_of changes) e
-world_of-legal changes e legal = world_of-push changes e ∙ ap (λ o. if is_none o then after (world_of changes) e else world_of changes) legal
+pub world_of-legal : (changes : List Change) (e : Change) → refusal (world_of changes) e ≡ None
+    → world_of (changes ++ e ∷ []) ≡ after (world_of changes) e
+world_of-legal changes e legal = world_of-push changes e
+    ∙ ap (λ o. if is_none o then after (world_of changes) e else world_of changes) legal

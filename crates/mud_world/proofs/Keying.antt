@@ -1,5 +1,6 @@
 -- A world stays sound when an object gets a key, or loses it.
-use Rattle.std.proofs.Common.{◌≡◌, ℕ, ◌≤◌, Bool, true, false, not, ◌||◌, List, [], ◌∷◌, ◌++◌, Option, Some, None, refl, sym, ◌∙◌, ap, subst, arith, ⊎_elim, inl, inr}
+use Rattle.std.proofs.Common.{◌≡◌, ℕ, ◌≤◌, Bool, true, false, not, ◌||◌, List, [], ◌∷◌, ◌++◌, Option, Some, None, refl}
+use Rattle.std.proofs.Common.{sym, ◌∙◌, ap, subst, arith, ⊎_elim, inl, inr}
 use Rattle.std.specs.Prelude.{nat_eq, nat_lt, is_some, IsTrue}
 use Rattle.std.specs.Option.{option_map_or, option_and_then}
 use Rattle.std.specs.List.{list_all, list_any}
@@ -12,8 +13,8 @@ use Rattle.mud_world.specs.Kinds.{is_player_kind}
 use Rattle.mud_world.specs.State.{State, record_at, exists, key_of, nests, all_nest}
 use Rattle.mud_world.specs.Sound.{IsSound}
 use Rattle.mud_world.specs.Legal.{refusal}
-use Rattle.mud_world.specs.Inner.{with_record, keyed, is_bad_key}
-use Rattle.mud_world.specs.Going.{CanKey}
+use Rattle.mud_world.specs.inner.Parts.{with_record, keyed, is_bad_key}
+use Rattle.mud_world.specs.inner.CanGo.{CanKey}
 use Rattle.mud_world.proofs.Records.{record_cases, bool_cases, in_bounds, lookup-set_value_same, lookup-set_value_other}
 use Rattle.mud_world.proofs.Numbering.{set_here, set_past}
 use Rattle.mud_world.proofs.Editing.{changed_by}
@@ -41,32 +42,47 @@ sound-keyed w sound n key can =
       exit = refl;
       place = refl;
       well = sound.placed n r it.1;
-      keyless = λ place e. absurd (true≢false (sym (ap is_player_kind e) ∙ sym (ap (λ v. option_map_or (λ r. is_player_kind r.kind) v false) it.1) ∙ can.no_player));
+      keyless =
+          λ place e. absurd
+          (true≢false
+          (sym (ap is_player_kind e) ∙ sym (ap (λ v. option_map_or (λ r. is_player_kind r.kind) v false) it.1)
+          ∙ can.no_player));
       locked = can.limits;
     } in
-    subst IsSound (sym is) (sound-changed w sound n r (with_this_key key r) it.1 like (subst (λ (v : State). IsTrue (all_nest v)) is can.nesting) (named-same w n r (with_this_key key r) sound.named it.1 refl refl))
+    subst IsSound (sym is)
+    (sound-changed w sound n r (with_this_key key r) it.1 like
+    (subst (λ (v : State). IsTrue (all_nest v)) is can.nesting)
+    (named-same w n r (with_this_key key r) sound.named it.1 refl refl))
 
-list_all-set : (p : Record → Bool) (n : ℕ) (r : Record) (es : List (ℕ × Record)) → p r ≡ true → list_all (λ e. p e.1) es ≡ true → list_all (λ e. p e.1) (set_value (nat_eq n) es r) ≡ true
+list_all-set : (p : Record → Bool) (n : ℕ) (r : Record) (es : List (ℕ × Record)) → p r ≡ true
+    → list_all (λ e. p e.1) es ≡ true → list_all (λ e. p e.1) (set_value (nat_eq n) es r) ≡ true
 list_all-set p n r [] new all = refl
 list_all-set p n r (e ∷ es) new all =
     let parts = and_parts (p e.1) (list_all (λ e. p e.1) es) all in
     bool_cases (nat_eq n e.0)
     (λ here. ap (list_all (λ e. p e.1)) (set_here n r e es here) ∙ and_from _ _ new parts.1)
-    (λ past. ap (list_all (λ e. p e.1)) (set_past n r e es past) ∙ and_from _ _ parts.0 (list_all-set p n r es new parts.1))
+    (λ past. ap (list_all (λ e. p e.1)) (set_past n r e es past)
+    ∙ and_from _ _ parts.0 (list_all-set p n r es new parts.1))
 
 -- without a key nothing nests deeper
-nesting-unlocked : (w : State) → IsSound w → (n : ℕ) (r : Record) → record_at w n ≡ Some r → all_nest (keyed w n None) ≡ true
+nesting-unlocked : (w : State) → IsSound w → (n : ℕ) (r : Record) → record_at w n ≡ Some r
+    → all_nest (keyed w n None) ≡ true
 nesting-unlocked w sound n r at =
     let w' = with_record w n (with_this_key None r) in
     let fewer : Fewer w w' = λ o.
     ⊎_elim
-    (λ (e : o ≡ n). inr (ap (key_of w') e ∙ ap (option_and_then (λ r. r.key)) (lookup-set_value_same n (with_this_key None r) r w.objects at)))
-    (λ apart. inl (ap (option_and_then (λ r. r.key)) (lookup-set_value_other n o apart (with_this_key None r) w.objects)))
+    (λ (e : o ≡ n). inr
+    (ap (key_of w') e
+    ∙ ap (option_and_then (λ r. r.key)) (lookup-set_value_same n (with_this_key None r) r w.objects at)))
+    (λ apart. inl
+    (ap (option_and_then (λ r. r.key)) (lookup-set_value_other n o apart (with_this_key None r) w.objects)))
     (cases_eq o n) in
     ap all_nest (changed_by w n (with_this_key None) r at)
-    ∙ all_nest-fewer w w' fewer w'.objects (list_all-set (λ r. option_map_or (nests w 3) r.key true) n (with_this_key None r) w.objects refl sound.nesting)
+    ∙ all_nest-fewer w w' fewer w'.objects
+    (list_all-set (λ r. option_map_or (nests w 3) r.key true) n (with_this_key None r) w.objects refl sound.nesting)
 
-pub CanKey-unlock : (w : State) → IsSound w → (a n : ℕ) → refusal w (record { actor = a; deed = Unlock n }) ≡ None → CanKey w n None
+pub CanKey-unlock : (w : State) → IsSound w → (a n : ℕ) → refusal w (record { actor = a; deed = Unlock n }) ≡ None
+    → CanKey w n None
 CanKey-unlock w sound a n legal =
     let none_holds = nothing_fails w (record { actor = a; deed = Unlock n }) legal in
     let there = not-false _ (or_parts _ _ none_holds.0).1 in
@@ -79,7 +95,8 @@ CanKey-unlock w sound a n legal =
     }
 
 -- ---- a legal key
-any-parts : (p : ℕ → Bool) (xs ys : List ℕ) → list_any p (xs ++ ys) ≡ false → (list_any p xs ≡ false) × (list_any p ys ≡ false)
+any-parts : (p : ℕ → Bool) (xs ys : List ℕ) → list_any p (xs ++ ys) ≡ false
+    → (list_any p xs ≡ false) × (list_any p ys ≡ false)
 any-parts p [] ys none = (refl, none)
 any-parts p (x ∷ xs) ys none =
     let parts = or_parts (p x) (list_any p (xs ++ ys)) none in
@@ -93,7 +110,8 @@ number-below w sound n none =
     let limit = sound.limit in
     omega (arith, within.1)
 
-numbers-below : (w : State) → IsSound w → (key : Tree ℕ) → list_any (λ o. not (exists w o)) (atoms_of key) ≡ false → AllObjects (λ n. n ≤ 8191) key
+numbers-below : (w : State) → IsSound w → (key : Tree ℕ) → list_any (λ o. not (exists w o)) (atoms_of key) ≡ false
+    → AllObjects (λ n. n ≤ 8191) key
 numbers-below w sound (Has n) none = number-below w sound n none
 numbers-below w sound (Asks n) none = number-below w sound n none
 numbers-below w sound (Not k) none = numbers-below w sound k none
@@ -110,7 +128,8 @@ key-within w sound key good =
       numbers = numbers-below w sound key parts.0;
     }
 
-pub CanKey-lock : (w : State) → IsSound w → (a n : ℕ) (key : Tree ℕ) → refusal w (record { actor = a; deed = Lock n key }) ≡ None → CanKey w n (Some key)
+pub CanKey-lock : (w : State) → IsSound w → (a n : ℕ) (key : Tree ℕ)
+    → refusal w (record { actor = a; deed = Lock n key }) ≡ None → CanKey w n (Some key)
 CanKey-lock w sound a n key legal =
     let none_holds = nothing_fails w (record { actor = a; deed = Lock n key }) legal in
     record {

@@ -1,5 +1,6 @@
 -- The refusal of a change is the least whose condition holds.
-use Rattle.std.proofs.Common.{◌≡◌, ℕ, ◌≤◌, Bool, true, false, cond, not, ◌&&◌, ◌||◌, List, [], ◌∷◌, Option, Some, None, refl, sym, ◌∙◌, ap, arith, ⊎_elim, lit≤}
+use Rattle.std.proofs.Common.{◌≡◌, ℕ, ◌≤◌, Bool, true, false, cond, not, ◌&&◌, ◌||◌, List, [], ◌∷◌, Option, Some, None}
+use Rattle.std.proofs.Common.{refl, sym, ◌∙◌, ap, arith, ⊎_elim, lit≤}
 use Rattle.std.specs.Prelude.{nat_eq, find, ◌↔◌}
 use Rattle.std.specs.List.{list_any}
 use Rattle.std.proofs.lemmas.Bool.{or_cases, eqb-true, true≢false}
@@ -7,7 +8,10 @@ use Rattle.mud_world.specs.declared.change.Change.{Change}
 use Rattle.mud_world.specs.declared.change.Deed.{Deed}
 use Rattle.mud_world.specs.declared.change.Deed.TheVariants.{Dig}
 use Rattle.mud_world.specs.declared.refusal.Refusal.{Refusal}
-use Rattle.mud_world.specs.declared.refusal.Refusal.TheVariants.{NotUnderstood, NoSuch, Ambiguous, WrongKind, NotHere, Denied, BadName, NameTaken, BadKey, KeyNesting, BadCost, RecursiveMove, LockedExit, LockedRoom, LockedThing, InUse, WorldFull, PartyBad}
+use Rattle.mud_world.specs.declared.refusal.Refusal.TheVariants.{NotUnderstood, NoSuch, Ambiguous, WrongKind, NotHere}
+use Rattle.mud_world.specs.declared.refusal.Refusal.TheVariants.{Denied, BadName, NameTaken, BadKey, KeyNesting}
+use Rattle.mud_world.specs.declared.refusal.Refusal.TheVariants.{BadCost, RecursiveMove, LockedExit, LockedRoom}
+use Rattle.mud_world.specs.declared.refusal.Refusal.TheVariants.{LockedThing, InUse, WorldFull, PartyBad}
 use Rattle.mud_world.specs.State.{State}
 use Rattle.mud_world.specs.Refusals.{number}
 use Rattle.mud_world.specs.Legal.{is_arrival, deed_fails, fails, refusals, refusal}
@@ -21,7 +25,8 @@ refusal_cases (Some r) f g = g r refl
 -- ---- a refusal is known by its number
 abbrev every : List Refusal
 every =
-    NotUnderstood ∷ NoSuch ∷ Ambiguous ∷ WrongKind ∷ NotHere ∷ Denied ∷ BadName ∷ NameTaken ∷ BadKey ∷ KeyNesting ∷ BadCost ∷ RecursiveMove
+    NotUnderstood ∷ NoSuch ∷ Ambiguous ∷ WrongKind ∷ NotHere ∷ Denied ∷ BadName ∷ NameTaken ∷ BadKey ∷ KeyNesting
+    ∷ BadCost ∷ RecursiveMove
     ∷ LockedExit ∷ LockedRoom ∷ LockedThing ∷ InUse ∷ WorldFull ∷ PartyBad ∷ []
 
 abbrev named : ℕ → Option Refusal
@@ -63,7 +68,8 @@ low-among low [] rise g among = absurd (true≢false (sym among))
 low-among low (f ∷ fs) rise g among =
     let first = rise.0 in
     ⊎_elim
-    (λ (here : nat_eq (number f) (number g) ≡ true). let same = eqb-true (number f) (number g) here in omega (arith, first, same))
+    (λ (here : nat_eq (number f) (number g) ≡ true). let same = eqb-true (number f) (number g) here in
+    omega (arith, first, same))
     (λ later. let rest = low-among (number f) fs rise.1 g later in omega (arith, first, rest))
     (or_cases (nat_eq (number f) (number g)) (is_among g fs) among)
 
@@ -93,14 +99,16 @@ first-least p low (h ∷ fs) rise f found =
           (or_cases (nat_eq (number h) (number g)) (is_among g fs) among),
     ))
 
-none-passes : (p : Refusal → Bool) (fs : List Refusal) → find p fs ≡ None → (g : Refusal) → is_among g fs ≡ true → p g ≡ false
+none-passes : (p : Refusal → Bool) (fs : List Refusal) → find p fs ≡ None → (g : Refusal) → is_among g fs ≡ true
+    → p g ≡ false
 none-passes p [] none g among = absurd (true≢false (sym among))
 none-passes p (h ∷ fs) none g among =
     bool_cases (p h)
     (λ e. let bad : Some h ≡ None = sym (ap (λ b. cond b (Some h) (find p fs)) e) ∙ none in absurd (cc))
     (λ e.
     ⊎_elim
-    (λ (here : nat_eq (number h) (number g) ≡ true). sym (ap p (number-same h g (eqb-true (number h) (number g) here))) ∙ e)
+    (λ (here : nat_eq (number h) (number g) ≡ true). sym (ap p (number-same h g (eqb-true (number h) (number g) here)))
+    ∙ e)
     (λ later. none-passes p fs (sym (ap (λ b. cond b (Some h) (find p fs)) e) ∙ none) g later)
     (or_cases (nat_eq (number h) (number g)) (is_among g fs) among))
 
@@ -109,7 +117,25 @@ none-found p [] none = refl
 none-found p (h ∷ fs) none = ap (λ b. cond b (Some h) (find p fs)) (none h) ∙ none-found p fs none
 
 rise : Rise 0 refusals
-rise = (lit≤ tt, (lit≤ tt, (lit≤ tt, (lit≤ tt, (lit≤ tt, (lit≤ tt, (lit≤ tt, (lit≤ tt, (lit≤ tt, (lit≤ tt, (lit≤ tt, (lit≤ tt, (lit≤ tt, (lit≤ tt, (lit≤ tt, tt)))))))))))))))
+rise = (
+  lit≤ tt,
+  (
+    lit≤ tt,
+    (
+      lit≤ tt,
+      (
+        lit≤ tt,
+        (
+          lit≤ tt,
+          (
+            lit≤ tt,
+            (lit≤ tt, (lit≤ tt, (lit≤ tt, (lit≤ tt, (lit≤ tt, (lit≤ tt, (lit≤ tt, (lit≤ tt, (lit≤ tt, tt))))))))),
+          ),
+        ),
+      ),
+    ),
+  ),
+)
 
 -- ---- refusals that only lines have refuse no change
 not_understood : (w : State) (a : ℕ) (d : Deed) → deed_fails w a d NotUnderstood ≡ false
@@ -130,9 +156,13 @@ no_failing true c holds none = true≢false (sym holds ∙ none)
 no_failing false c holds none = true≢false (sym holds ∙ none)
 
 among : (w : State) (e : Change) (g : Refusal) → fails w e g ≡ true → is_among g refusals ≡ true
-among w e NotUnderstood holds = absurd (no_failing (is_arrival e.deed) (deed_fails w e.actor e.deed NotUnderstood) holds (not_understood w e.actor e.deed))
-among w e Ambiguous holds = absurd (no_failing (is_arrival e.deed) (deed_fails w e.actor e.deed Ambiguous) holds (ambiguous w e.actor e.deed))
-among w e PartyBad holds = absurd (no_failing (is_arrival e.deed) (deed_fails w e.actor e.deed PartyBad) holds (party_bad w e.actor e.deed))
+among w e NotUnderstood holds =
+    absurd (no_failing (is_arrival e.deed) (deed_fails w e.actor e.deed NotUnderstood) holds
+    (not_understood w e.actor e.deed))
+among w e Ambiguous holds =
+    absurd (no_failing (is_arrival e.deed) (deed_fails w e.actor e.deed Ambiguous) holds (ambiguous w e.actor e.deed))
+among w e PartyBad holds =
+    absurd (no_failing (is_arrival e.deed) (deed_fails w e.actor e.deed PartyBad) holds (party_bad w e.actor e.deed))
 among w e g holds = refl
 
 least : (w : State) (e : Change) (f : Refusal) → refusal w e ≡ Some f → IsLeastRefusal w e f

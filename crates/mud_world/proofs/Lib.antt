@@ -1,6 +1,7 @@
 pub mod Marking
 pub mod Places
 pub mod Records
+pub mod KindLemmas
 pub mod Moving
 pub mod Begun
 pub mod Listing

@@ -1,5 +1,6 @@
 -- The lists of contents and of leaving exits, in the words of places and sources.
-use Rattle.std.proofs.Common.{◌≡◌, ℕ, ◌+◌, ◌≤◌, Bool, true, false, List, [], ◌∷◌, Option, Some, None, refl, sym, ◌∙◌, ap, subst, arith}
+use Rattle.std.proofs.Common.{◌≡◌, ℕ, ◌+◌, ◌≤◌, Bool, true, false, List, [], ◌∷◌, Option, Some, None, refl, sym, ◌∙◌}
+use Rattle.std.proofs.Common.{ap, subst, arith}
 use Rattle.std.specs.Prelude.{nat_eq, IsTrue, ◌↔◌}
 use Rattle.std.specs.Option.{option_map, option_map_or, option_and_then}
 use Rattle.std.specs.List.{list_any}
@@ -20,24 +21,30 @@ lower : (low low' : ℕ) (xs : List ℕ) → low ≤ low' → IsRisingFrom low' 
 lower low low' [] le rises = tt
 lower low low' (x ∷ xs) le rises = (omega (arith, rises.0), rises.1)
 
-rising-passing : (test : Record → Bool) (low high : ℕ) (es : List (ℕ × Record)) → IsRising low es high → IsRisingFrom low (passing test es)
+rising-passing : (test : Record → Bool) (low high : ℕ) (es : List (ℕ × Record)) → IsRising low es high
+    → IsRisingFrom low (passing test es)
 rising-passing test low high [] rises = tt
 rising-passing test low high (e ∷ es) rises =
     let rest = rising-passing test (e.0 + 1) high es rises.1 in
     bool_cases (test e.1)
     (λ in'. subst (λ (v : List ℕ). IsRisingFrom low v) (sym (passing_by test e es true in')) (rises.0, rest))
-    (λ out. subst (λ (v : List ℕ). IsRisingFrom low v) (sym (passing_by test e es false out)) (lower low (e.0 + 1) (passing test es) (omega (arith, rises.0)) rest))
+    (λ out. subst (λ (v : List ℕ). IsRisingFrom low v) (sym (passing_by test e es false out))
+    (lower low (e.0 + 1) (passing test es) (omega (arith, rises.0)) rest))
 
 same_number : (n : ℕ) (v : Option ℕ) → (is_number n v ≡ true) ↔ (v ≡ Some n)
 same_number n None = (λ e. absurd (true≢false (sym e)), λ e. let bad : None ≡ Some n = e in absurd (cc))
-same_number n (Some p) = (λ e. ap (λ x. Some x) (sym (eqb-true n p e)), λ e. let same : p ≡ n = cc in eq-eqb n p (sym same))
+same_number n (Some p) =
+    (λ e. ap (λ x. Some x) (sym (eqb-true n p e)), λ e. let same : p ≡ n = cc in eq-eqb n p (sym same))
 
-same_found : (f : Record → Option ℕ) (n : ℕ) (v : Option Record) → (option_map_or (λ r. is_number n (f r)) v false ≡ true) ↔ (option_and_then f v ≡ Some n)
+same_found : (f : Record → Option ℕ) (n : ℕ) (v : Option Record)
+    → (option_map_or (λ r. is_number n (f r)) v false ≡ true) ↔ (option_and_then f v ≡ Some n)
 same_found f n None = (λ e. absurd (true≢false (sym e)), λ e. let bad : None ≡ Some n = e in absurd (cc))
 same_found f n (Some r) = same_number n (f r)
 
 -- where a record says a number, its object is in the list of that number
-listed-said : (f : Record → Option ℕ) (w : State) → IsSound w → (c n : ℕ) → IsTrue (list_any (nat_eq n) (passing (λ r. is_number c (f r)) w.objects)) ↔ (option_and_then f (record_at w n) ≡ Some c)
+listed-said : (f : Record → Option ℕ) (w : State) → IsSound w → (c n : ℕ)
+    → IsTrue (list_any (nat_eq n) (passing (λ r. is_number c (f r)) w.objects))
+    ↔ (option_and_then f (record_at w n) ≡ Some c)
 listed-said f w sound c n =
     let is = listed (λ r. is_number c (f r)) n 0 w.next w.objects sound.rising in
     let same = same_found f c (record_at w n) in
@@ -49,7 +56,9 @@ contents_law = λ w sound c. (
   rising-passing (λ r. is_number c (kind_place r.kind)) 0 w.next w.objects sound.rising,
 )
 
-source-said : (v : Option Record) → option_and_then (λ r. option_map (λ p. p.source) (kind_passage r.kind)) v ≡ option_map (λ p. p.source) (option_and_then (λ r. kind_passage r.kind) v)
+source-said : (v : Option Record)
+    → option_and_then (λ r. option_map (λ p. p.source) (kind_passage r.kind)) v
+    ≡ option_map (λ p. p.source) (option_and_then (λ r. kind_passage r.kind) v)
 source-said None = refl
 source-said (Some r) = refl
 
@@ -65,8 +74,11 @@ leaving_law = λ w sound c. (
 source-room : (w : State) → IsSound w → (x n : ℕ) → source_of w x ≡ Some n → is_room w n ≡ true
 source-room w sound x n at =
     record_cases (record_at w x)
-    (λ e. let bad : None ≡ Some n = sym (ap (λ v. option_map (λ p. p.source) (option_and_then (λ r. kind_passage r.kind) v)) e) ∙ at in absurd (cc))
-    (λ r e. room_of r.kind (sym (ap (λ v. option_map (λ p. p.source) (option_and_then (λ r. kind_passage r.kind) v)) e) ∙ at) (sound.placed x r e))
+    (λ e. let bad : None ≡ Some n =
+    sym (ap (λ v. option_map (λ p. p.source) (option_and_then (λ r. kind_passage r.kind) v)) e) ∙ at in absurd (cc))
+    (λ r e. room_of r.kind
+    (sym (ap (λ v. option_map (λ p. p.source) (option_and_then (λ r. kind_passage r.kind) v)) e) ∙ at)
+    (sound.placed x r e))
   where
     room_of : (k : Kind) → option_map (λ p. p.source) (kind_passage k) ≡ Some n → IsPlacedWell w k → is_room w n ≡ true
     room_of Room e well = absurd (let bad : None ≡ Some n = e in cc)
@@ -76,7 +88,9 @@ source-room w sound x n at =
 
 -- no exit leaves what is no room
 pub none-leave : (w : State) → IsSound w → (n : ℕ) → is_room w n ≡ false → leaving_of w n ≡ []
-none-leave w sound n out = empty (leaving_of w n) (λ x among. true≢false (sym (source-room w sound x n (((leaving_law w sound n).0 x).0 among)) ∙ out))
+none-leave w sound n out =
+    empty (leaving_of w n)
+    (λ x among. true≢false (sym (source-room w sound x n (((leaving_law w sound n).0 x).0 among)) ∙ out))
   where
     empty : (xs : List ℕ) → ((x : ℕ) → IsTrue (list_any (nat_eq x) xs) → ⊥) → xs ≡ []
     empty [] none = refl

@@ -5,16 +5,18 @@ use Rattle.std.proofs.lemmas.Bool.{cases_eq}
 use Rattle.mud_key.specs.Tree.{Tree}
 use Rattle.mud_world.specs.declared.record.Record.{Record}
 use Rattle.mud_world.specs.State.{State, record_at, key_of}
-use Rattle.mud_world.specs.Inner.{with_record, locked}
+use Rattle.mud_world.specs.inner.Parts.{with_record, locked}
 use Rattle.mud_world.proofs.Records.{record_cases, lookup-set_value_same, lookup-set_value_other}
 
-pub locked_by : (w : State) (n : ℕ) (key : Tree ℕ) (r : Record) → record_at w n ≡ Some r → locked w n key ≡ with_record w n (record r { key = Some key })
+pub locked_by : (w : State) (n : ℕ) (key : Tree ℕ) (r : Record) → record_at w n ≡ Some r
+    → locked w n key ≡ with_record w n (record r { key = Some key })
 locked_by w n key r at = ap (λ v. option_map_or (λ r. with_record w n (record r { key = Some key })) v w) at
 
 pub locked-missing : (w : State) (n : ℕ) (key : Tree ℕ) → record_at w n ≡ None → locked w n key ≡ w
 locked-missing w n key at = ap (λ v. option_map_or (λ r. with_record w n (record r { key = Some key })) v w) at
 
-pub key_of-locked_same : (w : State) (n : ℕ) (key : Tree ℕ) (r : Record) → record_at w n ≡ Some r → key_of (locked w n key) n ≡ Some key
+pub key_of-locked_same : (w : State) (n : ℕ) (key : Tree ℕ) (r : Record) → record_at w n ≡ Some r
+    → key_of (locked w n key) n ≡ Some key
 key_of-locked_same w n key r at =
     ap (λ w. key_of w n) (locked_by w n key r at)
     ∙ ap (option_and_then (λ r. r.key)) (lookup-set_value_same n (record r { key = Some key }) r w.objects at)
@@ -23,9 +25,11 @@ pub key_of-locked_other : (w : State) (n : ℕ) (key : Tree ℕ) (o : ℕ) → o
 key_of-locked_other w n key o apart =
     record_cases (record_at w n)
     (λ e. ap (λ w. key_of w o) (locked-missing w n key e))
-    (λ r e. ap (λ w. key_of w o) (locked_by w n key r e) ∙ ap (option_and_then (λ r. r.key)) (lookup-set_value_other n o apart (record r { key = Some key }) w.objects))
+    (λ r e. ap (λ w. key_of w o) (locked_by w n key r e)
+    ∙ ap (option_and_then (λ r. r.key)) (lookup-set_value_other n o apart (record r { key = Some key }) w.objects))
 
-pub key_of-locked_gone : (w : State) (n : ℕ) (key : Tree ℕ) (o : ℕ) → record_at w o ≡ None → key_of (locked w n key) o ≡ None
+pub key_of-locked_gone : (w : State) (n : ℕ) (key : Tree ℕ) (o : ℕ) → record_at w o ≡ None
+    → key_of (locked w n key) o ≡ None
 key_of-locked_gone w n key o gone =
     ⊎_elim
     (λ (e : o ≡ n).

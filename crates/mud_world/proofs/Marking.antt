@@ -1,5 +1,6 @@
 -- What was gathered is the holding, and its marks answer as it does.
-use Rattle.std.proofs.Common.{◌≡◌, ℕ, zero, suc, ◌+◌, ◌<◌, ◌≤◌, ◌&&◌, ◌||◌, Bool, true, false, List, [], ◌∷◌, ◌++◌, length, set, get_or, Option, Some, None, refl, sym, ◌∙◌, ap, arith, ⊎_elim}
+use Rattle.std.proofs.Common.{◌≡◌, ℕ, zero, suc, ◌+◌, ◌<◌, ◌≤◌, ◌&&◌, ◌||◌, Bool, true, false, List, [], ◌∷◌, ◌++◌}
+use Rattle.std.proofs.Common.{length, set, get_or, Option, Some, None, refl, sym, ◌∙◌, ap, arith, ⊎_elim}
 use Rattle.std.specs.Prelude.{nat_eq, is_some, is_none, slice_get}
 use Rattle.std.specs.Option.{option_map_or}
 use Rattle.std.specs.List.{list_any}
@@ -11,7 +12,7 @@ use Rattle.mud_key.specs.Tree.{Tree}
 use Rattle.mud_world.specs.declared.record.Record.{Record}
 use Rattle.mud_world.specs.State.{State, contents_of, within, comes_to, unlocked, holds_for, has, record_at, IsHolding}
 use Rattle.mud_world.specs.Sound.{IsSound}
-use Rattle.mud_world.specs.Marking.{marked}
+use Rattle.mud_world.specs.inner.Marks.{marked}
 use Rattle.mud_world.proofs.Records.{bool_cases}
 use Rattle.mud_world.proofs.Places.{follow_by}
 use Rattle.mud_world.proofs.Carrying.{Gathers, content-place, place-content, missing-above}
@@ -25,7 +26,8 @@ or-same true b c = refl
 or-same false b c = refl
 
 -- ---- marks
-marked-at : (os : List ℕ) (ms : List Bool) (o : ℕ) → o < length ms → get_or (marked os ms) o false ≡ (get_or ms o false || list_any (nat_eq o) os)
+marked-at : (os : List ℕ) (ms : List Bool) (o : ℕ) → o < length ms
+    → get_or (marked os ms) o false ≡ (get_or ms o false || list_any (nat_eq o) os)
 marked-at [] ms o lt = sym (or-none (get_or ms o false))
 marked-at (p ∷ os) ms o lt =
     marked-at os (set ms p true) o (omega (arith, lt, length-set ms p true))
@@ -47,12 +49,14 @@ length-marked [] ms = refl
 length-marked (p ∷ os) ms = length-marked os (set ms p true) ∙ length-set ms p true
 
 -- the marks of a holding say what lies within, if each number that was given has a mark
-pub marks-within : (w : State) → IsSound w → (c : ℕ) (held : List ℕ) → IsHolding w c held → (ms : List Bool) → length ms ≡ 8192 → ((o : ℕ) → o < 8192 → get_or ms o false ≡ false)
+pub marks-within : (w : State) → IsSound w → (c : ℕ) (held : List ℕ) → IsHolding w c held → (ms : List Bool)
+    → length ms ≡ 8192 → ((o : ℕ) → o < 8192 → get_or ms o false ≡ false)
     → (o : ℕ) → get_or (marked held ms) o false ≡ within w o c
 marks-within w sound c held is ms long none o =
     let most = sound.limit in
     ⊎_elim
-    (λ (lt : o < 8192). marked-at held ms o (omega (arith, lt, long)) ∙ ap (λ b. b || list_any (nat_eq o) held) (none o lt) ∙ is o)
+    (λ (lt : o < 8192). marked-at held ms o (omega (arith, lt, long))
+    ∙ ap (λ b. b || list_any (nat_eq o) held) (none o lt) ∙ is o)
     (λ (le : 8192 ≤ o).
     get_or_past (marked held ms) o false (omega (arith, le, long, length-marked held ms))
     ∙ sym (ap (λ v. is_some v && comes_to w w.next o c) (missing-above w sound o (omega (arith, le, most)))))
@@ -69,7 +73,8 @@ among-at at i [] got = absurd (let bad : None ≡ Some at = got in cc)
 among-at at zero (x ∷ ks) got = let same : x ≡ at = cc in or_left _ _ (eq-eqb at x (sym same))
 among-at at (suc i) (x ∷ ks) got = or_right (nat_eq at x) _ (among-at at i ks got)
 
-pub gathered-on : (w : State) → IsSound w → (c : ℕ) (keys keys' : List ℕ) (i at : ℕ) → Gathers w c keys i → slice_get keys i ≡ Some at → i < length keys
+pub gathered-on : (w : State) → IsSound w → (c : ℕ) (keys keys' : List ℕ) (i at : ℕ) → Gathers w c keys i
+    → slice_get keys i ≡ Some at → i < length keys
     → keys' ≡ keys ++ contents_of w at → Gathers w c keys' (i + 1)
 gathered-on w sound c keys keys' i at was here lt is = record {
   inside = λ o among.
@@ -82,7 +87,8 @@ gathered-on w sound c keys keys' i at was here lt is = record {
       (or_cases _ _ (sym (union o) ∙ among));
   first = λ there. union c ∙ or_left _ _ (was.first there);
   closed = λ j p o low got placed.
-      let before : slice_get keys j ≡ Some p = sym (get-front keys (contents_of w at) j (omega (arith, low, lt))) ∙ ap (λ v. slice_get v j) (sym is) ∙ got in
+      let before : slice_get keys j ≡ Some p = sym (get-front keys (contents_of w at) j (omega (arith, low, lt)))
+      ∙ ap (λ v. slice_get v j) (sym is) ∙ got in
       ⊎_elim
       (λ (less : j < i). union o ∙ or_left _ _ (was.closed j p o less before placed))
       (λ (le : i ≤ j).
@@ -102,11 +108,13 @@ keyless-unlocked w c o =
     let test = λ (k : Tree ℕ). holds_for w (λ a. within w a c) k 3 in
     by_record test (record_at w o)
   where
-    by_key : (test : Tree ℕ → Bool) (k : Option (Tree ℕ)) → (is_none k || option_map_or test k true) ≡ option_map_or test k true
+    by_key : (test : Tree ℕ → Bool) (k : Option (Tree ℕ))
+        → (is_none k || option_map_or test k true) ≡ option_map_or test k true
     by_key test None = refl
     by_key test (Some k) = refl
 
     by_record : (test : Tree ℕ → Bool) (v : Option Record)
-        → (option_map_or (λ r. is_none r.key) v false || option_map_or (λ r. option_map_or test r.key true) v false) ≡ option_map_or (λ r. option_map_or test r.key true) v false
+        → (option_map_or (λ r. is_none r.key) v false || option_map_or (λ r. option_map_or test r.key true) v false)
+        ≡ option_map_or (λ r. option_map_or test r.key true) v false
     by_record test None = refl
     by_record test (Some r) = by_key test r.key

@@ -6,13 +6,16 @@ use Rattle.std.proofs.lemmas.Bool.{cases_eq, true≢false}
 use Rattle.mud_world.specs.declared.record.Record.{Record}
 use Rattle.mud_world.specs.declared.record.Kind.{Kind}
 use Rattle.mud_world.specs.declared.record.Kind.TheVariants.{Room, Exit, Thing, Player}
-use Rattle.mud_world.specs.State.{State, record_at, place_of, kind_place, key_of, nests, all_nest, exists, has, follow, is_room, is_exit, is_room_kind, is_exit_kind, is_player_kind}
+use Rattle.mud_world.specs.State.{State, record_at, place_of, kind_place, key_of, nests, all_nest, exists, has, follow}
+use Rattle.mud_world.specs.State.{is_room, is_exit, is_room_kind, is_exit_kind, is_player_kind}
 use Rattle.mud_world.specs.Sound.{IsPlacedWell, IsSound}
-use Rattle.mud_world.specs.Inner.{IsKeyless, IsLockedWell, with_record}
+use Rattle.mud_world.specs.inner.Parts.{IsKeyless, IsLockedWell, with_record}
 use Rattle.mud_world.specs.Legal.{kind_at}
+use Rattle.mud_world.proofs.KindLemmas.{same_room, same_exit, same_player}
 use Rattle.mud_world.proofs.Naming.{named-same}
 use Rattle.mud_world.proofs.Places.{follow_by, option_cases, no_circle-from_end, ends-off, ends-moved, ends_by-bound}
-use Rattle.mud_world.proofs.Records.{record_cases, lookup-set_value_same, lookup-set_value_other, in_bounds, IsRising-set_value, option_map_or-agree_keys, list_all-agree, list_all-set_value}
+use Rattle.mud_world.proofs.Records.{record_cases, lookup-set_value_same, lookup-set_value_other, in_bounds}
+use Rattle.mud_world.proofs.Records.{IsRising-set_value, option_map_or-agree_keys, list_all-agree, list_all-set_value}
 
 -- in a sound world each chain ends
 pub place-below : (w : State) → IsSound w → (a p : ℕ) → place_of w a ≡ Some p → p < w.next
@@ -39,13 +42,18 @@ place-below w sound a p at =
     placed_exists Room e well = absurd (let bad : None ≡ Some p = e in cc)
     placed_exists (Exit x) e well = absurd (let bad : None ≡ Some p = e in cc)
     placed_exists (Thing q) e well = let same : q ≡ p = cc in subst (λ (v : ℕ). IsTrue (exists w v)) same well.0
-    placed_exists (Player q) e well = let same : q ≡ p = cc in subst (λ (v : ℕ). IsTrue (exists w v)) same (room_exists q well)
+    placed_exists (Player q) e well = let same : q ≡ p = cc in
+        subst (λ (v : ℕ). IsTrue (exists w v)) same (room_exists q well)
 
 pub ends_before : (w : State) → IsSound w → (a : ℕ) → (n : ℕ) × (follow w n a ≡ None)
 ends_before w sound a =
     option_cases (place_of w a)
     (λ e. (1, follow_by w 0 a None e))
-    (λ p e. (suc w.next, follow_by w w.next a (Some p) e ∙ ends_by-bound w w.next (place-below w sound) sound.no_circle p (place-below w sound a p e)))
+    (λ p e. (
+      suc w.next,
+      follow_by w w.next a (Some p) e
+          ∙ ends_by-bound w w.next (place-below w sound) sound.no_circle p (place-below w sound a p e),
+    ))
 
 -- ---- object t, which has a place, gets the place y
 module _ (w : State) (sound : IsSound w) (t y : ℕ) (r : Record) (at : record_at w t ≡ Some r) where
@@ -78,34 +86,17 @@ module _ (w : State) (sound : IsSound w) (t y : ℕ) (r : Record) (at : record_a
       (λ apart. ap is_some (there n apart))
       (cases_eq n t)
 
-  same_room : (k : Kind) → is_room_kind (kind_at y k) ≡ is_room_kind k
-  same_room Room = refl
-  same_room (Exit p) = refl
-  same_room (Thing p) = refl
-  same_room (Player p) = refl
-
-  same_exit : (k : Kind) → is_exit_kind (kind_at y k) ≡ is_exit_kind k
-  same_exit Room = refl
-  same_exit (Exit p) = refl
-  same_exit (Thing p) = refl
-  same_exit (Player p) = refl
-
-  same_player : (k : Kind) → is_player_kind (kind_at y k) ≡ is_player_kind k
-  same_player Room = refl
-  same_player (Exit p) = refl
-  same_player (Thing p) = refl
-  same_player (Player p) = refl
-
   kept_room : (n : ℕ) → is_room w' n ≡ is_room w n
-  kept_room n = kept_has (λ r. is_room_kind r.kind) (same_room r.kind) n
+  kept_room n = kept_has (λ r. is_room_kind r.kind) (same_room y r.kind) n
 
   kept_exit : (n : ℕ) → is_exit w' n ≡ is_exit w n
-  kept_exit n = kept_has (λ r. is_exit_kind r.kind) (same_exit r.kind) n
+  kept_exit n = kept_has (λ r. is_exit_kind r.kind) (same_exit y r.kind) n
 
   kept_key : (o : ℕ) → key_of w' o ≡ key_of w o
   kept_key o =
       ⊎_elim
-      (λ (e : o ≡ t). subst (λ (m : ℕ). key_of w' m ≡ key_of w m) (sym e) (ap (option_and_then (λ r. r.key)) here ∙ sym (ap (option_and_then (λ r. r.key)) at)))
+      (λ (e : o ≡ t). subst (λ (m : ℕ). key_of w' m ≡ key_of w m) (sym e)
+      (ap (option_and_then (λ r. r.key)) here ∙ sym (ap (option_and_then (λ r. r.key)) at)))
       (λ apart. ap (option_and_then (λ r. r.key)) (there o apart))
       (cases_eq o t)
 
@@ -133,7 +124,8 @@ module _ (w : State) (sound : IsSound w) (t y : ℕ) (r : Record) (at : record_a
       (λ (e : n ≡ t).
       let found : Some r' ≡ Some s = sym here ∙ ap (record_at w') (sym e) ∙ is in
       let same : r' ≡ s = cc in
-      subst (λ (v : Record). IsKeyless v) same (λ place player. let old = keyless_kind r.kind place player in sound.keyless t r at old.0 old.1))
+      subst (λ (v : Record). IsKeyless v) same
+      (λ place player. let old = keyless_kind r.kind place player in sound.keyless t r at old.0 old.1))
       (λ apart. sound.keyless n s (sym (there n apart) ∙ is))
       (cases_eq n t)
 
@@ -151,7 +143,8 @@ module _ (w : State) (sound : IsSound w) (t y : ℕ) (r : Record) (at : record_a
   same_place a apart = ap (option_and_then (λ r. kind_place r.kind)) (there a apart)
 
   -- the world stays sound where y is a fit place, and t is not on the way from y
-  pub sound-moved : (q : ℕ) → kind_place r.kind ≡ Some q → IsPlacedWell w (kind_at y r.kind) → ((k : ℕ) → follow w k y ≢ Some t) → IsSound w'
+  pub sound-moved : (q : ℕ) → kind_place r.kind ≡ Some q → IsPlacedWell w (kind_at y r.kind)
+      → ((k : ℕ) → follow w k y ≢ Some t) → IsSound w'
   sound-moved q placed well off = record {
     rising = IsRising-set_value 0 w.next t r' w.objects sound.rising;
     limit = sound.limit;
@@ -166,13 +159,16 @@ module _ (w : State) (sound : IsSound w) (t y : ℕ) (r : Record) (at : record_a
     no_circle = λ m k.
         let first = ends_before w sound m in
         let way = ends_before w sound y in
-        let all = ends-moved w w' t same_place y way.0 (ap (option_and_then (λ r. kind_place r.kind)) here ∙ new_place r.kind placed) (ends-off w w' t same_place way.0 y off way.1) first.0 m first.1 in
+        let all =
+        ends-moved w w' t same_place y way.0
+        (ap (option_and_then (λ r. kind_place r.kind)) here ∙ new_place r.kind placed)
+        (ends-off w w' t same_place way.0 y off way.1) first.0 m first.1 in
         no_circle-from_end w' all.0 m k all.1;
     keyless = keyless;
     locked = locked;
     nesting = nesting;
     hall = kept_room 0 ∙ sound.hall;
-    named = named-same w t r r' sound.named at (same_player r.kind) refl;
+    named = named-same w t r r' sound.named at (same_player y r.kind) refl;
   }
     where
       new_place : (k : Kind) → kind_place k ≡ Some q → kind_place (kind_at y k) ≡ Some y

@@ -1,5 +1,6 @@
 -- Nesting counts questions.
-use Rattle.std.proofs.Common.{◌≡◌, ℕ, zero, suc, ◌+◌, ◌≤◌, Bool, true, false, ◌&&◌, List, [], ◌∷◌, Option, Some, None, refl, sym, ◌∙◌, ap, subst, arith, ⊎_elim}
+use Rattle.std.proofs.Common.{◌≡◌, ℕ, zero, suc, ◌+◌, ◌≤◌, Bool, true, false, ◌&&◌, List, [], ◌∷◌, Option, Some, None}
+use Rattle.std.proofs.Common.{refl, sym, ◌∙◌, ap, subst, arith, ⊎_elim}
 use Rattle.std.specs.Prelude.{nat_eq}
 use Rattle.std.specs.Option.{option_map_or}
 use Rattle.std.specs.List.{list_any, list_all}
@@ -25,7 +26,8 @@ among-passes p c (x ∷ xs) all any =
     (or_cases (nat_eq c x) (list_any (nat_eq c) xs) any)
 
 -- where not all pass, one does not
-some-fails : (p : ℕ → Bool) (xs : List ℕ) → list_all p xs ≡ false → (o : ℕ) × (list_any (nat_eq o) xs ≡ true) × (p o ≡ false)
+some-fails : (p : ℕ → Bool) (xs : List ℕ) → list_all p xs ≡ false
+    → (o : ℕ) × (list_any (nat_eq o) xs ≡ true) × (p o ≡ false)
 some-fails p [] none = absurd (true≢false none)
 some-fails p (x ∷ xs) none =
     bool_cases (p x)
@@ -38,21 +40,28 @@ same_key : (w : State) (a : ℕ) (k l : Tree ℕ) → key_of w a ≡ Some k → 
 same_key w a k l at is = let same : Some l ≡ Some k = sym is ∙ at in cc
 
 -- so many questions at most
-pub questions-few : (w : State) (n a : ℕ) (k : Tree ℕ) → key_of w a ≡ Some k → nests w n k ≡ true → (m b : ℕ) → Questions w m a b → m ≤ n
+pub questions-few : (w : State) (n a : ℕ) (k : Tree ℕ) → key_of w a ≡ Some k → nests w n k ≡ true → (m b : ℕ)
+    → Questions w m a b → m ≤ n
 questions-few w n a k at nest zero b way = omega arith
 questions-few w zero a k at nest (suc m) b way =
-    let asks = subst (λ (k : Tree ℕ). list_any (nat_eq way.0) (asks_of k) ≡ true) (same_key w a k way.1.key at way.1.is) way.1.asks in
+    let asks =
+    subst (λ (k : Tree ℕ). list_any (nat_eq way.0) (asks_of k) ≡ true)
+    (same_key w a k way.1.key at way.1.is) way.1.asks in
     absurd (true≢false (sym (among-passes (λ o. false) way.0 (asks_of k) nest asks)))
 questions-few w (suc n) a k at nest (suc zero) b way = omega arith
 questions-few w (suc n) a k at nest (suc (suc m)) b way =
-    let asks = subst (λ (k : Tree ℕ). list_any (nat_eq way.0) (asks_of k) ≡ true) (same_key w a k way.1.key at way.1.is) way.1.asks in
+    let asks =
+    subst (λ (k : Tree ℕ). list_any (nat_eq way.0) (asks_of k) ≡ true)
+    (same_key w a k way.1.key at way.1.is) way.1.asks in
     let next = way.2.1 in
-    let deep = sym (ap (λ v. option_map_or (nests w n) v true) next.is) ∙ among-passes (λ o. option_map_or (nests w n) (key_of w o) true) way.0 (asks_of k) nest asks in
+    let deep = sym (ap (λ v. option_map_or (nests w n) v true) next.is)
+    ∙ among-passes (λ o. option_map_or (nests w n) (key_of w o) true) way.0 (asks_of k) nest asks in
     let rest = questions-few w n way.0 next.key next.is deep (suc m) b way.2 in
     omega (arith, rest)
 
 -- one question too many
-pub questions-more : (w : State) (n a : ℕ) (k : Tree ℕ) → key_of w a ≡ Some k → nests w n k ≡ false → (b : ℕ) × Questions w (suc n) a b
+pub questions-more : (w : State) (n a : ℕ) (k : Tree ℕ) → key_of w a ≡ Some k → nests w n k ≡ false
+    → (b : ℕ) × Questions w (suc n) a b
 questions-more w zero a k at nest =
     let o = some-fails (λ o. false) (asks_of k) nest in
     (o.0, (o.0, record { key = k; is = at; asks = o.1 }, refl))
@@ -77,7 +86,8 @@ nesting_law = λ w a k at n. (
 )
 
 -- one way after the other
-pub questions-join : (w : State) (n l a b c : ℕ) → Questions w n a b → Questions w l b c → (t : ℕ) × (t ≡ n + l) × Questions w t a c
+pub questions-join : (w : State) (n l a b c : ℕ) → Questions w n a b → Questions w l b c
+    → (t : ℕ) × (t ≡ n + l) × Questions w t a c
 questions-join w zero l a b c first second = (l, omega arith, subst (λ (v : ℕ). Questions w l v c) (sym first) second)
 questions-join w (suc n) l a b c first second =
     let rest = questions-join w n l first.0 b c first.2 second in

@@ -1,5 +1,6 @@
 -- Who is found by a name, after each kind of edit.
-use Rattle.std.proofs.Common.{◌≡◌, ◌≢◌, ℕ, Bool, true, false, cond, ◌||◌, List, [], ◌∷◌, Option, Some, None, refl, sym, ◌∙◌, ap, ⊎_elim}
+use Rattle.std.proofs.Common.{◌≡◌, ◌≢◌, ℕ, Bool, true, false, cond, ◌||◌, List, [], ◌∷◌, Option, Some, None, refl, sym}
+use Rattle.std.proofs.Common.{◌∙◌, ap, ⊎_elim}
 use Rattle.std.specs.Prelude.{bytes_eq}
 use Rattle.std.specs.Option.{option_map_or}
 use Rattle.std.specs.List.{list_any}
@@ -7,7 +8,7 @@ use Rattle.std.specs.Str.{str_eq_ignore_ascii_case, str_to_ascii_lowercase}
 use Rattle.std.proofs.lemmas.Bool.{cases_eq, eqb-true, eq-eqb, ne_eqb, or_parts, true≢false}
 use Rattle.std.proofs.lemmas.Slice.Eq.{bytes_eq-Decides}
 use Rattle.mud_lists.specs.Owners.{owner_of, AreOwnersPassed}
-use Rattle.mud_lists.specs.Inner.{HaveSameOwners}
+use Rattle.mud_lists.specs.inner.Views.{HaveSameOwners}
 use Rattle.mud_world.specs.declared.record.Record.{Record}
 use Rattle.mud_world.specs.declared.record.Kind.{Kind}
 use Rattle.mud_world.specs.declared.record.Kind.TheVariants.{Room, Exit, Thing, Player}
@@ -15,11 +16,12 @@ use Rattle.mud_world.specs.Kinds.{is_player_kind, kind_at}
 use Rattle.mud_world.specs.State.{State, record_at, is_number, is_taken, shares}
 use Rattle.mud_world.specs.Sound.{IsRising, IsSound}
 use Rattle.mud_world.specs.Legal.{with_new}
-use Rattle.mud_world.specs.Inner.{with_record, removed}
-use Rattle.mud_world.specs.Going.{CanAdd}
-use Rattle.mud_world.specs.Edits.{called, called_by, with_names}
+use Rattle.mud_world.specs.inner.Parts.{with_record, removed}
+use Rattle.mud_world.specs.inner.CanGo.{CanAdd}
+use Rattle.mud_world.specs.inner.Edits.{called, called_by, with_names}
 use Rattle.mud_world.specs.Inside.{is_called, AreNames}
-use Rattle.mud_world.proofs.Records.{record_cases, bool_cases, lookup-append_left, lookup-append_right, lookup-set_value_same, lookup-set_value_other}
+use Rattle.mud_world.proofs.Records.{record_cases, bool_cases, lookup-append_left, lookup-append_right}
+use Rattle.mud_world.proofs.Records.{lookup-set_value_same, lookup-set_value_other}
 use Rattle.mud_world.proofs.Removing.{lookup-remove_other, lookup-remove_same}
 use Rattle.mud_world.proofs.Grown.{next_missing}
 use Rattle.mud_world.proofs.Naming.{not-shared}
@@ -37,12 +39,14 @@ owner_is n (Some m) e = let same = eqb-true n m e in ap Some (sym same)
 
 -- ---- no edit of a name
 
-pub names-same : (w w' : State) (o o' : Owners) → AreNames o w → ((n : ℕ) (t : List ℕ) → is_called w' n t ≡ is_called w n t) → HaveSameOwners o o' → AreNames o' w'
+pub names-same : (w w' : State) (o o' : Owners) → AreNames o w
+    → ((n : ℕ) (t : List ℕ) → is_called w' n t ≡ is_called w n t) → HaveSameOwners o o' → AreNames o' w'
 names-same w w' o o' names same owners = λ t n.
     ap (is_number n) (owners (str_to_ascii_lowercase t)) ∙ names t n ∙ sym (same n t)
 
 -- the other objects keep their records, and this one its names
-kept-called : (w w' : State) (n : ℕ) → ((t : List ℕ) → is_called w' n t ≡ is_called w n t) → ((m : ℕ) → m ≢ n → record_at w' m ≡ record_at w m)
+kept-called : (w w' : State) (n : ℕ) → ((t : List ℕ) → is_called w' n t ≡ is_called w n t)
+    → ((m : ℕ) → m ≢ n → record_at w' m ≡ record_at w m)
     → (m : ℕ) (t : List ℕ) → is_called w' m t ≡ is_called w m t
 kept-called w w' n here there m t =
     ⊎_elim
@@ -50,25 +54,30 @@ kept-called w w' n here there m t =
     (λ apart. ap (λ v. option_map_or (λ r. among t (called r)) v false) (there m apart))
     (cases_eq m n)
 
-at_record : (w : State) (n : ℕ) (r : Record) → record_at w n ≡ Some r → (t : List ℕ) → is_called w n t ≡ among t (called r)
+at_record : (w : State) (n : ℕ) (r : Record) → record_at w n ≡ Some r → (t : List ℕ)
+    → is_called w n t ≡ among t (called r)
 at_record w n r at t = ap (λ v. option_map_or (λ r. among t (called r)) v false) at
 
 at_none : (w : State) (n : ℕ) → record_at w n ≡ None → (t : List ℕ) → is_called w n t ≡ false
 at_none w n at t = ap (λ v. option_map_or (λ r. among t (called r)) v false) at
 
-pub names-edited : (w : State) (n : ℕ) (r r' : Record) → record_at w n ≡ Some r → called r' ≡ called r → (o o' : Owners) → AreNames o w → HaveSameOwners o o' → AreNames o' (with_record w n r')
+pub names-edited : (w : State) (n : ℕ) (r r' : Record) → record_at w n ≡ Some r → called r' ≡ called r → (o o' : Owners)
+    → AreNames o w → HaveSameOwners o o' → AreNames o' (with_record w n r')
 names-edited w n r r' at same o o' names owners =
     names-same w (with_record w n r') o o' names
     (kept-called w (with_record w n r') n
-    (λ t. at_record (with_record w n r') n r' (lookup-set_value_same n r' r w.objects at) t ∙ ap (among t) same ∙ sym (at_record w n r at t))
+    (λ t. at_record (with_record w n r') n r' (lookup-set_value_same n r' r w.objects at) t ∙ ap (among t) same
+    ∙ sym (at_record w n r at t))
     (λ m apart. lookup-set_value_other n m apart r' w.objects))
     owners
 
-pub names-removed : (w : State) → IsRising 0 w.objects w.next → (n : ℕ) (r : Record) → record_at w n ≡ Some r → called r ≡ [] → (o o' : Owners) → AreNames o w → HaveSameOwners o o' → AreNames o' (removed w n)
+pub names-removed : (w : State) → IsRising 0 w.objects w.next → (n : ℕ) (r : Record) → record_at w n ≡ Some r
+    → called r ≡ [] → (o o' : Owners) → AreNames o w → HaveSameOwners o o' → AreNames o' (removed w n)
 names-removed w rising n r at nameless o o' names owners =
     names-same w (removed w n) o o' names
     (kept-called w (removed w n) n
-    (λ t. at_none (removed w n) n (lookup-remove_same n 0 w.next w.objects rising) t ∙ sym (at_record w n r at t ∙ ap (among t) nameless))
+    (λ t. at_none (removed w n) n (lookup-remove_same n 0 w.next w.objects rising) t
+    ∙ sym (at_record w n r at t ∙ ap (among t) nameless))
     (λ m apart. lookup-remove_other n m apart w.objects))
     owners
 
@@ -80,8 +89,11 @@ kind-placed y (Player p) = refl
 
 -- ---- an object gets names in place of others
 
-module _ (w w' : State) (n : ℕ) (olds news : List (List ℕ)) (o o' : Owners) (names : AreNames o w) (was : (t : List ℕ) → is_called w n t ≡ among t olds) (is : (t : List ℕ) → is_called w' n t ≡ among t news)
-    (there : (m : ℕ) → m ≢ n → record_at w' m ≡ record_at w m) (free : (m : ℕ) (t : List ℕ) → m ≢ n → among t news ≡ true → is_called w m t ≡ false) (passed : AreOwnersPassed olds news n o o') where
+module _ (w w' : State) (n : ℕ) (olds news : List (List ℕ)) (o o' : Owners) (names : AreNames o w)
+    (was : (t : List ℕ) → is_called w n t ≡ among t olds) (is : (t : List ℕ) → is_called w' n t ≡ among t news)
+    (there : (m : ℕ) → m ≢ n → record_at w' m ≡ record_at w m)
+    (free : (m : ℕ) (t : List ℕ) → m ≢ n → among t news ≡ true → is_called w m t ≡ false)
+    (passed : AreOwnersPassed olds news n o o') where
   abbrev before : List ℕ → Option ℕ
   before t = owner_of o (str_to_ascii_lowercase t)
 
@@ -99,7 +111,8 @@ module _ (w w' : State) (n : ℕ) (olds news : List (List ℕ)) (o o' : Owners) 
       (λ f. ap (λ b. is_number n (cond b None (before t))) f ∙ names t n ∙ was t ∙ f)
       ∙ sym e)
 
-  other : (m : ℕ) (t : List ℕ) → m ≢ n → is_number m (after_by (among t news) (among t olds) (before t)) ≡ is_called w m t
+  other : (m : ℕ) (t : List ℕ) → m ≢ n
+      → is_number m (after_by (among t news) (among t olds) (before t)) ≡ is_called w m t
   other m t apart =
       bool_cases (among t news)
       (λ e. ap (λ b. is_number m (after_by b (among t olds) (before t))) e ∙ ne_eqb m n apart ∙ sym (free m t apart e))
@@ -108,14 +121,16 @@ module _ (w w' : State) (n : ℕ) (olds news : List (List ℕ)) (o o' : Owners) 
       ∙ bool_cases (among t olds)
       (λ f.
       let his : before t ≡ Some n = owner_is n (before t) (names t n ∙ was t ∙ f) in
-      ap (λ b. is_number m (cond b None (before t))) f ∙ sym (ne_eqb m n apart) ∙ ap (is_number m) (sym his) ∙ names t m)
+      ap (λ b. is_number m (cond b None (before t))) f ∙ sym (ne_eqb m n apart) ∙ ap (is_number m) (sym his)
+      ∙ names t m)
       (λ f. ap (λ b. is_number m (cond b None (before t))) f ∙ names t m))
 
   pub names-anew : AreNames o' w'
   names-anew = λ t m.
       ap (is_number m) (passed (str_to_ascii_lowercase t))
       ∙ ⊎_elim
-      (λ (e : m ≡ n). ap (λ v. is_number v (after_by (among t news) (among t olds) (before t))) e ∙ own t ∙ sym (is t) ∙ ap (λ v. is_called w' v t) (sym e))
+      (λ (e : m ≡ n). ap (λ v. is_number v (after_by (among t news) (among t olds) (before t))) e ∙ own t ∙ sym (is t)
+      ∙ ap (λ v. is_called w' v t) (sym e))
       (λ apart. other m t apart ∙ ap (λ v. option_map_or (λ r. among t (called r)) v false) (sym (there m apart)))
       (cases_eq m n)
 
@@ -125,11 +140,13 @@ not_both t [] ys e none = absurd (true≢false (sym e))
 not_both t (x ∷ xs) ys e none =
     let parts = or_parts (among x ys) (shares xs ys) none in
     bool_cases (str_eq_ignore_ascii_case t x)
-    (λ here. ap (λ (v : List ℕ). list_any (λ y. bytes_eq v (str_to_ascii_lowercase y)) ys) ((bytes_eq-Decides (str_to_ascii_lowercase t) (str_to_ascii_lowercase x)).0 here) ∙ parts.0)
+    (λ here. ap (λ (v : List ℕ). list_any (λ y. bytes_eq v (str_to_ascii_lowercase y)) ys)
+    ((bytes_eq-Decides (str_to_ascii_lowercase t) (str_to_ascii_lowercase x)).0 here) ∙ parts.0)
     (λ past. not_both t xs ys (sym (ap (λ b. b || among t xs) past) ∙ e) parts.1)
 
 -- what no other has can be given
-module _ (w : State) (n : ℕ) (k : Kind) (names : List (List ℕ)) (can : is_player_kind k ≡ true → is_taken w n names ≡ false) where
+module _ (w : State) (n : ℕ) (k : Kind) (names : List (List ℕ))
+    (can : is_player_kind k ≡ true → is_taken w n names ≡ false) where
   pub free-called : (m : ℕ) (t : List ℕ) → m ≢ n → among t (called_by k names) ≡ true → is_called w m t ≡ false
   free-called m t apart e =
       bool_cases (is_player_kind k)
@@ -140,31 +157,41 @@ module _ (w : State) (n : ℕ) (k : Kind) (names : List (List ℕ)) (can : is_pl
       (λ s f. at_record w m s f t ∙ other s f his player))
       (λ past. absurd (true≢false (sym e ∙ ap (λ b. among t (cond b names [])) past)))
     where
-      other : (s : Record) → record_at w m ≡ Some s → among t names ≡ true → is_player_kind k ≡ true → among t (called s) ≡ false
+      other : (s : Record) → record_at w m ≡ Some s → among t names ≡ true → is_player_kind k ≡ true
+          → among t (called s) ≡ false
       other s f his player =
           bool_cases (is_player_kind s.kind)
-          (λ p. ap (λ b. among t (cond b s.names [])) p ∙ not_both t names s.names his (not-shared w n names (can player) m s f apart p))
+          (λ p. ap (λ b. among t (cond b s.names [])) p
+          ∙ not_both t names s.names his (not-shared w n names (can player) m s f apart p))
           (λ p. ap (λ b. among t (cond b s.names [])) p)
 
-pub names-grown : (w : State) → IsSound w → (r : Record) → CanAdd w r → (o o' : Owners) → AreNames o w → AreOwnersPassed [] (called r) w.next o o' → AreNames o' (with_new w (r ∷ []))
+pub names-grown : (w : State) → IsSound w → (r : Record) → CanAdd w r → (o o' : Owners) → AreNames o w
+    → AreOwnersPassed [] (called r) w.next o o' → AreNames o' (with_new w (r ∷ []))
 names-grown w sound r can o o' names passed =
-    names-anew w (with_new w (r ∷ [])) w.next [] (called r) o o' names (at_none w w.next missing) (at_record (with_new w (r ∷ [])) w.next r here) there (free-called w w.next r.kind r.names can.free) passed
+    names-anew w (with_new w (r ∷ [])) w.next [] (called r) o o' names (at_none w w.next missing)
+    (at_record (with_new w (r ∷ [])) w.next r here) there (free-called w w.next r.kind r.names can.free) passed
   where
     missing : record_at w w.next ≡ None
     missing = next_missing w sound
 
     here : record_at (with_new w (r ∷ [])) w.next ≡ Some r
-    here = lookup-append_right w.next w.objects ((w.next, r) ∷ []) missing ∙ ap (λ b. cond b (Some r) None) (eq-eqb w.next w.next refl)
+    here = lookup-append_right w.next w.objects ((w.next, r) ∷ []) missing
+        ∙ ap (λ b. cond b (Some r) None) (eq-eqb w.next w.next refl)
 
     there : (m : ℕ) → m ≢ w.next → record_at (with_new w (r ∷ [])) m ≡ record_at w m
     there m apart =
         record_cases (record_at w m)
-        (λ e. lookup-append_right m w.objects ((w.next, r) ∷ []) e ∙ ap (λ b. cond b (Some r) None) (ne_eqb m w.next apart) ∙ sym e)
+        (λ e. lookup-append_right m w.objects ((w.next, r) ∷ []) e
+        ∙ ap (λ b. cond b (Some r) None) (ne_eqb m w.next apart) ∙ sym e)
         (λ s e. lookup-append_left m s w.objects ((w.next, r) ∷ []) e ∙ sym e)
 
-pub names-renamed : (w : State) (n : ℕ) (r : Record) → record_at w n ≡ Some r → (names : List (List ℕ)) → (is_player_kind r.kind ≡ true → is_taken w n names ≡ false) → (o o' : Owners) → AreNames o w
+pub names-renamed : (w : State) (n : ℕ) (r : Record) → record_at w n ≡ Some r → (names : List (List ℕ))
+    → (is_player_kind r.kind ≡ true → is_taken w n names ≡ false) → (o o' : Owners) → AreNames o w
     → AreOwnersPassed (called r) (called_by r.kind names) n o o' → AreNames o' (with_record w n (with_names names r))
 names-renamed w n r at names free o o' are passed =
-    names-anew w (with_record w n (with_names names r)) n (called r) (called_by r.kind names) o o' are (at_record w n r at)
-    (at_record (with_record w n (with_names names r)) n (with_names names r) (lookup-set_value_same n (with_names names r) r w.objects at))
-    (λ m apart. lookup-set_value_other n m apart (with_names names r) w.objects) (free-called w n r.kind names free) passed
+    names-anew w (with_record w n (with_names names r)) n (called r) (called_by r.kind names) o o' are
+    (at_record w n r at)
+    (at_record (with_record w n (with_names names r)) n (with_names names r)
+    (lookup-set_value_same n (with_names names r) r w.objects at))
+    (λ m apart. lookup-set_value_other n m apart (with_names names r) w.objects)
+    (free-called w n r.kind names free) passed

@@ -1,5 +1,6 @@
 -- What a legal cost or recycling needs.
-use Rattle.std.proofs.Common.{◌≡◌, ◌≢◌, ◌≤◌, ℕ, ◌+◌, ◌&&◌, Bool, true, false, cond, List, [], ◌∷◌, Some, None, refl, sym, ◌∙◌, ap, subst, arith}
+use Rattle.std.proofs.Common.{◌≡◌, ◌≢◌, ◌≤◌, ℕ, ◌+◌, ◌&&◌, Bool, true, false, cond, List, [], ◌∷◌, Some, None, refl}
+use Rattle.std.proofs.Common.{sym, ◌∙◌, ap, subst, arith}
 use Rattle.std.specs.Prelude.{nat_eq}
 use Rattle.std.specs.Option.{option_map_or, option_and_then}
 use Rattle.std.specs.List.{list_any}
@@ -13,8 +14,8 @@ use Rattle.mud_world.specs.Kinds.{kind_needs, kind_costing, is_room_kind, is_exi
 use Rattle.mud_world.specs.State.{State, exists, nests, is_taken}
 use Rattle.mud_world.specs.Sound.{IsSound, IsPlacedWell}
 use Rattle.mud_world.specs.Legal.{new_record, refusal}
-use Rattle.mud_world.specs.Inner.{with_record, costing, renamed}
-use Rattle.mud_world.specs.Going.{IsOff, CanRemove, CanName, CanAdd}
+use Rattle.mud_world.specs.inner.Parts.{with_record, costing, renamed}
+use Rattle.mud_world.specs.inner.CanGo.{IsOff, CanRemove, CanName, CanAdd}
 use Rattle.mud_world.proofs.Records.{bool_cases, option_map_or-agree_keys, list_all-agree, list_all-set_value}
 use Rattle.mud_world.proofs.Going.{nothing_fails}
 use Rattle.mud_world.proofs.Digging.{has-grown}
@@ -24,7 +25,8 @@ use Rattle.mud_world.proofs.Keying.{found}
 use Rattle.mud_world.proofs.Editing.{changed_by, SameLinks}
 use Rattle.mud_world.proofs.Changing.{IsLike, sound-changed, answer-kept}
 
-none-needs : (p : Record → Bool) (es : List (ℕ × Record)) → list_any (λ e. p e.1) es ≡ false → (n : ℕ) (r : Record) → lookup (nat_eq n) es ≡ Some r → p r ≡ false
+none-needs : (p : Record → Bool) (es : List (ℕ × Record)) → list_any (λ e. p e.1) es ≡ false → (n : ℕ) (r : Record)
+    → lookup (nat_eq n) es ≡ Some r → p r ≡ false
 none-needs p [] none n r at = absurd (let bad : None ≡ Some r = at in cc)
 none-needs p (e ∷ es) none n r at =
     let parts = or_parts (p e.1) (list_any (λ e. p e.1) es) none in
@@ -44,14 +46,17 @@ off n (Exit p) e = let parts = or_parts _ _ e in (apart-from n p.source parts.0,
 off n (Thing p) e = apart-from n p e
 off n (Player p) e = apart-from n p e
 
-pub CanRemove-recycle : (w : State) (a n : ℕ) → refusal w (record { actor = a; deed = Recycle n }) ≡ None → CanRemove w n
+pub CanRemove-recycle : (w : State) (a n : ℕ) → refusal w (record { actor = a; deed = Recycle n }) ≡ None
+    → CanRemove w n
 CanRemove-recycle w a n legal =
     let none_holds = nothing_fails w (record { actor = a; deed = Recycle n }) legal in
     record {
       there = not-false _ (or_parts _ _ none_holds.0).1;
       no_player = (or_parts _ _ none_holds.1.0).1;
       other = λ e. true≢false (sym (eq-eqb n 0 e) ∙ (or_parts _ _ none_holds.1.1.1.1.1.1.1.1.1.1.1.1.1.0).0);
-      unused = λ m r at. off n r.kind (none-needs (λ r. kind_needs n r.kind) w.objects (or_parts _ _ none_holds.1.1.1.1.1.1.1.1.1.1.1.1.1.0).1 m r at);
+      unused = λ m r at. off n r.kind
+          (none-needs (λ r. kind_needs n r.kind) w.objects
+          (or_parts _ _ none_holds.1.1.1.1.1.1.1.1.1.1.1.1.1.0).1 m r at);
     }
 
 -- ---- another cost
@@ -88,7 +93,8 @@ kind-player cost (Exit p) = refl
 kind-player cost (Thing p) = refl
 kind-player cost (Player p) = refl
 
-pub sound-cost : (w : State) → IsSound w → (a n cost : ℕ) → refusal w (record { actor = a; deed = Cost n cost }) ≡ None → IsSound (costing w n cost)
+pub sound-cost : (w : State) → IsSound w → (a n cost : ℕ) → refusal w (record { actor = a; deed = Cost n cost }) ≡ None
+    → IsSound (costing w n cost)
 sound-cost w sound a n cost legal =
     let none_holds = nothing_fails w (record { actor = a; deed = Cost n cost }) legal in
     let it = found w n (not-false _ (or_parts _ _ none_holds.0).1) in
@@ -105,7 +111,9 @@ sound-cost w sound a n cost legal =
     } in
     let w' = with_record w n r' in
     subst IsSound (sym (changed_by w n (with_this_cost cost) r it.1)) (sound-changed w sound n r r' it.1 like
-    (list_all-agree _ _ (λ e. option_map_or-agree_keys w w' (answer-kept w sound n r r' it.1 like (option_and_then (λ r. r.key)) refl) 3 e.1.key) w'.objects
+    (list_all-agree _ _
+    (λ e. option_map_or-agree_keys w w'
+    (answer-kept w sound n r r' it.1 like (option_and_then (λ r. r.key)) refl) 3 e.1.key) w'.objects
     ∙ list_all-set_value (λ r. option_map_or (nests w 3) r.key true) n r' r w.objects it.1 refl
     ∙ sound.nesting) (named-same w n r r' sound.named it.1 (kind-player cost r.kind) refl))
   where
@@ -119,20 +127,33 @@ sound-cost w sound a n cost legal =
 abbrev pub with_these_names : List (List ℕ) → Record → Record
 with_these_names names r = record r { names = names }
 
-pub sound-renamed : (w : State) → IsSound w → (n : ℕ) (names : List (List ℕ)) → CanName w n names → IsSound (renamed w n names)
+pub sound-renamed : (w : State) → IsSound w → (n : ℕ) (names : List (List ℕ)) → CanName w n names
+    → IsSound (renamed w n names)
 sound-renamed w sound n names can =
     let it = found w n can.there in
     let r = it.0 in
     let r' = with_these_names names r in
-    let like : IsLike w r r' = record { room = refl; exit = refl; place = refl; well = sound.placed n r it.1; keyless = sound.keyless n r it.1; locked = sound.locked n r it.1 } in
+    let like : IsLike w r r' =
+    record {
+      room = refl;
+      exit = refl;
+      place = refl;
+      well = sound.placed n r it.1;
+      keyless = sound.keyless n r it.1;
+      locked = sound.locked n r it.1;
+    } in
     let w' = with_record w n r' in
     subst IsSound (sym (changed_by w n (with_these_names names) r it.1)) (sound-changed w sound n r r' it.1 like
-    (list_all-agree _ _ (λ e. option_map_or-agree_keys w w' (answer-kept w sound n r r' it.1 like (option_and_then (λ r. r.key)) refl) 3 e.1.key) w'.objects
+    (list_all-agree _ _
+    (λ e. option_map_or-agree_keys w w'
+    (answer-kept w sound n r r' it.1 like (option_and_then (λ r. r.key)) refl) 3 e.1.key) w'.objects
     ∙ list_all-set_value (λ r. option_map_or (nests w 3) r.key true) n r' r w.objects it.1 refl
     ∙ sound.nesting)
-    (named-set w n r r' sound.named it.1 (λ player. can.free (ap (λ v. option_map_or (λ r. is_player_kind r.kind) v false) it.1 ∙ player))))
+    (named-set w n r r' sound.named it.1
+    (λ player. can.free (ap (λ v. option_map_or (λ r. is_player_kind r.kind) v false) it.1 ∙ player))))
 
-pub CanName-rename : (w : State) (a n : ℕ) (names : List (List ℕ)) → refusal w (record { actor = a; deed = Rename n names }) ≡ None → CanName w n names
+pub CanName-rename : (w : State) (a n : ℕ) (names : List (List ℕ))
+    → refusal w (record { actor = a; deed = Rename n names }) ≡ None → CanName w n names
 CanName-rename w a n names legal =
     let none_holds = nothing_fails w (record { actor = a; deed = Rename n names }) legal in
     record {
@@ -141,7 +162,8 @@ CanName-rename w a n names legal =
     }
 
 -- ---- a new player
-pub CanAdd-player : (w : State) → IsSound w → (a : ℕ) (name : List ℕ) → refusal w (record { actor = a; deed = NewPlayer name }) ≡ None → CanAdd w (new_record a (name ∷ []) (Player 0))
+pub CanAdd-player : (w : State) → IsSound w → (a : ℕ) (name : List ℕ)
+    → refusal w (record { actor = a; deed = NewPlayer name }) ≡ None → CanAdd w (new_record a (name ∷ []) (Player 0))
 CanAdd-player w sound a name legal =
     let none_holds = nothing_fails w (record { actor = a; deed = NewPlayer name }) legal in
     let is_next : a ≡ w.next = eqb-true a w.next (not-false _ none_holds.0) in
@@ -151,7 +173,8 @@ CanAdd-player w sound a name legal =
       free = λ _. ap (λ n. is_taken w n (name ∷ [])) (sym is_next) ∙ none_holds.1.1.1.1.1.0;
       new = record {
         keyless = refl;
-        place = λ p e. let same : 0 ≡ p = cc in subst (λ (v : ℕ). exists w v ≡ true) same (has_exists w (λ r. is_room_kind r.kind) 0 sound.hall);
+        place = λ p e. let same : 0 ≡ p = cc in
+            subst (λ (v : ℕ). exists w v ≡ true) same (has_exists w (λ r. is_room_kind r.kind) 0 sound.hall);
         well = has-grown w (new_record a (name ∷ []) (Player 0) ∷ []) (λ r. is_room_kind r.kind) 0 sound.hall;
       };
     }

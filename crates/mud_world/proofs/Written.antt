@@ -1,5 +1,6 @@
 -- Written anew, the answers of no level are those of a level more.
-use Rattle.std.proofs.Common.{◌≡◌, ℕ, ◌<◌, ◌≤◌, ◌||◌, Bool, true, false, List, [], ◌∷◌, length, set, get_or, Option, Some, None, refl, sym, ◌∙◌, ap, arith, ⊎_elim}
+use Rattle.std.proofs.Common.{◌≡◌, ℕ, ◌<◌, ◌≤◌, ◌||◌, Bool, true, false, List, [], ◌∷◌, length, set, get_or, Option}
+use Rattle.std.proofs.Common.{Some, None, refl, sym, ◌∙◌, ap, arith, ⊎_elim}
 use Rattle.std.specs.Prelude.{nat_eq, is_none}
 use Rattle.std.specs.Option.{option_map_or, option_and_then}
 use Rattle.std.specs.List.{list_any}
@@ -10,7 +11,7 @@ use Rattle.mud_key.specs.Tree.{Tree}
 use Rattle.mud_world.specs.declared.record.Record.{Record}
 use Rattle.mud_world.specs.State.{State, has, record_at}
 use Rattle.mud_world.specs.Sound.{IsSound}
-use Rattle.mud_world.specs.Judging.{IsPlain, written}
+use Rattle.mud_world.specs.inner.Answers.{IsPlain, written}
 use Rattle.mud_world.proofs.Records.{bool_cases}
 use Rattle.mud_world.proofs.Carrying.{has-above, get_or-past}
 
@@ -20,7 +21,8 @@ length-written new (p ∷ os) answers = length-written new os (set answers p (ne
 
 -- what is written has its new answer, and so has what had it
 written-at : (new : ℕ → Bool) (os : List ℕ) (answers : List Bool) (o : ℕ) → o < length answers
-    → (list_any (nat_eq o) os ≡ false → get_or answers o false ≡ new o) → get_or (written new os answers) o false ≡ new o
+    → (list_any (nat_eq o) os ≡ false → get_or answers o false ≡ new o)
+    → get_or (written new os answers) o false ≡ new o
 written-at new [] answers o lt had = had refl
 written-at new (p ∷ os) answers o lt had =
     written-at new os (set answers p (new p)) o (omega (arith, lt, length-set answers p (new p)))
@@ -44,7 +46,8 @@ by_record test None is = refl
 by_record test (Some r) is = by_key test r.key is
 
 -- who is not among the locked has no key
-pub keyless-key : (v : Option Record) → option_map_or (λ r. is_none r.key) v false ≡ true → is_none (option_and_then (λ r. r.key) v) ≡ true
+pub keyless-key : (v : Option Record) → option_map_or (λ r. is_none r.key) v false ≡ true
+    → is_none (option_and_then (λ r. r.key) v) ≡ true
 keyless-key None is = refl
 keyless-key (Some r) is = is
 
@@ -55,7 +58,8 @@ pub written-anew : (w : State) → IsSound w → (answers : List Bool) (locked :
 written-anew w sound answers locked is test o =
     let new = λ (o : ℕ). has w o (λ r. option_map_or test r.key true) in
     ⊎_elim
-    (λ (lt : o < length answers). written-at new locked answers o lt (λ none. is.plain o ∙ by_record test (record_at w o) (is.keyless o none)))
+    (λ (lt : o < length answers). written-at new locked answers o lt
+    (λ none. is.plain o ∙ by_record test (record_at w o) (is.keyless o none)))
     (λ (le : length answers ≤ o).
     get_or-past (written new locked answers) o (omega (arith, le, length-written new locked answers))
     ∙ sym (has-above w sound o (omega (arith, le, is.long)) (λ r. option_map_or test r.key true)))

@@ -9,7 +9,7 @@ use Rattle.mud_world.specs.declared.record.Record.{Record}
 use Rattle.mud_world.specs.declared.world.World.TheInside.{Inside}
 use Rattle.mud_world.specs.State.{State, has, is_number, kind_place, kind_passage, numbers_with}
 use Rattle.mud_world.specs.Sound.{IsSound}
-use Rattle.mud_world.specs.Edits.{asked_by, called}
+use Rattle.mud_world.specs.inner.Edits.{asked_by, called}
 
 -- the records by number, without the lists beside them
 abbrev pub state_of : Inside → State

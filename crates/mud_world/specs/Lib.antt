@@ -1,5 +1,4 @@
 pub mod Kinds
-pub mod Marking
 pub mod Truth
 pub mod State
 pub mod Sound
@@ -10,15 +9,10 @@ pub mod Results
 pub mod Legal
 pub mod Refusals
 pub mod Speech
-pub mod Going
 pub mod Numbers
-pub mod Edits
-pub mod Bearing
 pub mod Nesting
-pub mod Climbing
 pub mod Laws
 pub mod Inside
-pub mod Judging
 pub mod History
 pub mod Parts
-pub mod Inner
+pub mod inner

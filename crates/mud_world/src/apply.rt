@@ -3,8 +3,8 @@
 ghost use Rattle.std.specs.Prelude.{◌≡◌, None, OnOk, OnErr};
 ghost use Rattle.mud_world.specs.Sound.{IsSound};
 ghost use Rattle.mud_world.specs.Legal.{refusal, after};
-ghost use Rattle.mud_world.specs.Inner.{moved, keyed, renamed};
-ghost use Rattle.mud_world.specs.Going.{CanGo, CanKey, CanName};
+ghost use Rattle.mud_world.specs.inner.Parts.{moved, keyed, renamed};
+ghost use Rattle.mud_world.specs.inner.CanGo.{CanGo, CanKey, CanName};
 
 use crate::maps::{forget, rekey, relocate_in, rename_in, set_cost, unkey};
 use crate::world::World;

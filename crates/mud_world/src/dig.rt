@@ -3,7 +3,7 @@
 ghost use Rattle.std.specs.Prelude.{◌≡◌, ◌+◌, ◌<◌, ◌≤◌, [], ◌∷◌, None, OnOk, OnErr, length};
 ghost use Rattle.mud_world.specs.State.{State};
 ghost use Rattle.mud_world.specs.Legal.{refusal, after, with_new, new_record, new_exit, new_exits};
-ghost use Rattle.mud_world.specs.Going.{CanAdd, CanJoin, IsGrown};
+ghost use Rattle.mud_world.specs.inner.CanGo.{CanAdd, CanJoin, IsGrown};
 
 use crate::maps::{forget, grow};
 use crate::world::World;

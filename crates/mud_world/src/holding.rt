@@ -5,6 +5,7 @@ ghost use Rattle.mud_world.specs.State.{IsHolding, unlocked, Within};
 ghost use Rattle.std.specs.List.{list_any};
 ghost use Rattle.indexmap.specs.IndexSet.{insert_key, insert_all};
 
+use crate::limits::KEY_LEVELS;
 use crate::locks::Bearer;
 use crate::world::World;
 use indexmap::IndexSet;
@@ -91,6 +92,6 @@ impl World {
     pub fn unlocked(&self, holding: &Holding, object: u32) -> bool
         ensures { (c : ℕ) → IsHolding self.now c holding.now → result ≡ unlocked self.now c object }
     {
-        self.opens(Bearer::Holder(holding), object, 4)
+        self.opens(Bearer::Holder(holding), object, KEY_LEVELS)
     }
 }

@@ -30,7 +30,7 @@ fn put_answer(answers: &mut Vec<bool>, object: u32, answer: bool)
 }
 
 impl World {
-    ghost use Rattle.mud_world.specs.Judging.{IsPlain};
+    ghost use Rattle.mud_world.specs.inner.Answers.{IsPlain};
 
     // The answers of no level: what has no key is unlocked.
     fn judge_plain(&self, alloc: Global) -> Result<Plain, AllocError>

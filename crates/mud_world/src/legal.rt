@@ -4,12 +4,13 @@ ghost use Rattle.std.specs.Prelude.{MatchResult, not, ◌||◌, ◌≡◌, ℕ, 
 ghost use Rattle.mud_world.specs.State.{is_taken, State, exists};
 ghost use Rattle.mud_key.specs.Node.{key_of as tree_of};
 ghost use Rattle.mud_world.specs.Legal.{dug, actor_fails, deed_fails, refusal, fails};
-ghost use Rattle.mud_world.specs.Inner.{in_use, is_full, is_bad_key};
+ghost use Rattle.mud_world.specs.inner.Parts.{in_use, is_full, is_bad_key};
 ghost use Rattle.mud_key.specs.Tree.{atoms_of};
 ghost use Rattle.std.specs.List.{list_any};
 ghost use Rattle.mud_world.specs.Kinds.{kind_needs};
 ghost use Rattle.mud_world.specs.Inside.{leaves, arrives, arriving_of};
 
+use crate::limits::{LAST_NUMBER, MOST_COST};
 use crate::speech::is_speech;
 use crate::world::World;
 use crate::{Change, Deed, Doors, Refusal, Target};
@@ -40,7 +41,7 @@ impl World {
         requires { count ≤ 3 }
         ensures { result ≡ is_full self.now count }
     {
-        self.next + count > 8192
+        self.next + count > LAST_NUMBER + 1
     }
 
     // How many objects are dug.
@@ -81,9 +82,9 @@ impl World {
             Refusal::NoSuch => !self.exists(exit),
             Refusal::WrongKind => !self.is_exit(exit),
             Refusal::NotHere => !self.leaves_from(actor, exit),
-            Refusal::LockedExit => !self.is_open(actor, exit),
+            Refusal::LockedExit => !self.is_unlocked(actor, exit),
             Refusal::LockedRoom => match self.passage(exit) {
-                Some(passage) => !self.is_open(actor, passage.destination),
+                Some(passage) => !self.is_unlocked(actor, passage.destination),
                 None => true,
             },
             _ => false,
@@ -113,8 +114,8 @@ impl World {
                 !self.in_reach(actor, thing) || self.is_in(thing, to) || !self.is_offered(actor, to)
             }
             Refusal::RecursiveMove => self.holds(thing, to),
-            Refusal::LockedRoom => !self.is_open(thing, to),
-            Refusal::LockedThing => !self.is_open(to, thing),
+            Refusal::LockedRoom => !self.is_unlocked(thing, to),
+            Refusal::LockedThing => !self.is_unlocked(to, thing),
             _ => false,
         }
     }
@@ -153,7 +154,7 @@ impl World {
             Refusal::NoSuch => !self.exists(exit),
             Refusal::WrongKind => !self.is_exit(exit),
             Refusal::Denied => !self.owns(actor, exit),
-            Refusal::BadCost => cost > 10000,
+            Refusal::BadCost => cost > MOST_COST,
             _ => false,
         }
     }

@@ -37,6 +37,7 @@ mod holding;
 mod judged;
 pub mod laws;
 mod legal;
+mod limits;
 mod links;
 mod locks;
 mod maps;
@@ -51,6 +52,7 @@ mod world;
 
 pub use change::{Change, Deed, Doors, Target};
 pub use holding::Holding;
+pub use limits::{LAST_NUMBER, MOST_COST};
 pub use record::{Kind, Passage, Record};
 pub use refusal::{Refusal, lesser, refused_if};
 pub use speech::Speech;

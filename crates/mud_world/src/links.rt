@@ -2,7 +2,7 @@
 
 ghost use Rattle.std.specs.Prelude.{◌≡◌, IfOk, OnOk, OnErr};
 ghost use Rattle.mud_lists.specs.Rising.{inserted, without};
-ghost use Rattle.mud_world.specs.Edits.{AreLinked, AreSameLinks, AreNone, IsInNone};
+ghost use Rattle.mud_world.specs.inner.Edits.{AreLinked, AreSameLinks, AreNone, IsInNone};
 
 use crate::Kind;
 use mud_lists::Lists;

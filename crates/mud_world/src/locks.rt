@@ -5,7 +5,7 @@ ghost use Rattle.std.specs.Option.{option_map_or};
 ghost use Rattle.mud_key.specs.Node.{key_of as tree_of};
 ghost use Rattle.mud_world.specs.Truth.{key_true};
 ghost use Rattle.mud_world.specs.State.{has, opens};
-ghost use Rattle.mud_world.specs.Bearing.{has_for, asked_for};
+ghost use Rattle.mud_world.specs.inner.Bearer.{has_for, asked_for};
 
 use crate::holding::Holding;
 use crate::world::World;

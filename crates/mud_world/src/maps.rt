@@ -7,10 +7,10 @@ ghost use Rattle.std.specs.List.{list_any};
 ghost use Rattle.mud_lists.specs.Rising.{inserted, without};
 ghost use Rattle.mud_lists.specs.Lists.{list_at, AreChanged, AreSame};
 ghost use Rattle.mud_lists.specs.Owners.{AreOwnersPassed};
-ghost use Rattle.mud_lists.specs.Inner.{HaveSameOwners};
-ghost use Rattle.mud_world.specs.Edits.{edited, placed_at, costing_at, with_names, with_key, asked_by};
-ghost use Rattle.mud_world.specs.Edits.{called, called_by, AreLinked, AreMoved, AreRekeyed, AreSameLinks};
-ghost use Rattle.mud_world.specs.Edits.{IsInNone, StandRising};
+ghost use Rattle.mud_lists.specs.inner.Views.{HaveSameOwners};
+ghost use Rattle.mud_world.specs.inner.Edits.{edited, placed_at, costing_at, with_names, with_key, asked_by};
+ghost use Rattle.mud_world.specs.inner.Edits.{called, called_by, AreLinked, AreMoved, AreRekeyed, AreSameLinks};
+ghost use Rattle.mud_world.specs.inner.Edits.{IsInNone, StandRising};
 
 use crate::askers::{exchange, leave};
 use crate::links::Links;

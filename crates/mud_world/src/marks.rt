@@ -2,8 +2,9 @@
 
 ghost use Rattle.std.specs.Prelude.{◌≡◌, true, false, IfSome, OnSome, ◌++◌, replicate, slice_set};
 ghost use Rattle.mud_world.specs.State.{IsHolding, unlocked};
-ghost use Rattle.mud_world.specs.Marking.{marked};
+ghost use Rattle.mud_world.specs.inner.Marks.{marked};
 
+use crate::limits::KEY_LEVELS;
 use crate::locks::Bearer;
 use crate::world::World;
 use arrayvec::ArrayVec;
@@ -60,14 +61,14 @@ impl World {
     }
 
     // Whether the object is unlocked for the candidate, once it is known what he holds.
-    fn is_open_marked(&self, candidate: u32, numbers: &[u32], object: u32) -> bool
+    fn is_unlocked_by_marks(&self, candidate: u32, numbers: &[u32], object: u32) -> bool
         requires { IsHolding self.now candidate numbers.now }
         ensures { result ≡ unlocked self.now candidate object }
     {
         // for the prover: the world is sound
         self.is_sound();
         let marks = marks_of(numbers);
-        self.opens(Bearer::Marks(&marks), object, 4)
+        self.opens(Bearer::Marks(&marks), object, KEY_LEVELS)
     }
 
     // Whether an object that has a key is unlocked for the candidate.
@@ -75,14 +76,14 @@ impl World {
         ensures { result ≡ unlocked self.now candidate object }
     {
         match self.gathered(candidate) {
-            Some(found) => self.is_open_marked(candidate, found.as_slice(), object),
-            None => self.opens(Bearer::Number(candidate), object, 4),
+            Some(found) => self.is_unlocked_by_marks(candidate, found.as_slice(), object),
+            None => self.opens(Bearer::Number(candidate), object, KEY_LEVELS),
         }
     }
 
     // Whether the object is unlocked for the candidate. Few objects have a key: of the others it is
     // not asked what he holds.
-    pub(crate) fn is_open(&self, candidate: u32, object: u32) -> bool
+    pub(crate) fn is_unlocked(&self, candidate: u32, object: u32) -> bool
         ensures { result ≡ unlocked self.now candidate object }
     {
         self.is_keyless(object) || self.is_let_in(candidate, object)

@@ -3,8 +3,8 @@
 ghost use Rattle.std.specs.Prelude.{true, ◌≡◌};
 ghost use Rattle.mud_world.specs.State.{nests, all_nest, key_of};
 ghost use Rattle.mud_key.specs.Node.{key_of as tree_of};
-ghost use Rattle.mud_world.specs.Inner.{locked};
-ghost use Rattle.mud_world.specs.Climbing.{askers_of, climbs};
+ghost use Rattle.mud_world.specs.inner.Parts.{locked};
+ghost use Rattle.mud_world.specs.inner.Askers.{askers_of, climbs};
 ghost use Rattle.std.specs.Option.{option_map_or};
 
 use crate::world::World;

@@ -2,10 +2,11 @@
 
 ghost use Rattle.std.specs.Prelude.{◌≡◌, ℕ, IfOk, IsTrue, option_copied, MatchOption, true};
 ghost use Rattle.mud_world.specs.Speech.{is_trimmed, is_speech};
-ghost use Rattle.mud_world.specs.Inner.{is_printable};
+ghost use Rattle.mud_world.specs.inner.Parts.{is_printable};
 ghost use Rattle.std.specs.Option.{option_map_or};
 ghost use Rattle.std.specs.Prelude.{nat_eq, false};
 
+use crate::limits::MOST_SPEECH;
 use std::alloc::{AllocError, Global};
 use std::marker::Model;
 
@@ -64,14 +65,14 @@ impl Speech {
 fn is_printable(text: &[u8]) -> bool
     ensures { result ≡ is_printable text.now }
 {
-    text.iter().all(|byte| 32 <= *byte && *byte <= 126)
+    text.iter().all(|byte| b' ' <= *byte && *byte <= b'~')
 }
 
 fn is_space(byte: Option<&u8>) -> bool
     ensures { result ≡ option_map_or (nat_eq 32) (option_copied byte.entry) false }
 {
     match byte {
-        Some(byte) => 32 == *byte,
+        Some(byte) => b' ' == *byte,
         None => false,
     }
 }
@@ -87,5 +88,5 @@ pub(crate) fn is_speech(text: &str) -> bool
     ensures { result ≡ is_speech text.now }
 {
     let bytes = text.as_bytes();
-    !bytes.is_empty() && bytes.len() <= 900 && is_printable(bytes) && is_trimmed(bytes)
+    !bytes.is_empty() && bytes.len() <= MOST_SPEECH && is_printable(bytes) && is_trimmed(bytes)
 }

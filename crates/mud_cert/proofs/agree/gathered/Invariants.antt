@@ -1,5 +1,5 @@
 use Rattle.std.proofs.Common.{◌≡◌, drop}
-use Rattle.mud_cert.specs.Agreement.{gathered, gathered_from}
+use Rattle.mud_cert.specs.inner.Agreement.{gathered, gathered_from}
 use Rattle.mud_cert.proofs.agree.gathered.Given as goal
 
 abbrev pub invariant-loop-member : goal.invariant-loop-member

@@ -1,5 +1,5 @@
 use Rattle.std.proofs.Common.{◌≡◌, ◌∙◌, sym, None}
-use Rattle.mud_cert.specs.Tests.{first_doubt}
+use Rattle.mud_cert.specs.inner.Tests.{first_doubt}
 use Rattle.mud_cert.specs.Valid.{IsValid}
 use Rattle.mud_cert.proofs.First.{answered-first}
 use Rattle.mud_cert.proofs.Optimal.{valid_is_optimal}

@@ -1,5 +1,5 @@
 use Rattle.std.proofs.Common.{◌≡◌, [], take, drop}
-use Rattle.mud_cert.specs.Tests.{members_doubt}
+use Rattle.mud_cert.specs.inner.Tests.{members_doubt}
 use Rattle.mud_cert.proofs.judge.members_doubt.Given as goal
 
 abbrev pub invariant-loop-i : goal.invariant-loop-i

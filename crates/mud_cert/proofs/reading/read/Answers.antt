@@ -3,7 +3,7 @@ use Rattle.std.proofs.Common.{◌≡◌, ◌<◌, ◌+◌, ◌∷◌, length, No
 use Rattle.std.proofs.lemmas.Grind.{common_steps}
 use Rattle.std.proofs.lemmas.List.{nil_from_length}
 use Rattle.mud_cert.specs.declared.stage.Stage.TheVariants.{Whole}
-use Rattle.mud_cert.specs.Stages.{next}
+use Rattle.mud_cert.specs.inner.Stages.{next}
 use Rattle.mud_cert.proofs.Progress.{reads-start, reads-more, reads-few, line-some, reads-refused, reads-unended}
 use Rattle.mud_cert.proofs.Progress.{reads-whole, told}
 use Rattle.mud_cert.proofs.reading.read.Goals as goal

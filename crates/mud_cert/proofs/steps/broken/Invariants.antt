@@ -1,5 +1,5 @@
 use Rattle.std.proofs.Common.{◌≡◌, ◌+◌, drop}
-use Rattle.mud_cert.specs.Tests.{broken}
+use Rattle.mud_cert.specs.inner.Tests.{broken}
 use Rattle.mud_cert.proofs.steps.broken.Given as goal
 
 abbrev pub invariant-loop-i : goal.invariant-loop-i

@@ -1,6 +1,6 @@
 use Rattle.std.proofs.Common.{◌≡◌, ◌+◌, ℕ, drop}
 use Rattle.mud_world.specs.State.{IsHolding}
-use Rattle.mud_cert.specs.Tests.{locked}
+use Rattle.mud_cert.specs.inner.Tests.{locked}
 use Rattle.mud_cert.proofs.steps.locked.Given as goal
 
 abbrev pub invariant-loop-i : goal.invariant-loop-i

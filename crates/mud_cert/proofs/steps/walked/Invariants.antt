@@ -1,6 +1,6 @@
 use Rattle.std.proofs.Common.{◌≡◌, ◌≤◌, ◌+◌, ◌*◌, ◌^◌, drop}
 use Rattle.mud_roads.specs.Walks.{total}
-use Rattle.mud_cert.specs.Ways.{end_of, steps_of}
+use Rattle.mud_cert.specs.inner.Ways.{end_of, steps_of}
 use Rattle.mud_cert.proofs.steps.walked.Given as goal
 
 abbrev pub invariant-loop-exit : goal.invariant-loop-exit

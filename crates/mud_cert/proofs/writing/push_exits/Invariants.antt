@@ -1,6 +1,6 @@
 use Rattle.std.proofs.Common.{◌≡◌, ◌++◌, take, string_bytes}
 use Rattle.std.specs.List.{flat_map}
-use Rattle.mud_cert.specs.Lines.{exit_text}
+use Rattle.mud_cert.specs.inner.Lines.{exit_text}
 use Rattle.mud_cert.proofs.writing.push_exits.Given as goal
 
 abbrev pub invariant-loop-exit : goal.invariant-loop-exit

@@ -1,5 +1,5 @@
 use Rattle.std.proofs.Common.{◌≡◌, ◌<◌, drop}
-use Rattle.mud_chron.specs.Fields.{digits_on}
+use Rattle.mud_chron.specs.inner.Fields.{digits_on}
 use Rattle.mud_chron.proofs.fields.digits.Given as goal
 
 abbrev pub invariant-loop-byte : goal.invariant-loop-byte

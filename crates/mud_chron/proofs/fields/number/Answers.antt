@@ -1,5 +1,5 @@
 use Rattle.std.proofs.Common.{◌∙◌, ap, arith}
-use Rattle.mud_chron.specs.Fields.{up_to, digits_on}
+use Rattle.mud_chron.specs.inner.Fields.{up_to, digits_on}
 use Rattle.mud_chron.proofs.Digits.{given, number_again}
 use Rattle.mud_chron.proofs.fields.number.Goals as goal
 

@@ -1,6 +1,6 @@
 use Rattle.std.proofs.Common.{◌∙◌, ◌-◌, ap, arith, length, take, drop}
 use Rattle.std.specs.Fmt.{decimal}
-use Rattle.mud_chron.specs.Fields.{up_to, digits_on}
+use Rattle.mud_chron.specs.inner.Fields.{up_to, digits_on}
 use Rattle.mud_chron.proofs.Digits.{given, number_again}
 use Rattle.mud_chron.proofs.Found.{behind_sharp}
 use Rattle.mud_chron.proofs.fields.object.Goals as goal

@@ -1,14 +1,14 @@
 use Rattle.std.proofs.Common.{◌<◌, ◌≤◌, ◌+◌, ◌-◌, length, sym, subst, arith, refl}
 use Rattle.mud_chron.specs.Faults.{Begins}
-use Rattle.mud_chron.specs.Lines.{IsLine}
-use Rattle.mud_chron.specs.declared.line.Line.TheVariants.{Entry, End}
+use Rattle.mud_chron.specs.inner.Lines.{IsLine}
+use Rattle.mud_chron.specs.declared.line.Line.TheVariants as lines
 use Rattle.mud_chron.proofs.Begun.{next_entry, too_long}
 use Rattle.mud_chron.proofs.Fronts.{found_in_line, other_line, end_is_other}
 use Rattle.mud_chron.proofs.front.read_front.Goals as goal
 
 pub returns-then-len-eq-MOST_ENTRIES-clause-fault : goal.returns-then-len-eq-MOST_ENTRIES-clause-fault
 returns-then-len-eq-MOST_ENTRIES-clause-fault c =
-    let is : IsLine c.in-Some.format c.len.result c.in-Some-cut_line.line.now (Entry c.in-Entry.entry) =
+    let is : IsLine c.in-Some.format c.len.result c.in-Some-cut_line.line.now (lines.Entry c.in-Entry.entry) =
     subst (IsLine c.in-Some.format c.len.result c.in-Some-cut_line.line.now) c.in-Entry.is c.in_ok-entry.ensures in
     λ other. too_long c.in-Some.format c.loop-line.entries.items c.args.bytes.now c.loop-line.rest.now
     c.in-Some-cut_line.line.now c.in-Some-cut_line.more.now c.len.result c.in-Entry.entry
@@ -16,7 +16,7 @@ returns-then-len-eq-MOST_ENTRIES-clause-fault c =
 
 pub loop-line-preserved : goal.loop-line-preserved
 loop-line-preserved c =
-    let is : IsLine c.in-Some.format c.len.result c.in-Some-cut_line.line.now (Entry c.in-Entry.entry) =
+    let is : IsLine c.in-Some.format c.len.result c.in-Some-cut_line.line.now (lines.Entry c.in-Entry.entry) =
     subst (IsLine c.in-Some.format c.len.result c.in-Some-cut_line.line.now) c.in-Entry.is c.in_ok-entry.ensures in
     let few : length c.loop-line.entries.items < 65536 = omega (arith, c.loop-line.invariant.allowed.few) in
     subst (λ items. Begins c.in-Some.format items c.args.bytes.now c.in-Some-cut_line.more.now)
@@ -27,7 +27,7 @@ loop-line-preserved c =
 
 pub returns-in-End-clause-fault : goal.returns-in-End-clause-fault
 returns-in-End-clause-fault c =
-    let is : IsLine c.in-Some.format c.len.result c.in-Some-cut_line.line.now End =
+    let is : IsLine c.in-Some.format c.len.result c.in-Some-cut_line.line.now lines.End =
     subst (IsLine c.in-Some.format c.len.result c.in-Some-cut_line.line.now) c.in-End.is c.in_ok-entry.ensures in
     let few : c.len.result ≤ 65536 = omega (arith, c.loop-line.invariant.allowed.few) in
     λ other. other_line c.in-Some.format c.loop-line.entries.items c.args.bytes.now c.loop-line.rest.now

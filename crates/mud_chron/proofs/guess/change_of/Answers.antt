@@ -1,7 +1,7 @@
 use Rattle.std.proofs.Common.{◌∙◌, ◌++◌, codes, Ok, Err}
 use Rattle.std.proofs.lemmas.Result.{err_from_is_err_and}
 use Rattle.mud_key.specs.Printed.{number_text}
-use Rattle.mud_chron.specs.Fields.{word_of}
+use Rattle.mud_chron.specs.inner.Fields.{word_of}
 use Rattle.mud_chron.proofs.Again.{rest_of}
 use Rattle.mud_chron.proofs.Found.{verb_of, word_lacks, change-parts, deed_behind}
 use Rattle.mud_chron.proofs.guess.change_of.Goals as goal

@@ -3,7 +3,7 @@ use Rattle.std.proofs.lemmas.Result.{err_from_is_err_and}
 use Rattle.mud_world.specs.declared.change.Target.TheVariants.{New}
 use Rattle.mud_world.specs.declared.change.Deed.TheVariants.{Dig}
 use Rattle.mud_chron.specs.declared.fields.Unread.TheVariants.{OutOfMemory}
-use Rattle.mud_chron.specs.Inner.{doors_text}
+use Rattle.mud_chron.specs.inner.Texts.{doors_text}
 use Rattle.mud_chron.proofs.Found.{doors-found}
 use Rattle.mud_chron.proofs.guess.dig_new.Goals as goal
 

@@ -4,7 +4,7 @@ use Rattle.mud_world.specs.declared.change.Doors.{Doors}
 use Rattle.mud_world.specs.declared.change.Target.TheVariants.{Old}
 use Rattle.mud_world.specs.declared.change.Deed.TheVariants.{Dig}
 use Rattle.mud_chron.specs.Text.{quoted}
-use Rattle.mud_chron.specs.Inner.{back_text}
+use Rattle.mud_chron.specs.inner.Texts.{back_text}
 use Rattle.mud_chron.proofs.Cutting.{lacks_all}
 use Rattle.mud_chron.proofs.Found.{old-parts}
 use Rattle.mud_chron.proofs.guess.dig_old.Goals as goal

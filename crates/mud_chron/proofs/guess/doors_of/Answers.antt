@@ -3,7 +3,7 @@ use Rattle.std.proofs.lemmas.Result.{err_from_is_err_and}
 use Rattle.std.proofs.lemmas.Bool.{true≢false}
 use Rattle.std.specs.Prelude.{nat_eq}
 use Rattle.mud_world.specs.declared.change.Doors.{Doors}
-use Rattle.mud_chron.specs.Inner.{back_text}
+use Rattle.mud_chron.specs.inner.Texts.{back_text}
 use Rattle.mud_chron.proofs.guess.doors_of.Goals as goal
 
 pub returns-in_err-out-clause-none : goal.returns-in_err-out-clause-none

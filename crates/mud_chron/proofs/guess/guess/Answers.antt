@@ -1,7 +1,7 @@
 use Rattle.std.proofs.Common.{◌∙◌, ◌++◌, ◌∷◌, arith}
 use Rattle.std.proofs.lemmas.Result.{err_from_is_err_and}
 use Rattle.std.specs.Fmt.{decimal}
-use Rattle.mud_chron.specs.Inner.{change_text}
+use Rattle.mud_chron.specs.inner.Texts.{change_text}
 use Rattle.mud_chron.proofs.Again.{line_shape}
 use Rattle.mud_chron.proofs.Found.{decimal_spaceless}
 use Rattle.mud_chron.proofs.guess.guess.Goals as goal

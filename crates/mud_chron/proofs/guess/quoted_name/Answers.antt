@@ -1,7 +1,7 @@
 use Rattle.std.proofs.Common.{◌≡◌, ◌∷◌, ◌++◌, ◌∙◌, [], subst}
 use Rattle.std.proofs.lemmas.Result.{err_from_is_err_and}
 use Rattle.mud_key.specs.Name.{IsName}
-use Rattle.mud_chron.specs.Fields.{Finds}
+use Rattle.mud_chron.specs.inner.Fields.{Finds}
 use Rattle.mud_chron.proofs.Spelled.{name_lacks}
 use Rattle.mud_chron.proofs.Found.{name-parts}
 use Rattle.mud_chron.proofs.guess.quoted_name.Goals as goal

@@ -1,13 +1,13 @@
 use Rattle.std.proofs.Common.{◌<◌, length, sym, subst, arith}
 use Rattle.mud_chron.specs.Faults.{Begins}
-use Rattle.mud_chron.specs.Lines.{IsLine}
-use Rattle.mud_chron.specs.declared.line.Line.TheVariants.{Entry}
+use Rattle.mud_chron.specs.inner.Lines.{IsLine}
+use Rattle.mud_chron.specs.declared.line.Line.TheVariants as lines
 use Rattle.mud_chron.proofs.Begun.{next_entry, too_long}
 use Rattle.mud_chron.proofs.reading.read_history.Goals as goal
 
 pub returns-then-len-eq-MOST_ENTRIES-clause-err : goal.returns-then-len-eq-MOST_ENTRIES-clause-err
 returns-then-len-eq-MOST_ENTRIES-clause-err c =
-    let is : IsLine c.in-Some.found.0 c.len.result c.in-Some-cut_line.line.now (Entry c.in-Entry.entry) =
+    let is : IsLine c.in-Some.found.0 c.len.result c.in-Some-cut_line.line.now (lines.Entry c.in-Entry.entry) =
     subst (IsLine c.in-Some.found.0 c.len.result c.in-Some-cut_line.line.now) c.in-Entry.is c.in_ok-entry.ensures in
     λ other. too_long c.in-Some.found.0 c.loop-line.entries.items c.args.bytes.now c.loop-line.rest.now
     c.in-Some-cut_line.line.now c.in-Some-cut_line.more.now c.len.result c.in-Entry.entry
@@ -15,7 +15,7 @@ returns-then-len-eq-MOST_ENTRIES-clause-err c =
 
 pub loop-line-preserved : goal.loop-line-preserved
 loop-line-preserved c =
-    let is : IsLine c.in-Some.found.0 c.len.result c.in-Some-cut_line.line.now (Entry c.in-Entry.entry) =
+    let is : IsLine c.in-Some.found.0 c.len.result c.in-Some-cut_line.line.now (lines.Entry c.in-Entry.entry) =
     subst (IsLine c.in-Some.found.0 c.len.result c.in-Some-cut_line.line.now) c.in-Entry.is c.in_ok-entry.ensures in
     let few : length c.loop-line.entries.items < 65536 = omega (arith, c.loop-line.invariant.allowed.few) in
     subst (λ items. Begins c.in-Some.found.0 items c.args.bytes.now c.in-Some-cut_line.more.now)

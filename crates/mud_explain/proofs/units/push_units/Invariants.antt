@@ -1,6 +1,6 @@
 use Rattle.std.proofs.Common.{◌≡◌, ◌++◌, string_bytes, take}
 use Rattle.mud_nvt.specs.Shown.{all_shown}
-use Rattle.mud_explain.specs.Inner.{units_text}
+use Rattle.mud_explain.specs.inner.Texts.{units_text}
 use Rattle.mud_explain.proofs.units.push_units.Given as goal
 
 abbrev pub invariant-loop-unit : goal.invariant-loop-unit

@@ -1,7 +1,7 @@
 use Rattle.std.proofs.Common.{◌∙◌, ap, sym, subst, arith}
 use Rattle.std.specs.Option.{option_map}
 use Rattle.mud_guide.proofs.Entries.{entries-limits, exits-limits}
-use Rattle.mud_guide.specs.Listings.{IsListed}
+use Rattle.mud_guide.specs.inner.Listings.{IsListed}
 use Rattle.mud_guide.specs.Journeys.{Journey}
 use Rattle.mud_guide.specs.Ways.{exits_of}
 use Rattle.mud_search.specs.Least.{label_in}

@@ -6,7 +6,7 @@ use Rattle.mud_cert.specs.Certificate.{Account, IsAccount}
 use Rattle.mud_roads.specs.declared.label.Label.{Label}
 use Rattle.mud_search.specs.Least.{label_in}
 use Rattle.mud_guide.specs.Journeys.{Journey}
-use Rattle.mud_guide.specs.Listings.{IsListed}
+use Rattle.mud_guide.specs.inner.Listings.{IsListed}
 use Rattle.mud_guide.proofs.Backs.{read-at}
 use Rattle.mud_guide.proofs.Entries.{listed-push}
 use Rattle.mud_guide.proofs.accounts.accounts_of.Goals as goal

@@ -1,7 +1,7 @@
 use Rattle.std.proofs.Common.{ℕ, ◌+◌, List, sym, ap, subst, ◌∙◌}
 use Rattle.mud_roads.specs.declared.label.Label.{Label}
 use Rattle.mud_search.specs.Least.{label_in}
-use Rattle.mud_guide.specs.Listings.{AreEntries}
+use Rattle.mud_guide.specs.inner.Listings.{AreEntries}
 use Rattle.mud_guide.proofs.Entries.{entries-skip, entries-push}
 use Rattle.mud_guide.proofs.accounts.entries_of.Goals as goal
 use Rattle.mud_guide.proofs.accounts.entries_of.Goals.{in-Some+in_ok-push, in_default}

@@ -1,6 +1,6 @@
 use Rattle.std.proofs.Common.{◌≡◌, length, drop}
 use Rattle.mud_search.specs.Least.{label_in}
-use Rattle.mud_guide.specs.Arrivals.{noted_all}
+use Rattle.mud_guide.specs.inner.Arrivals.{noted_all}
 use Rattle.mud_guide.proofs.arrivals.follow.Given as goal
 
 abbrev pub invariant-loop-step : goal.invariant-loop-step

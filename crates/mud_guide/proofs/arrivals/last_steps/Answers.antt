@@ -3,7 +3,7 @@ use Rattle.std.proofs.lemmas.List.{with_items_is}
 use Rattle.mud_roads.specs.Open.{roads_of}
 use Rattle.mud_search.specs.Least.{label_in}
 use Rattle.mud_guide.specs.declared.arrivals.Arrival.{Arrival}
-use Rattle.mud_guide.specs.Arrivals.{AreLowest, noted_all}
+use Rattle.mud_guide.specs.inner.Arrivals.{AreLowest, noted_all}
 use Rattle.mud_guide.proofs.Lowest.{lowest-room, lowest-skip, leads-within, all-within}
 use Rattle.mud_guide.proofs.arrivals.last_steps.Goals as goal
 use Rattle.mud_guide.proofs.arrivals.last_steps.Goals.{in-Some, in_default}

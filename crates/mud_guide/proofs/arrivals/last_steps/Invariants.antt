@@ -1,7 +1,7 @@
 use Rattle.mud_roads.specs.Open.{roads_of}
 use Rattle.mud_search.specs.Least.{label_in}
 use Rattle.std.proofs.Common.{◌<◌}
-use Rattle.mud_guide.specs.Arrivals.{AreLowest}
+use Rattle.mud_guide.specs.inner.Arrivals.{AreLowest}
 use Rattle.mud_guide.proofs.arrivals.last_steps.Given as goal
 
 abbrev pub invariant-loop-room : goal.invariant-loop-room

@@ -4,7 +4,7 @@ use Rattle.mud_roads.specs.declared.label.Label.{Label}
 use Rattle.mud_roads.specs.Open.{Knowledge}
 use Rattle.mud_search.specs.Least.{label_in}
 use Rattle.mud_guide.specs.Journeys.{Journey, IsJourney}
-use Rattle.mud_guide.specs.Listings.{IsInside, AreListed}
+use Rattle.mud_guide.specs.inner.Listings.{IsInside, AreListed}
 use Rattle.mud_guide.proofs.Party.{allzip-length, journeys-inside}
 use Rattle.mud_guide.proofs.lister.listing_of.Goals as goal
 

@@ -2,7 +2,7 @@ use Rattle.std.proofs.Common.{ℕ, ◌+◌, Option, sym, ◌∙◌, subst, arith
 use Rattle.std.specs.Prelude.{IfSome, IfNone}
 use Rattle.mud_search.specs.Least.{label_in}
 use Rattle.mud_cert.specs.declared.cert.Meeting.{Meeting}
-use Rattle.mud_guide.specs.Gatherings.{IsGreatest, BestSoFar}
+use Rattle.mud_guide.specs.inner.Gatherings.{IsGreatest, BestSoFar}
 use Rattle.mud_guide.proofs.Gather.{best-skip, best-step, best-some, best-none}
 use Rattle.mud_guide.proofs.meeting.best.Goals as goal
 use Rattle.mud_guide.proofs.meeting.best.Goals.{in-Some, in_default}

@@ -1,4 +1,4 @@
-use Rattle.mud_guide.specs.Gatherings.{BestSoFar}
+use Rattle.mud_guide.specs.inner.Gatherings.{BestSoFar}
 use Rattle.mud_search.specs.Least.{label_in}
 use Rattle.mud_guide.proofs.meeting.best.Given as goal
 

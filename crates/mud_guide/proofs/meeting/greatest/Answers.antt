@@ -1,6 +1,6 @@
 use Rattle.std.proofs.Common.{ℕ, ◌+◌, sym, ◌∙◌, subst, arith}
 use Rattle.mud_search.specs.Least.{label_in}
-use Rattle.mud_guide.specs.Gatherings.{IsGreatest}
+use Rattle.mud_guide.specs.inner.Gatherings.{IsGreatest}
 use Rattle.mud_guide.proofs.Gather.{greatest-none, greatest-keep, greatest-raise}
 use Rattle.mud_guide.proofs.meeting.greatest.Goals as goal
 use Rattle.mud_guide.proofs.meeting.greatest.Goals.{then-label-cost, else-label-cost}

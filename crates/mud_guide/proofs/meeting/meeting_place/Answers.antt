@@ -1,6 +1,6 @@
 use Rattle.std.proofs.Common.{ℕ, length, subst}
 use Rattle.std.specs.Prelude.{IfSome, IfNone}
-use Rattle.mud_guide.specs.Gatherings.{IsBest, NoneGather}
+use Rattle.mud_guide.specs.inner.Gatherings.{IsBest, NoneGather}
 use Rattle.mud_search.specs.Least.{label_in}
 use Rattle.mud_guide.proofs.Gather.{place-is, best-room, best-greatest}
 use Rattle.mud_guide.proofs.meeting.meeting_place.Goals as goal

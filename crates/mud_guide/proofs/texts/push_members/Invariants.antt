@@ -1,7 +1,7 @@
 use Rattle.std.proofs.Common.{◌≡◌, ◌++◌, take}
 use Rattle.std.specs.Prelude.{string_bytes}
 use Rattle.std.specs.List.{flat_map}
-use Rattle.mud_guide.specs.Inner.{member_text}
+use Rattle.mud_guide.specs.inner.Members.{member_text}
 use Rattle.mud_guide.proofs.texts.push_members.Given as goal
 
 abbrev pub invariant-loop-journey : goal.invariant-loop-journey

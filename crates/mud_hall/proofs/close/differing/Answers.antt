@@ -1,9 +1,9 @@
 use Rattle.std.proofs.Common.{◌≡◌, ◌++◌, ◌∷◌, [], ℕ, List, Option, take, sym, ap, ◌∙◌, subst, arith}
 use Rattle.std.proofs.lemmas.List.{take_all}
-use Rattle.mud_chron.specs.Entry.{Accepted}
+use Rattle.mud_chron.specs.Entry.{Entry}
 use Rattle.mud_hall.specs.Desk.{View}
 use Rattle.mud_hall.specs.Settling.{first_apart, versions_by}
-use Rattle.mud_hall.specs.Checking.{IsLeast, Differs, lesser_of}
+use Rattle.mud_hall.specs.inner.Checking.{IsLeast, Differs, lesser_of}
 use Rattle.mud_hall.proofs.Lists.{take_snoc}
 use Rattle.mud_hall.proofs.Apart.{differs_more}
 use Rattle.mud_hall.proofs.close.differing.Goals as goal
@@ -14,13 +14,13 @@ loop-desk-preserved g c =
     let ds : List View = take i c.args.desks.now in
     let d : View = c.desk-item.result in
     let first : ℕ = c.args.first in
-    let es : List Accepted = c.args.new.now in
+    let es : List Entry = c.args.new.now in
     let Q : List View → Type 0 = λ xs. IsLeast (Differs xs first es) c.lesser-least.result in
     let R : Option ℕ → Type 0 = λ a. IsLeast (Differs (ds ++ d ∷ []) first es) a in
     let here : Option ℕ = c.differs.result in
     let first_of : here ≡ first_apart d.state.calls (versions_by d.state.number first es) =
     c.differs.ensures.first
-    ∙ ap (λ (l : List Accepted). first_apart d.state.calls (versions_by d.state.number first l))
+    ∙ ap (λ (l : List Entry). first_apart d.state.calls (versions_by d.state.number first l))
     c.loop-desk.invariant.same in
     let more : IsLeast (Differs (ds ++ d ∷ []) first es) (lesser_of c.loop-desk.least here) =
     differs_more ds d first es c.loop-desk.least here c.loop-desk.invariant.least first_of in

@@ -1,6 +1,6 @@
 use Rattle.std.proofs.Common.{◌≡◌, ◌∙◌, ◌<◌, ℕ, List, length, take, get_or, ap, subst, sym, arith}
 use Rattle.std.proofs.lemmas.List.{take_all}
-use Rattle.mud_chron.specs.Entry.{Accepted}
+use Rattle.mud_chron.specs.Entry.{Entry}
 use Rattle.mud_hall.specs.Desk.{View}
 use Rattle.mud_hall.specs.Settling.{IsGathered}
 use Rattle.mud_hall.proofs.Lists.{take_snoc, set_same}
@@ -13,9 +13,9 @@ loop-i-preserved g c =
     let before : List View = c.loop-i.desks.items in
     let i : ℕ = c.loop-i.i in
     let d : View = c.index_mut-desk.result.now in
-    let loaded : List Accepted = c.args.whole.now.list in
-    let h : List Accepted = c.loop-i.whole.list in
-    let told : List Accepted = c.tell.new.whole.list in
+    let loaded : List Entry = c.args.whole.now.list in
+    let h : List Entry = c.loop-i.whole.list in
+    let told : List Entry = c.tell.new.whole.list in
     let G : List View → Type 0 = λ xs. IsGathered loaded xs told in
     let here : d ≡ get_or before i d = c.index_mut-desk.ensures.value in
     let at : d ≡ get_or ds i d = here ∙ ap (λ xs. get_or xs i d) c.loop-i.invariant.same in

@@ -1,8 +1,8 @@
 use Rattle.std.proofs.Common.{ℕ, List, Option, sym, subst}
-use Rattle.mud_chron.specs.Entry.{Accepted}
+use Rattle.mud_chron.specs.Entry.{Entry}
 use Rattle.mud_hall.specs.Desk.{View}
 use Rattle.mud_hall.specs.Settling.{IsAtOdds}
-use Rattle.mud_hall.specs.Checking.{IsLeast, Differs, IsUnnamed}
+use Rattle.mud_hall.specs.inner.Checking.{IsLeast, Differs, IsUnnamed}
 use Rattle.mud_hall.proofs.Least.{least_either}
 use Rattle.mud_hall.proofs.close.mismatch.Goals as goal
 
@@ -10,12 +10,12 @@ pub returns-clause-least : goal.returns-clause-least
 returns-clause-least g c =
     let ds : List View = c.args.desks.now in
     let first : ℕ = c.args.first in
-    let es : List Accepted = c.args.new.now in
+    let es : List Entry = c.args.new.now in
     let Q : Option ℕ → Type 0 = λ a. IsLeast (IsAtOdds ds first es) a in
     let P : ℕ → Type 0 = Differs ds first es in
     let N : ℕ → Type 0 = IsUnnamed ds first es in
     let none : IsLeast N c.unnamed.result =
-    subst (λ (l : List Accepted). IsLeast (IsUnnamed ds first l) c.unnamed.result) c.differing.ensures.same
+    subst (λ (l : List Entry). IsLeast (IsUnnamed ds first l) c.unnamed.result) c.differing.ensures.same
     c.unnamed.ensures.least in
     subst Q (sym c.lesser.ensures)
     (least_either P N c.differing.result c.unnamed.result c.differing.ensures.least none)

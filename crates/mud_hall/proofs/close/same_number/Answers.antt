@@ -3,7 +3,7 @@ use Rattle.std.proofs.Common.{arith, refl, ◌∙◌}
 use Rattle.std.proofs.lemmas.List.{take_all}
 use Rattle.mud_hall.specs.Desk.{View}
 use Rattle.mud_hall.specs.Settling.{HasNumber, HaveSameNumber}
-use Rattle.mud_hall.specs.Checking.{IsLeast, lesser_of}
+use Rattle.mud_hall.specs.inner.Checking.{IsLeast, lesser_of}
 use Rattle.mud_hall.proofs.Lists.{take_snoc}
 use Rattle.mud_hall.proofs.Checks.{twice_more, twice_same}
 use Rattle.mud_hall.proofs.close.same_number.Goals as goal

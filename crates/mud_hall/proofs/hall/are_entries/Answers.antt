@@ -1,7 +1,7 @@
 use Rattle.std.proofs.Common.{ℕ, List, take, sym, subst, arith}
 use Rattle.std.specs.List.{AllByRecursion}
 use Rattle.std.proofs.lemmas.List.{take_all}
-use Rattle.mud_chron.specs.Entry.{Accepted, IsEntry}
+use Rattle.mud_chron.specs.Entry.{Entry, IsEntry}
 use Rattle.mud_hall.proofs.Lists.{take_snoc}
 use Rattle.mud_hall.proofs.Keeping.{each-push}
 use Rattle.mud_hall.proofs.hall.are_entries.Goals as goal
@@ -9,8 +9,8 @@ use Rattle.mud_hall.proofs.hall.are_entries.Goals as goal
 pub loop-entry-preserved : goal.loop-entry-preserved
 loop-entry-preserved c =
     let i : ℕ = c.loop-entry.entry-index in
-    let es : List Accepted = c.args.entries.now in
-    let e : Accepted = c.entry-item.result in
+    let es : List Entry = c.args.entries.now in
+    let e : Entry = c.entry-item.result in
     subst (AllByRecursion IsEntry) (sym (take_snoc es i e e (omega arith) c.entry-item.is))
     (each-push (take i es) e c.loop-entry.invariant c.desk.ensures.entry)
 

@@ -1,6 +1,6 @@
 use Rattle.std.proofs.Common.{ℕ, List, ◌++◌, ◌∙◌, ap}
 use Rattle.std.specs.Prelude.{codes}
-use Rattle.mud_chron.specs.Inner.{written_text}
+use Rattle.mud_chron.specs.inner.Texts.{written_text}
 use Rattle.mud_hall.proofs.Endings.{behind, written-ends}
 use Rattle.mud_hall.proofs.texts.history_answer.Goals as goal
 

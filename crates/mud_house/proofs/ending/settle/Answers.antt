@@ -1,5 +1,5 @@
 use Rattle.std.proofs.Common.{List, subst, sym}
-use Rattle.mud_chron.specs.Entry.{Accepted}
+use Rattle.mud_chron.specs.Entry.{Entry}
 use Rattle.mud_hall.specs.Settling.{IsGathered}
 use Rattle.mud_house.specs.Listening.{MayEnd}
 use Rattle.mud_house.proofs.Written.{may_end}
@@ -7,12 +7,12 @@ use Rattle.mud_house.proofs.ending.settle.Goals as goal
 
 pub returns-in-Ok-clause-ends : goal.returns-in-Ok-clause-ends
 returns-in-Ok-clause-ends g c =
-    let loaded : List Accepted = g.J.HallName.loaded in
-    subst (λ (h : List Accepted). MayEnd c.args.limits loaded h) (sym c.try_history.ensures.same)
+    let loaded : List Entry = g.J.HallName.loaded in
+    subst (λ (h : List Entry). MayEnd c.args.limits loaded h) (sym c.try_history.ensures.same)
     (may_end c.args.limits loaded c.in-Ok.settled.history c.args.desks.items c.requires.few c.in-Ok.ensures.settled
     c.in_ok-try_history-in-Ok.ensures.loadable)
 
 pub returns-in-Ok-clause-gathered : goal.returns-in-Ok-clause-gathered
 returns-in-Ok-clause-gathered g c =
-    subst (λ (h : List Accepted). IsGathered g.J.HallName.loaded c.args.desks.items h) (sym c.try_history.ensures.same)
+    subst (λ (h : List Entry). IsGathered g.J.HallName.loaded c.args.desks.items h) (sym c.try_history.ensures.same)
     c.in-Ok.ensures.settled.gathered

@@ -2,8 +2,8 @@ use Rattle.std.proofs.Common.{◌≡◌, ◌≤◌, ◌∙◌, ◌+◌, ℕ, Lis
 use Rattle.std.specs.Prelude.{string_bytes}
 use Rattle.std.specs.Io.KnownBytes.{Appends}
 use Rattle.std.proofs.lemmas.Result.{on_ok_weaker, on_err_weaker}
-use Rattle.mud_chron.specs.Entry.{Accepted}
-use Rattle.mud_chron.specs.Inner.{written_text}
+use Rattle.mud_chron.specs.Entry.{Entry}
+use Rattle.mud_chron.specs.inner.Texts.{written_text}
 use Rattle.mud_house.proofs.Written.{any_err}
 use Rattle.mud_house.proofs.Pieces.{IsOnWay, left, begun, line_at, piece_written, end_added, stopped, cut, ended}
 use Rattle.mud_house.proofs.writing.write_entries.Goals.{then-len-ge-PIECE_LEN+in_ok-write, else-len-ge-PIECE_LEN}
@@ -18,7 +18,7 @@ loop-n-init g c = record {
 
 pub loop-n-preserved : goal.loop-n-preserved
 loop-n-preserved g c =
-    let h : List Accepted = c.args.history.now in
+    let h : List Entry = c.args.history.now in
     let held : Option (List ℕ) = c.args.out.now.holds in
     let mid : Option (List ℕ) = c.loop-n.out.holds in
     let n : ℕ = c.loop-n.n in
@@ -41,14 +41,14 @@ loop-n-preserved g c =
 
 pub returns-in_err-write_line-clause-front : goal.returns-in_err-write_line-clause-front
 returns-in_err-write_line-clause-front g c =
-    let h : List Accepted = c.args.history.now in
+    let h : List Entry = c.args.history.now in
     any_err c.from_residual-in_err-write_line.result
     (stopped c.args.out.now.holds c.loop-n.out.holds (written_text h) (string_bytes c.loop-n.text) (left c.loop-n.n h)
     c.loop-n.invariant.way)
 
 pub returns-in_err-write-clause-front : goal.returns-in_err-write-clause-front
 returns-in_err-write-clause-front g c =
-    let h : List Accepted = c.args.history.now in
+    let h : List Entry = c.args.history.now in
     let held : Option (List ℕ) = c.args.out.now.holds in
     let mid : Option (List ℕ) = c.loop-n.out.holds in
     let now_held : Option (List ℕ) = c.write.new.out.holds in
@@ -64,14 +64,14 @@ returns-in_err-write-clause-front g c =
 
 pub returns-in_err-write_end-clause-front : goal.returns-in_err-write_end-clause-front
 returns-in_err-write_end-clause-front g c =
-    let h : List Accepted = c.args.history.now in
+    let h : List Entry = c.args.history.now in
     any_err c.from_residual-in_err-write_end.result
     (stopped c.args.out.now.holds c.loop-n.out.holds (written_text h) (string_bytes c.loop-n.text) (left c.loop-n.n h)
     c.loop-n.invariant.way)
 
 pub returns-clause-ok : goal.returns-clause-ok
 returns-clause-ok g c =
-    let h : List Accepted = c.args.history.now in
+    let h : List Entry = c.args.history.now in
     let held : Option (List ℕ) = c.args.out.now.holds in
     let mid : Option (List ℕ) = c.loop-n.out.holds in
     let now_held : Option (List ℕ) = c.write-2.new.out.holds in
@@ -79,7 +79,7 @@ returns-clause-ok g c =
     let past : length h ≤ c.loop-n.n = omega (arith, c.len-n-end.ensures.len, c.loop-n-test.false) in
     let way : IsOnWay held mid (written_text h) more [] =
     end_added held mid h c.loop-n.n c.len-2.result (string_bytes c.loop-n.text) more c.loop-n.invariant.way past
-    (c.len-2.ensures.len ∙ ap (λ (l : List Accepted). length l) c.loop-n.invariant.history)
+    (c.len-2.ensures.len ∙ ap (λ (l : List Entry). length l) c.loop-n.invariant.history)
     c.in_ok-write_end.ensures.ok in
     on_ok_weaker c.write-2.result
     (λ (one : Appends mid now_held c.as_bytes-2.result.now). ended held mid now_held (written_text h) more way
@@ -88,7 +88,7 @@ returns-clause-ok g c =
 
 pub returns-clause-front : goal.returns-clause-front
 returns-clause-front g c =
-    let h : List Accepted = c.args.history.now in
+    let h : List Entry = c.args.history.now in
     let held : Option (List ℕ) = c.args.out.now.holds in
     let mid : Option (List ℕ) = c.loop-n.out.holds in
     let now_held : Option (List ℕ) = c.write-2.new.out.holds in
@@ -96,7 +96,7 @@ returns-clause-front g c =
     let past : length h ≤ c.loop-n.n = omega (arith, c.len-n-end.ensures.len, c.loop-n-test.false) in
     let way : IsOnWay held mid (written_text h) more [] =
     end_added held mid h c.loop-n.n c.len-2.result (string_bytes c.loop-n.text) more c.loop-n.invariant.way past
-    (c.len-2.ensures.len ∙ ap (λ (l : List Accepted). length l) c.loop-n.invariant.history)
+    (c.len-2.ensures.len ∙ ap (λ (l : List Entry). length l) c.loop-n.invariant.history)
     c.in_ok-write_end.ensures.ok in
     on_err_weaker c.write-2.result
     (λ (front : (m : ℕ) × Appends mid now_held (take m c.as_bytes-2.result.now)).

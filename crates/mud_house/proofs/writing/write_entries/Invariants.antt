@@ -1,6 +1,6 @@
 use Rattle.std.proofs.Common.{◌≡◌}
 use Rattle.std.specs.Prelude.{string_bytes}
-use Rattle.mud_chron.specs.Inner.{written_text}
+use Rattle.mud_chron.specs.inner.Texts.{written_text}
 use Rattle.mud_house.proofs.Pieces.{IsOnWay, left}
 use Rattle.mud_house.proofs.writing.write_entries.Given as goal
 

@@ -3,8 +3,8 @@ use Rattle.std.specs.Bool.{◌==◌}
 use Rattle.std.specs.String.{string_len}
 use Rattle.std.proofs.lemmas.Result.{IfOk-weaker}
 use Rattle.std.proofs.lemmas.Bool.Decides.{nat_tests}
-use Rattle.mud_key.specs.Machine.{combined, atom, after_step}
-use Rattle.mud_key.specs.Builder.{front_of, outer_of}
+use Rattle.mud_key.specs.inner.Machine.{combined, atom, after_step}
+use Rattle.mud_key.specs.inner.Builder.{front_of, outer_of}
 use Rattle.mud_key.proofs.Building.{number_behind}
 use Rattle.mud_key.proofs.builder.end_number.Goals as goal
 

@@ -2,7 +2,7 @@ use Rattle.std.proofs.Common.{ap, ◌∙◌, lit<, map}
 use Rattle.std.proofs.lemmas.Iterator.Consumers.{YieldsList-end}
 use Rattle.std.proofs.lemmas.Iterator.Splits.{YieldsList-from_str_split}
 use Rattle.std.specs.Str.Iter.{split_text, split_has_more, split_pattern}
-use Rattle.mud_key.specs.InnerNames.{without_outer_spaces}
+use Rattle.mud_key.specs.inner.NamesTexts.{without_outer_spaces}
 use Rattle.mud_key.proofs.commas.parts.Goals as goal
 
 pub returns : goal.returns

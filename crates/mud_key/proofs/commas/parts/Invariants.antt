@@ -1,7 +1,7 @@
 -- The stretches gone over are in the list, without their outer spaces.
 use Rattle.std.proofs.Common.{◌≡◌, map}
 use Rattle.std.specs.Prelude.{string_bytes}
-use Rattle.mud_key.specs.InnerNames.{without_outer_spaces}
+use Rattle.mud_key.specs.inner.NamesTexts.{without_outer_spaces}
 use Rattle.mud_key.proofs.commas.parts.Given as goal
 
 abbrev pub invariant-loop-stretch : goal.invariant-loop-stretch

@@ -1,6 +1,6 @@
 use Rattle.std.proofs.Common.{subst, sym}
 use Rattle.mud_key.specs.Names.{AreNames}
-use Rattle.mud_key.specs.InnerNames.{IsNamesText}
+use Rattle.mud_key.specs.inner.NamesTexts.{IsNamesText}
 use Rattle.mud_key.proofs.Found.{names_law}
 use Rattle.mud_key.proofs.NamesTaken.{are_names}
 use Rattle.mud_key.proofs.NamesAreParts.{names_are_parts, parts_are_names}

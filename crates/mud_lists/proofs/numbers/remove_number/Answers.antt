@@ -16,7 +16,8 @@ loop-place-preserved c =
     let left = ap (λ v. remove v i) items ∙ sym c.remove.ensures.items in
     record {
       rising = subst (λ (v : List ℕ). IsNonDecreasing v) left (rising-remove xs i there.0 before);
-      same = sym (ap (without n) left) ∙ without-remove n xs i there.0 there.1 ∙ ap (without n) items ∙ c.loop-place.invariant.same;
+      same = sym (ap (without n) left) ∙ without-remove n xs i there.0 there.1 ∙ ap (without n) items
+          ∙ c.loop-place.invariant.same;
     }
 
 pub returns-clause-items : goal.returns-clause-items
@@ -25,4 +26,5 @@ returns-clause-items c =
     let xs = c.deref.result.now in
     let items = c.deref.ensures.value in
     let before = subst (λ (v : List ℕ). IsNonDecreasing v) (sym items) c.loop-place.invariant.rising in
-    sym items ∙ sym (without-other n xs (found-other n xs _ c.in_default.ensures.position before)) ∙ ap (without n) items ∙ c.loop-place.invariant.same
+    sym items ∙ sym (without-other n xs (found-other n xs _ c.in_default.ensures.position before))
+    ∙ ap (without n) items ∙ c.loop-place.invariant.same

@@ -5,7 +5,7 @@ use Rattle.std.proofs.lemmas.Option.{slice_get_within, get_or_from_slice_get}
 use Rattle.std.proofs.lemmas.List.Elements.{All-more, recursion_from_All}
 use Rattle.mud_world.specs.State.{State}
 use Rattle.mud_world.specs.Legal.{refusal, after}
-use Rattle.mud_chron.specs.Entry.{Accepted, IsEntry}
+use Rattle.mud_chron.specs.Entry.{Entry, IsEntry}
 use Rattle.mud_row.specs.Known.{Known, entry_at}
 use Rattle.mud_row.proofs.Legal.{next_legal, next_illegal}
 use Rattle.mud_row.proofs.Lines.{entry_at-place}
@@ -13,9 +13,9 @@ use Rattle.mud_row.proofs.history.replay_known.Goals as goal
 
 pub returns-in-Err-clause-err : goal.returns-in-Err-clause-err
 returns-in-Err-clause-err c =
-    let es : List Accepted = c.args.pass.now.list in
+    let es : List Entry = c.args.pass.now.list in
     let n : ℕ = c.loop-n.n in
-    let e : Accepted = c.in-Some.entry.now in
+    let e : Entry = c.in-Some.entry.now in
     let w : State = c.loop-n.world in
     let at : slice_get es n ≡ Some e =
     sym (entry_at-place es n) ∙ sym (c.in-Some.ensures.entry
@@ -25,9 +25,9 @@ returns-in-Err-clause-err c =
 
 pub loop-n-preserved : goal.loop-n-preserved
 loop-n-preserved c =
-    let es : List Accepted = c.args.pass.now.list in
+    let es : List Entry = c.args.pass.now.list in
     let n : ℕ = c.loop-n.n in
-    let e : Accepted = c.in-Some.entry.now in
+    let e : Entry = c.in-Some.entry.now in
     let w : State = c.loop-n.world in
     let at : slice_get es n ≡ Some e =
     sym (entry_at-place es n) ∙ sym (c.in-Some.ensures.entry
@@ -45,6 +45,6 @@ loop-n-preserved c =
 
 pub returns-clause-each : goal.returns-clause-each
 returns-clause-each c =
-    let es : List Accepted = c.args.pass.now.list in
+    let es : List Entry = c.args.pass.now.list in
     recursion_from_All IsEntry es
-    (subst (λ (xs : List Accepted). All IsEntry xs) (take_all c.loop-n.n es (omega arith)) c.loop-n.invariant.each)
+    (subst (λ (xs : List Entry). All IsEntry xs) (take_all c.loop-n.n es (omega arith)) c.loop-n.invariant.each)

@@ -1,7 +1,7 @@
 use Rattle.std.proofs.Common.{◌≡◌, length, get_or, slice_get, sym, ap, ◌∙◌, subst, arith, add-one, List, Option}
 use Rattle.std.specs.Prelude.{IfSome}
 use Rattle.once_cell.specs.Once.{Agrees}
-use Rattle.mud_chron.specs.Entry.{Accepted}
+use Rattle.mud_chron.specs.Entry.{Entry}
 use Rattle.mud_row.specs.Known.{names_of, known_front}
 use Rattle.mud_row.proofs.Notes.{front_bound, name_beside, known_at, stands_at, notes_agree, take_agree, set_same}
 use Rattle.mud_row.proofs.pass.compare.Goals as goal
@@ -47,8 +47,8 @@ compare-requires c =
 
 pub loop-i-preserved : goal.loop-i-preserved
 loop-i-preserved c =
-    let mine : List Accepted = known_front c.args.mine_known c.args.mine.now.items in
-    let theirs : List Accepted = known_front c.args.theirs_known c.args.theirs.now.items in
+    let mine : List Entry = known_front c.args.mine_known c.args.mine.now.items in
+    let theirs : List Entry = known_front c.args.theirs_known c.args.theirs.now.items in
     let i = c.loop-i.i in
     let x = c.index_mut-in-loop-i.result.now in
     let y = c.index_mut.result.now in
@@ -61,7 +61,7 @@ loop-i-preserved c =
     (c.index_mut.ensures.value ∙ ap (λ xs. get_or xs i y) c.loop-i.invariant.1) in
     let mine_has = stands_at mine i (omega (arith, c.requires.within.0, c.requires.mine_all)) in
     let theirs_has = stands_at theirs i (omega (arith, c.requires.within.1, c.requires.theirs_all)) in
-    let P : Option Accepted → Type 0 = λ o. IfSome o (Agrees x.known) in
+    let P : Option Entry → Type 0 = λ o. IfSome o (Agrees x.known) in
     let agreed : IfSome y.known (Agrees x.known) =
     subst P (ap (λ n. n.known) c.again-copy.ensures.1) c.compare.ensures.1 in
     let one : x.known ≡ y.known =

@@ -1,7 +1,7 @@
 use Rattle.std.proofs.Common.{◌≡◌, ◌≤◌, ◌+◌, ◌++◌, ◌∙◌, ℕ, List, ap, subst, arith, length}
 use Rattle.std.specs.Prelude.{string_bytes}
 use Rattle.std.proofs.lemmas.Result.{on_ok_weaker}
-use Rattle.mud_chron.specs.Entry.{Accepted}
+use Rattle.mud_chron.specs.Entry.{Entry}
 use Rattle.mud_row.specs.Known.{Known, lines_after}
 use Rattle.mud_row.proofs.Lines.{text_written}
 use Rattle.mud_row.proofs.writing.write_text.Goals as goal
@@ -20,7 +20,7 @@ loop-n-preserved c =
 
 pub returns-clause-ok : goal.returns-clause-ok
 returns-clause-ok c =
-    let es : List Accepted = c.args.pass.now.list in
+    let es : List Entry = c.args.pass.now.list in
     let same : c.loop-n.pass ≡ c.args.pass.now = c.loop-n.invariant.pass in
     let past : length es ≤ c.loop-n.n = omega arith in
     on_ok_weaker c.write_end.result

@@ -2,7 +2,7 @@ use Rattle.std.proofs.Common.{◌≡◌, ◌++◌, ◌∷◌, [], List, ℕ, Res
 use Rattle.std.specs.Prelude.{OnOk, is_ok, if◌then◌else◌}
 use Rattle.std.specs.List.{flat_map}
 use Rattle.mud_chron.proofs.Lined.{cut-at, line-whole}
-use Rattle.mud_session.specs.Inner.{on_wire}
+use Rattle.mud_session.specs.inner.Parts.{on_wire}
 use Rattle.mud_session.proofs.Widening.{line-more, line-wide}
 use Rattle.mud_session.proofs.wiring.push_on_wire.Goals as goal
 

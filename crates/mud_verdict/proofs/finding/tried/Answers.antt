@@ -8,6 +8,7 @@ use Rattle.mud_verdict.proofs.finding.tried.Goals as goal
 pub returns : goal.returns
 returns c = (
   omega arith,
-  subst (λ (w : State). IsFirstDoubt w c.args.cert.now c.in-Err.doubt) (c.in_ok-world.ensures ∙ ap (world_at c.args.entries.now) c.version-version.ensures)
+  subst (λ (w : State). IsFirstDoubt w c.args.cert.now c.in-Err.doubt)
+      (c.in_ok-world.ensures ∙ ap (world_at c.args.entries.now) c.version-version.ensures)
       (c.in-Err.ensures.refuses (first_of (search rules, grind (arith, common_steps)))),
 )

@@ -1,5 +1,5 @@
 use Rattle.std.proofs.Common.{ap, sym, ◌∙◌, string_bytes, option_map, arith}
-use Rattle.mud_words.specs.Searching.{spot_of}
+use Rattle.mud_words.specs.inner.Searching.{spot_of}
 use Rattle.mud_words.proofs.PrepositionLemmas.{counted_here, counted_later, counted_first, counted_end}
 use Rattle.mud_words.proofs.prepositions.counted.Goals as goal
 

@@ -1,7 +1,7 @@
 use Rattle.std.proofs.Common.{◌≡◌, map, drop, string_bytes}
 use Rattle.std.specs.List.{find}
 use Rattle.mud_words.specs.Prepositions.{begins}
-use Rattle.mud_words.specs.Searching.{shown}
+use Rattle.mud_words.specs.inner.Searching.{shown}
 use Rattle.mud_words.proofs.prepositions.first_said.Given as goal
 
 abbrev pub invariant-loop-prep : goal.invariant-loop-prep

@@ -1,5 +1,5 @@
 use Rattle.std.proofs.Common.{string_bytes, map, ap, ◌∙◌, option_map, arith}
-use Rattle.mud_words.specs.Searching.{shown, phrase_len}
+use Rattle.mud_words.specs.inner.Searching.{shown, phrase_len}
 use Rattle.mud_words.proofs.PrepositionLemmas.{nothing_begun, empty_begun, letter_begun}
 use Rattle.mud_words.proofs.prepositions.phrase_at.Goals as goal
 

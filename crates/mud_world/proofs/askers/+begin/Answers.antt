@@ -16,13 +16,18 @@ returns-in_ok-begin-in-Join-clause-ok t c =
     let whole = λ (n : ℕ).
     ap (λ v. list_any (nat_eq n) (asks_of (tree_of v))) c.in-Join.is
     ∙ list_any-append (nat_eq n) (asks_of (tree_of c.in-Join.left.value)) (asks_of (tree_of c.in-Join.right.value))
-    ∙ ap (λ v. list_any (nat_eq n) (asks_of (tree_of v)) || list_any (nat_eq n) (asks_of (tree_of c.in-Join.right.value))) (sym c.deref-in-Join.ensures)
-    ∙ ap (λ v. list_any (nat_eq n) (asks_of (tree_of l)) || list_any (nat_eq n) (asks_of (tree_of v))) (sym c.deref-in-Join-2.ensures)
+    ∙ ap (λ v. list_any (nat_eq n) (asks_of (tree_of v))
+    || list_any (nat_eq n) (asks_of (tree_of c.in-Join.right.value))) (sym c.deref-in-Join.ensures)
+    ∙ ap (λ v. list_any (nat_eq n) (asks_of (tree_of l)) || list_any (nat_eq n) (asks_of (tree_of v)))
+    (sym c.deref-in-Join-2.ensures)
     in
     on_ok_weaker c.begin-in-Join-2.result
     (λ is.
-    changed-both (λ n. list_any (nat_eq n) (asks_of (tree_of l))) (λ n. list_any (nat_eq n) (asks_of (tree_of r))) (λ n. list_any (nat_eq n) (asks_of (tree_of c.args.node.now))) whole
-    (put c.args.asker) (put-twice c.args.asker) c.args.askers.now c.begin-in-Join.new.askers c.begin-in-Join-2.new.askers c.in_ok-begin-in-Join.ensures.ok is)
+    changed-both (λ n. list_any (nat_eq n) (asks_of (tree_of l))) (λ n. list_any (nat_eq n) (asks_of (tree_of r)))
+    (λ n. list_any (nat_eq n) (asks_of (tree_of c.args.node.now))) whole
+    (put c.args.asker)
+    (put-twice c.args.asker) c.args.askers.now c.begin-in-Join.new.askers c.begin-in-Join-2.new.askers
+    c.in_ok-begin-in-Join.ensures.ok is)
     c.begin-in-Join-2.ensures.ok
 
 pub returns-in_ok-begin-in-Join-clause-err : goal.returns-in_ok-begin-in-Join-clause-err
@@ -32,11 +37,16 @@ returns-in_ok-begin-in-Join-clause-err t c =
     let whole = λ (n : ℕ).
     ap (λ v. list_any (nat_eq n) (asks_of (tree_of v))) c.in-Join.is
     ∙ list_any-append (nat_eq n) (asks_of (tree_of c.in-Join.left.value)) (asks_of (tree_of c.in-Join.right.value))
-    ∙ ap (λ v. list_any (nat_eq n) (asks_of (tree_of v)) || list_any (nat_eq n) (asks_of (tree_of c.in-Join.right.value))) (sym c.deref-in-Join.ensures)
-    ∙ ap (λ v. list_any (nat_eq n) (asks_of (tree_of l)) || list_any (nat_eq n) (asks_of (tree_of v))) (sym c.deref-in-Join-2.ensures)
+    ∙ ap (λ v. list_any (nat_eq n) (asks_of (tree_of v))
+    || list_any (nat_eq n) (asks_of (tree_of c.in-Join.right.value))) (sym c.deref-in-Join.ensures)
+    ∙ ap (λ v. list_any (nat_eq n) (asks_of (tree_of l)) || list_any (nat_eq n) (asks_of (tree_of v)))
+    (sym c.deref-in-Join-2.ensures)
     in
     on_err_weaker c.begin-in-Join-2.result
     (λ is.
-    between-both (λ n. list_any (nat_eq n) (asks_of (tree_of l))) (λ n. list_any (nat_eq n) (asks_of (tree_of r))) (λ n. list_any (nat_eq n) (asks_of (tree_of c.args.node.now))) whole
-    (put c.args.asker) (put-twice c.args.asker) c.args.askers.now c.begin-in-Join.new.askers c.begin-in-Join-2.new.askers c.in_ok-begin-in-Join.ensures.ok is)
+    between-both (λ n. list_any (nat_eq n) (asks_of (tree_of l))) (λ n. list_any (nat_eq n) (asks_of (tree_of r)))
+    (λ n. list_any (nat_eq n) (asks_of (tree_of c.args.node.now))) whole
+    (put c.args.asker)
+    (put-twice c.args.asker) c.args.askers.now c.begin-in-Join.new.askers c.begin-in-Join-2.new.askers
+    c.in_ok-begin-in-Join.ensures.ok is)
     c.begin-in-Join-2.ensures.err

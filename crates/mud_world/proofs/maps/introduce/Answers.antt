@@ -6,4 +6,5 @@ use Rattle.mud_world.proofs.maps.introduce.Goals as goal
 pub returns-then-is_err-clause-err_links : goal.returns-then-is_err-clause-err_links
 returns-then-is_err-clause-err_links c =
     on_err c.enroll-done.result
-    (linked-out c.args.kind c.args.number c.args.links.now c.link.new.self c.unlink.new.self c.requires c.in_ok-link.ensures.ok c.unlink.ensures)
+    (linked-out c.args.kind c.args.number c.args.links.now c.link.new.self c.unlink.new.self c.requires
+    c.in_ok-link.ensures.ok c.unlink.ensures)

@@ -1,5 +1,5 @@
 use Rattle.std.proofs.Common.{◌≡◌, false, replicate, drop}
-use Rattle.mud_world.specs.Marking.{marked}
+use Rattle.mud_world.specs.inner.Marks.{marked}
 use Rattle.mud_world.proofs.marks.marks_of.Given as goal
 
 -- what is left is marked beside what is

@@ -1,7 +1,7 @@
 use Rattle.std.proofs.Common.{◌≡◌, true, length, sym, subst, arith}
 use Rattle.std.proofs.lemmas.Grind.{common_steps}
-use Rattle.mud_cert.specs.Opening.{Opening, IsOpening}
-use Rattle.mud_cert.specs.Stages.{suits}
+use Rattle.mud_cert.specs.inner.Opening.{Opening, IsOpening}
+use Rattle.mud_cert.specs.inner.Stages.{suits}
 use Rattle.mud_cert.proofs.Heads.{conclusion-takes}
 use Rattle.mud_cert.proofs.Machine.{closes}
 use Rattle.mud_cert.proofs.stage.Party.conclude.Goals as goal

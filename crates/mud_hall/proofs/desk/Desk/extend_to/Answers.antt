@@ -2,7 +2,7 @@ use Rattle.std.proofs.Common.{map, ap, sym, subst, ◌∙◌}
 use Rattle.std.specs.Prelude.{string_bytes}
 use Rattle.mud_row.specs.Known.{Standing}
 use Rattle.mud_hall.specs.Desk.{IsHeld}
-use Rattle.mud_hall.specs.Inner.{state_of}
+use Rattle.mud_hall.specs.inner.Desks.{state_of}
 use Rattle.mud_hall.proofs.Notices.{grows}
 use Rattle.mud_hall.proofs.Seats.{held-on}
 use Rattle.mud_hall.proofs.desk.Desk.extend_to.Goals as goal
@@ -12,7 +12,8 @@ invariant_of-self g c =
     let j = g.J.HallName in
     let d = c.self.inside in
     held-on j.cells j.loaded d.number d.player c.deref_mut.result.now c.extend_to.new.self
-    (subst (λ (r : Standing). IsHeld j.cells j.loaded d.number d.player r) (sym c.deref_mut.ensures.value) c.self.invariant)
+    (subst (λ (r : Standing). IsHeld j.cells j.loaded d.number d.player r)
+    (sym c.deref_mut.ensures.value) c.self.invariant)
     c.extend_to.ensures.longer c.extend_to.ensures.still.0
 
 pub returns-clause-state : goal.returns-clause-state

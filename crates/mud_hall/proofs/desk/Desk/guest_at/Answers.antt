@@ -1,7 +1,7 @@
 use Rattle.std.proofs.Common.{None, map, take, drop, refl}
 use Rattle.std.specs.Prelude.{string_bytes}
 use Rattle.mud_hall.specs.Desk.{new_desk}
-use Rattle.mud_hall.specs.Inner.{state_of}
+use Rattle.mud_hall.specs.inner.Desks.{state_of}
 use Rattle.mud_hall.proofs.Notices.{notices-none, state_eq}
 use Rattle.mud_hall.proofs.desk.Desk.guest_at.Goals as goal
 

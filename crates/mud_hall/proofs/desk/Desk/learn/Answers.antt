@@ -1,10 +1,10 @@
 use Rattle.std.proofs.Common.{◌≡◌, ◌⊎◌, map, ap, sym, subst, List, ◌∙◌}
 use Rattle.std.specs.Prelude.{string_bytes, nat_lt, length, if◌then◌else◌}
 use mathlib.Core.List.{IsPrefix}
-use Rattle.mud_chron.specs.Entry.{Accepted}
+use Rattle.mud_chron.specs.Entry.{Entry}
 use Rattle.mud_row.specs.Known.{Standing}
 use Rattle.mud_hall.specs.Desk.{IsHeld}
-use Rattle.mud_hall.specs.Inner.{state_of}
+use Rattle.mud_hall.specs.inner.Desks.{state_of}
 use Rattle.mud_hall.proofs.Learning.{learned}
 use Rattle.mud_hall.proofs.Notices.{grows}
 use Rattle.mud_hall.proofs.Seats.{held-on}
@@ -15,15 +15,16 @@ invariant_of-self g c =
     let j = g.J.HallName in
     let d = c.self.inside in
     held-on j.cells j.loaded d.number d.player c.deref_mut.result.now c.learn.new.self
-    (subst (λ (r : Standing). IsHeld j.cells j.loaded d.number d.player r) (sym c.deref_mut.ensures.value) c.self.invariant)
+    (subst (λ (r : Standing). IsHeld j.cells j.loaded d.number d.player r)
+    (sym c.deref_mut.ensures.value) c.self.invariant)
     c.learn.ensures.mine c.learn.ensures.still.0
 
 pub returns-clause-learns : goal.returns-clause-learns
 returns-clause-learns g c =
     let d = c.self.inside in
     let was : Standing = c.deref_mut.result.now in
-    let new : List Accepted = c.learn.new.self.list in
-    let other : List Accepted = c.args.other.now.state.seen in
+    let new : List Entry = c.learn.new.self.list in
+    let other : List Entry = c.args.other.now.state.seen in
     let told = map string_bytes d.told.items in
     let mine = ap (λ (r : Standing). r.list) c.deref_mut.ensures.value ∙ ap (λ v. v.state.seen) c.self.view_is in
     let theirs = ap (λ (r : Standing). r.list) c.deref_mut-2.ensures.value ∙ ap (λ v. v.state.seen) c.other.view_is in
@@ -32,8 +33,8 @@ returns-clause-learns g c =
           c.learn.ensures.mine c.learn.ensures.still.1 c.learn.ensures.within
           (ap (λ (r : Standing). state_of d.number d.player r d.calls.items told) c.deref_mut.ensures.value
           ∙ ap (λ v. v.state) c.self.view_is);
-      longer = subst (λ (l : List Accepted). new ≡ (if nat_lt (length l) (length other) then other else l)) mine
+      longer = subst (λ (l : List Entry). new ≡ (if nat_lt (length l) (length other) then other else l)) mine
           (learned was.list other new
-          (subst (λ (l : List Accepted). (new ≡ was.list) ⊎ (new ≡ l)) theirs c.learn.ensures.longer)
-          c.learn.ensures.mine (subst (λ (l : List Accepted). IsPrefix l new) theirs c.learn.ensures.theirs));
+          (subst (λ (l : List Entry). (new ≡ was.list) ⊎ (new ≡ l)) theirs c.learn.ensures.longer)
+          c.learn.ensures.mine (subst (λ (l : List Entry). IsPrefix l new) theirs c.learn.ensures.theirs));
     }

@@ -1,7 +1,7 @@
 use Rattle.std.proofs.Common.{ap, subst}
 use Rattle.mud_hall.specs.Told.{world_after}
 use Rattle.mud_hall.specs.Desk.{View}
-use Rattle.mud_hall.specs.Inner.{IsSeated}
+use Rattle.mud_hall.specs.inner.Desks.{IsSeated}
 use Rattle.mud_hall.proofs.desk.Desk.player.Goals as goal
 
 pub returns-clause-player : goal.returns-clause-player

@@ -1,7 +1,7 @@
 use Rattle.std.proofs.Common.{List, ◌≡◌, ◌++◌, ◌∷◌, [], None, sym, ap, ◌∙◌, subst}
 use Rattle.mud_world.specs.Legal.{refusal}
 use Rattle.mud_rules.specs.Outcome.{IsActor}
-use Rattle.mud_chron.specs.Entry.{Accepted}
+use Rattle.mud_chron.specs.Entry.{Entry}
 use Rattle.mud_chron.proofs.Spellable.{legal_is_spellable}
 use Rattle.mud_row.specs.Known.{Standing}
 use Rattle.mud_hall.specs.Told.{world_after}
@@ -30,7 +30,7 @@ invariant_of-self-in-Ok g c =
     (sym c.self.view_is) c.requires.lawful.1 in
     held-stored g.J.HallName.cells g.J.HallName.loaded c.self.inside.number c.self.inside.player was c.publish.new.self
     e c.self.invariant
-    (c.in-Ok.ensures.published.0 ∙ ap (λ (l : List Accepted). l ++ c.in_ok-entry.entry.value ∷ [])
-    (ap (λ (r : Standing). r.list) c.deref_mut.ensures.value) ∙ ap (λ (x : Accepted). was.list ++ x ∷ [])
+    (c.in-Ok.ensures.published.0 ∙ ap (λ (l : List Entry). l ++ c.in_ok-entry.entry.value ∷ [])
+    (ap (λ (r : Standing). r.list) c.deref_mut.ensures.value) ∙ ap (λ (x : Entry). was.list ++ x ∷ [])
     (c.in_ok-entry.ensures.ok ∙ c.new.ensures))
     (c.in-Ok.ensures.still.0 ∙ ap (λ (r : Standing). r.row) c.deref_mut.ensures.value) legal actor

@@ -11,4 +11,5 @@ returns g c =
     let r = c.self.inside.replica.value in
     let whole : r.at ≡ length r.list = ap (λ (v : View). v.at) c.self.view_is ∙ (c.requires
     ∙ sym (ap (λ (v : View). length v.state.seen) c.self.view_is)) in
-    c.world.ensures ∙ ap (λ (s : Standing). world_at s.list s.at) c.deref.ensures ∙ (all_in r.list r.at whole ∙ ap (λ (v : View). world_after v.state.seen) c.self.view_is)
+    c.world.ensures ∙ ap (λ (s : Standing). world_at s.list s.at) c.deref.ensures
+    ∙ (all_in r.list r.at whole ∙ ap (λ (v : View). world_after v.state.seen) c.self.view_is)

@@ -2,30 +2,30 @@ use Rattle.std.proofs.Common.{◌≡◌, ◌≤◌, ◌+◌, ◌-◌, ℕ, List,
 use Rattle.std.proofs.Common.{length-drop, length-append}
 use Rattle.std.specs.Prelude.{All}
 use mathlib.Core.List.{IsPrefix}
-use Rattle.mud_chron.specs.Entry.{Accepted}
+use Rattle.mud_chron.specs.Entry.{Entry}
 use Rattle.mud_row.specs.Known.{Known}
 use Rattle.mud_hall.specs.declared.fault.CloseFault.{CloseFault}
 use Rattle.mud_hall.specs.Desk.{View}
 use Rattle.mud_hall.specs.Settling.{HasNumber, AreApart, IsSettled, versions_by, made}
-use Rattle.mud_hall.specs.Checking.{IsCheckFault}
+use Rattle.mud_hall.specs.inner.Checking.{IsCheckFault}
 use Rattle.mud_hall.proofs.Checks.{fault_of}
 use Rattle.mud_hall.proofs.kept.Kept.settle.Goals as goal
 
 -- what was loaded is not longer than the whole
-not_longer : (n : ℕ) (loaded h : List Accepted) → n ≡ length loaded → IsPrefix loaded h → n ≤ length h
+not_longer : (n : ℕ) (loaded h : List Entry) → n ≡ length loaded → IsPrefix loaded h → n ≤ length h
 not_longer n loaded h count (more, is) = omega (arith, count, ap length is, length-append loaded more)
 
 -- as many were made as the whole is longer
-made_count : (n : ℕ) (loaded h : List Accepted) → n ≡ length loaded → length h - n ≡ length (made loaded h)
+made_count : (n : ℕ) (loaded h : List Entry) → n ≡ length loaded → length h - n ≡ length (made loaded h)
 made_count n loaded h count = omega (arith, count, length-drop (length loaded) h)
 
 -- what is checked is what was made, of the desks as they were handed in
-carried : (P : List View → ℕ → List Accepted → Type 0) (loaded h new : List Accepted) (n : ℕ) (ds was : List View)
+carried : (P : List View → ℕ → List Entry → Type 0) (loaded h new : List Entry) (n : ℕ) (ds was : List View)
     → new ≡ drop n h → n ≡ length loaded → ds ≡ was → P ds (n + 1) new → P was (length loaded + 1) (made loaded h)
 carried P loaded h new n ds was is count desks p =
     let one : new ≡ made loaded h = is ∙ ap (λ (m : ℕ). drop m h) count in
     let at_desks : P was (n + 1) new = subst (λ (xs : List View). P xs (n + 1) new) desks p in
-    let at_new : P was (n + 1) (made loaded h) = subst (λ (es : List Accepted). P was (n + 1) es) one at_desks in
+    let at_new : P was (n + 1) (made loaded h) = subst (λ (es : List Entry). P was (n + 1) es) one at_desks in
     subst (λ (m : ℕ). P was (m + 1) (made loaded h)) count at_new
 
 pub overflow_sub-accepted : goal.overflow_sub-accepted
@@ -52,7 +52,7 @@ new-new-requires-clause-loaded g c =
 
 pub check-requires-clause-few : goal.check-requires-clause-few
 check-requires-clause-few g c =
-    let h : List Accepted = c.in_ok-whole.whole.list in
+    let h : List Entry = c.in_ok-whole.whole.list in
     let is : c.new-new.result ≡ drop c.args.loaded h =
     c.new-new.ensures ∙ ap (λ (k : Known). drop c.args.loaded k.list) c.in_ok-again.ensures.copy in
     omega (
@@ -66,18 +66,18 @@ check-requires-clause-few g c =
 
 pub returns-clause-settled : goal.returns-clause-settled
 returns-clause-settled g c =
-    let loaded : List Accepted = g.J.HallName.loaded in
-    let h : List Accepted = c.in_ok-whole.whole.list in
+    let loaded : List Entry = g.J.HallName.loaded in
+    let h : List Entry = c.in_ok-whole.whole.list in
     let ds : List View = c.args.desks.now.items in
     let desks : c.deref.result.now ≡ ds = c.deref.ensures.value ∙ c.gathered.ensures.same in
     let is : c.new-new.result ≡ drop c.args.loaded h =
     c.new-new.ensures ∙ ap (λ (k : Known). drop c.args.loaded k.list) c.in_ok-again.ensures.copy in
-    let C : List View → ℕ → List Accepted → Type 0 =
+    let C : List View → ℕ → List Entry → Type 0 =
     λ xs m es. All (λ (d : View). d.state.calls ≡ versions_by d.state.number m es) xs in
-    let N : List View → ℕ → List Accepted → Type 0 = λ xs m es. All (λ (e : Accepted). HasNumber xs e.desk) es in
-    let carry = λ (P : List View → ℕ → List Accepted → Type 0).
+    let N : List View → ℕ → List Entry → Type 0 = λ xs m es. All (λ (e : Entry). HasNumber xs e.desk) es in
+    let carry = λ (P : List View → ℕ → List Entry → Type 0).
     carried P loaded h c.new-new.result c.args.loaded c.deref.result.now ds is c.requires.loaded desks in
-    let S : List Accepted → Type 0 = λ es. IsSettled loaded ds es in
+    let S : List Entry → Type 0 = λ es. IsSettled loaded ds es in
     subst S (sym (ap (λ (k : Known). k.list) c.again.ensures.same)) (record {
       gathered = c.in_ok-whole.ensures.gathered;
       calls = carry C c.in_default.ensures.calls;
@@ -87,7 +87,7 @@ returns-clause-settled g c =
 
 pub returns-clause-accepted : goal.returns-clause-accepted
 returns-clause-accepted g c =
-    let loaded : List Accepted = g.J.HallName.loaded in
+    let loaded : List Entry = g.J.HallName.loaded in
     let whole : Known = c.in_ok-whole.whole in
     ap (λ (n : ℕ). n - c.args.loaded) c.known.ensures.known
     ∙ made_count c.args.loaded loaded whole.list c.requires.loaded
@@ -95,14 +95,14 @@ returns-clause-accepted g c =
 
 pub returns-in-Err-clause-fault : goal.returns-in-Err-clause-fault
 returns-in-Err-clause-fault g c =
-    let loaded : List Accepted = g.J.HallName.loaded in
-    let h : List Accepted = c.in_ok-whole.whole.list in
+    let loaded : List Entry = g.J.HallName.loaded in
+    let h : List Entry = c.in_ok-whole.whole.list in
     let ds : List View = c.args.desks.now.items in
     let desks : c.deref.result.now ≡ ds = c.deref.ensures.value ∙ c.gathered.ensures.same in
     let is : c.new-new.result ≡ drop c.args.loaded h =
     c.new-new.ensures ∙ ap (λ (k : Known). drop c.args.loaded k.list) c.in_ok-again.ensures.copy in
     let f : CloseFault = c.in-Err.fault in
-    let P : List View → ℕ → List Accepted → Type 0 = λ xs m es. IsCheckFault xs m es f in
+    let P : List View → ℕ → List Entry → Type 0 = λ xs m es. IsCheckFault xs m es f in
     fault_of loaded ds h f c.in_ok-whole.ensures.gathered
     (carried P loaded h c.new-new.result c.args.loaded c.deref.result.now ds is c.requires.loaded desks
     c.in-Err.ensures.fault)

@@ -8,7 +8,7 @@ use Rattle.mud_world.specs.Legal.{refusal, after}
 use Rattle.mud_world.proofs.Histories.{world_of-legal}
 use Rattle.mud_rules.specs.Outcome.{IsActor}
 use Rattle.mud_rules.specs.Replies.{reply_text}
-use Rattle.mud_chron.specs.Entry.{Accepted}
+use Rattle.mud_chron.specs.Entry.{Entry}
 use Rattle.mud_chron.specs.Replay.{changes_of}
 use Rattle.mud_chron.proofs.Spellable.{legal_is_spellable}
 use Rattle.mud_hall.specs.Told.{world_after}
@@ -23,7 +23,7 @@ use Rattle.mud_hall.proofs.solo.Solo.store.Goals as goal
 
 pub new-requires : goal.new-requires
 new-requires c =
-    let h : List Accepted = c.self.inside.history.items in
+    let h : List Entry = c.self.inside.history.items in
     let legal : refusal (world_after h) c.args.change ≡ None =
     subst (λ (v : Alone). refusal (world_after v.state.seen) c.args.change ≡ None)
     (sym c.self.view_is) c.requires.0 in
@@ -31,12 +31,12 @@ new-requires c =
 
 pub invariant_of-self-2 : goal.invariant_of-self-2
 invariant_of-self-2 c =
-    let h : List Accepted = c.self.inside.history.items in
+    let h : List Entry = c.self.inside.history.items in
     let e = c.args.change in
-    let entry : Accepted = record { desk = 1; change = e } in
+    let entry : Entry = record { desk = 1; change = e } in
     let made : c.push_reserved.new.self.items ≡ h ++ entry ∷ [] = c.push_reserved.ensures.items
     ∙ (ap (λ xs. xs ++ c.new.result ∷ []) c.reserve.ensures.items
-    ∙ ap (λ (x : Accepted). h ++ x ∷ []) c.new.ensures) in
+    ∙ ap (λ (x : Entry). h ++ x ∷ []) c.new.ensures) in
     let legal : refusal (world_after h) e ≡ None = subst (λ (v : Alone). refusal (world_after v.state.seen) e ≡ None)
     (sym c.self.view_is) c.requires.0 in
     let actor : IsActor (world_after h) (Some c.self.inside.player) e =
@@ -50,7 +50,7 @@ invariant_of-self-2 c =
     ∙ sym (ap (λ (v : Alone). length v.state.seen) c.self.view_is) in
     record {
       world = left ∙ (sym (world_of-legal (changes_of h) e legal)
-          ∙ (ap world_of (sym (map_push (λ (x : Accepted). x.change) h entry)) ∙ ap world_after (sym made)));
+          ∙ (ap world_of (sym (map_push (λ (x : Entry). x.change) h entry)) ∙ ap world_after (sym made)));
       room = omega (
         arith,
         ap length made,
@@ -66,12 +66,12 @@ invariant_of-self-2 c =
 
 pub returns-clause-stores : goal.returns-clause-stores
 returns-clause-stores c =
-    let h : List Accepted = c.self.inside.history.items in
+    let h : List Entry = c.self.inside.history.items in
     let e = c.args.change in
-    let entry : Accepted = record { desk = 1; change = e } in
+    let entry : Entry = record { desk = 1; change = e } in
     let made : c.push_reserved.new.self.items ≡ h ++ entry ∷ [] = c.push_reserved.ensures.items
     ∙ (ap (λ xs. xs ++ c.new.result ∷ []) c.reserve.ensures.items
-    ∙ ap (λ (x : Accepted). h ++ x ∷ []) c.new.ensures) in
+    ∙ ap (λ (x : Entry). h ++ x ∷ []) c.new.ensures) in
     let actor : IsActor (world_after h) (Some c.self.inside.player) e =
     subst (λ (v : Alone). IsActor (world_after v.state.seen) v.state.player e) (sym c.self.view_is) c.requires.1 in
     let version = c.version-version.ensures.version in

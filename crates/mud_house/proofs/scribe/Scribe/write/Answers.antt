@@ -1,5 +1,5 @@
 use Rattle.std.proofs.Common.{◌≡◌, ◌++◌, List, true, false, refl, sym, ap, ◌∙◌, subst}
-use Rattle.mud_chron.specs.Entry.{Accepted}
+use Rattle.mud_chron.specs.Entry.{Entry}
 use Rattle.mud_house.specs.Journaled.{IsWritten}
 use Rattle.mud_house.proofs.Keeping.{committed, unwritten}
 use Rattle.mud_house.proofs.scribe.Scribe.write.Goals as goal
@@ -7,7 +7,7 @@ use Rattle.mud_house.proofs.scribe.Scribe.write.Goals as goal
 pub invariant_of-self : goal.invariant_of-self
 invariant_of-self g c =
     let j = c.self.inside.journal in
-    let es : List Accepted = c.self.inside.reader in
+    let es : List Entry = c.self.inside.reader in
     let going : j.has_failed ≡ false = sym c.has_failed.ensures ∙ c.if-has_failed.false in
     committed _ c.commit.result (g.D.Disk.kept j.disk) (g.D.Disk.kept c.commit.new.self.disk) es c.read.new.self
     c.deref.result.now j.count c.commit.new.self.count c.commit.new.self.has_failed
@@ -18,7 +18,7 @@ invariant_of-self g c =
 pub invariant_of-self-in-Err : goal.invariant_of-self-in-Err
 invariant_of-self-in-Err g c =
     let j = c.self.inside.journal in
-    let es : List Accepted = c.self.inside.reader in
+    let es : List Entry = c.self.inside.reader in
     let going : j.has_failed ≡ false = sym c.has_failed.ensures ∙ c.if-has_failed.false in
     subst (λ k. IsWritten c.read.new.self (g.D.Disk.kept k.disk) k.has_failed k.count) (sym c.fail.ensures)
     (unwritten (g.D.Disk.kept j.disk) es c.read.new.self j.count true (c.self.invariant.whole going)

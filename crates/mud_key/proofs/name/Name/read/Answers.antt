@@ -1,7 +1,7 @@
 use Rattle.std.proofs.Common.{◌≡◌, subst, sym, ap, ◌∙◌, Ok, Err, true}
 use Rattle.mud_key.specs.declared.names.NamesFault.TheVariants.{BadName}
 use Rattle.mud_key.specs.Name.{IsName}
-use Rattle.mud_key.specs.InnerNames.{is_only}
+use Rattle.mud_key.specs.inner.NamesTexts.{is_only}
 use Rattle.mud_key.proofs.Found.{names_read, name_found, not_read, alone_name, not_alone}
 use Rattle.mud_key.proofs.Found.{name_law}
 use Rattle.mud_key.proofs.name.Name.read.Goals as goal
@@ -9,7 +9,8 @@ use Rattle.mud_key.proofs.name.Name.read.Goals as goal
 pub returns-in-Err : goal.returns-in-Err
 returns-in-Err c = record {
   finds = name_found c.args.text.now (Err c.in-Err.fault)
-      (not_read c.args.text.now c.in-Err.fault (names_read c.args.text.now (Err c.in-Err.fault) c.in-Err.ensures.finds));
+      (not_read c.args.text.now c.in-Err.fault
+      (names_read c.args.text.now (Err c.in-Err.fault) c.in-Err.ensures.finds));
 }
 
 pub invariant_of-result : goal.invariant_of-result
@@ -17,7 +18,8 @@ invariant_of-result c =
     let alone : is_only c.args.text.now c.in-Ok.names ≡ true =
     ap (is_only c.args.text.now) (sym c.list.ensures.list) ∙ sym c.is_only.ensures ∙ c.if-is_only.true in
     subst IsName (sym c.in_ok-from_str.ensures.ok)
-    (alone_name c.args.text.now c.in-Ok.names (names_read c.args.text.now (Ok c.in-Ok.names) c.in-Ok.ensures.finds) alone)
+    (alone_name c.args.text.now c.in-Ok.names
+    (names_read c.args.text.now (Ok c.in-Ok.names) c.in-Ok.ensures.finds) alone)
 
 pub returns-then-is_only : goal.returns-then-is_only
 returns-then-is_only c =

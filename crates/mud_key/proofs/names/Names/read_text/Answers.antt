@@ -1,7 +1,7 @@
 use Rattle.std.proofs.Common.{ap, sym, ◌∙◌, subst, map}
 use Rattle.std.specs.Prelude.{string_bytes}
-use Rattle.mud_key.specs.InnerNames.{IsNamesText, IsNoNamesText}
-use Rattle.mud_key.specs.NameReader.{next_of, names_of, stand_of}
+use Rattle.mud_key.specs.inner.NamesTexts.{IsNamesText, IsNoNamesText}
+use Rattle.mud_key.specs.inner.NameReader.{next_of, names_of, stand_of}
 use Rattle.mud_key.proofs.NamesSound.{names_sound}
 use Rattle.mud_key.proofs.NamesTaken.{refused_names, unsettled_names, name_run_more, name_run_end, are_names}
 use Rattle.mud_key.proofs.names.Names.read_text.Goals as goal

@@ -1,6 +1,6 @@
 -- The reader stands after the bytes gone over.
 use Rattle.std.proofs.Common.{◌≡◌, Some, take}
-use Rattle.mud_key.specs.NameReader.{name_run, name_start, stand_of}
+use Rattle.mud_key.specs.inner.NameReader.{name_run, name_start, stand_of}
 use Rattle.mud_key.proofs.names.Names.read_text.Given as goal
 
 abbrev pub invariant-loop-byte : goal.invariant-loop-byte

@@ -20,8 +20,10 @@ returns-in-Some-clause-ok c =
     let there = subst (λ (o : Option (List ℕ)). IsSome o) c.in-Some.ensures.value refl in
     on_ok_weaker c.insert.result
     (λ is.
-    subst (λ (v : List (ℕ × List ℕ)). AreChanged (λ n. nat_eq n c.args.holder) (inserted c.args.number) v es) c.self.view_is
-    (changed_seen c.self.inside.lists.entries es c.args.holder (inserted c.args.number) (Some new) ((c.get_mut.follows.holds new).3 there).0
+    subst (λ (v : List (ℕ × List ℕ)). AreChanged (λ n. nat_eq n c.args.holder) (inserted c.args.number) v es)
+    c.self.view_is
+    (changed_seen c.self.inside.lists.entries es c.args.holder (inserted c.args.number) (Some new)
+    ((c.get_mut.follows.holds new).3 there).0
     (is ∙ ap (inserted c.args.number) (ap (λ o. unwrap_or o []) c.in-Some.ensures.value))))
     c.insert.ensures.ok
 

@@ -9,5 +9,6 @@ returns-then-has-clause-ok c = put-there c.args.self.now c.args.holder c.args.nu
 pub returns-clause-ok : goal.returns-clause-ok
 returns-clause-ok c =
     on_ok_weaker c.insert.result
-    (λ is. put-new c.args.self.now c.insert.new.self c.args.holder c.args.number (sym c.has.ensures ∙ c.if-has.false) is)
+    (λ is. put-new c.args.self.now c.insert.new.self c.args.holder c.args.number
+    (sym c.has.ensures ∙ c.if-has.false) is)
     c.insert.ensures.ok

@@ -23,7 +23,8 @@ returns c =
           (changed_seen a.lists.entries es h f (Some new) ((c.get_mut.follows.holds new).3 there).0
           (w.remove.ensures ∙ ap f (ap (λ o. unwrap_or o []) w.in-Some.ensures.value))))
       | in_default w ↦
-          let is : c.match-get_mut.self-inside ≡ a = w.self-inside-is ∙ (λ i. record { alloc = a.alloc; lists = c.get_mut.follows.holds-at-none i }) in
+          let is : c.match-get_mut.self-inside ≡ a = w.self-inside-is
+          ∙ (λ i. record { alloc = a.alloc; lists = c.get_mut.follows.holds-at-none i }) in
           subst (λ (v : Inside). AreChanged (λ n. nat_eq n h) f c.args.self.now v.lists.entries) (sym is)
           (subst (λ (v : List (ℕ × List ℕ)). AreChanged (λ n. nat_eq n h) f v a.lists.entries) c.self.view_is
           (missing_seen a.lists.entries h f (sym w.in_default.ensures.value) refl))

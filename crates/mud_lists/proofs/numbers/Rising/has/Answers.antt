@@ -10,5 +10,6 @@ returns c =
     let n = c.args.number in
     let items = c.deref.ensures.value in
     c.is_ok.ensures.value
-    ∙ any-found n c.deref.result.now c.binary_search.result c.binary_search.ensures.position (subst (λ (v : List ℕ). IsNonDecreasing v) (sym items) c.self.invariant)
+    ∙ any-found n c.deref.result.now c.binary_search.result c.binary_search.ensures.position
+    (subst (λ (v : List ℕ). IsNonDecreasing v) (sym items) c.self.invariant)
     ∙ ap (list_any (nat_eq n)) (items ∙ c.self.view_is)

@@ -5,5 +5,6 @@ use Rattle.mud_lists.proofs.owners.Owners.copy.Goals as goal
 
 pub returns : goal.returns
 returns c =
-    cloned _ _ (λ v w e. zipped _ (λ x y f. f) v.items w.items e.0) (λ x y e. e) c.self.inside.owners.entries c.in_ok-clone.field-0.entries c.in_ok-clone.ensures.cases
+    cloned _ _ (λ v w e. zipped _ (λ x y f. f) v.items w.items e.0)
+    (λ x y e. e) c.self.inside.owners.entries c.in_ok-clone.field-0.entries c.in_ok-clone.ensures.cases
     ∙ c.self.view_is

@@ -1,7 +1,7 @@
 use Rattle.std.proofs.Common.{◌≡◌, map}
 use Rattle.std.specs.Char.{to_ascii_lowercase}
 use Rattle.mud_lists.specs.Owners.{owner_of}
-use Rattle.mud_lists.specs.Inner.{seen_of}
+use Rattle.mud_lists.specs.inner.Views.{seen_of}
 use Rattle.mud_lists.proofs.owners.Owners.find.Given as goal
 
 -- what is left has the answer of the whole

@@ -29,7 +29,8 @@ loop-room-preserved c =
 pub returns : goal.returns
 returns c = λ room.
     let roads = roads_of c.args.world.now c.args.self.now.player in
-    let size : c.loop-room.room ≡ c.args.world.now.next = omega (arith, c.loop-room-test.false, c.loop-room.auto.room-end, c.next_number-count.ensures.next) in
+    let size : c.loop-room.room ≡ c.args.world.now.next =
+    omega (arith, c.loop-room-test.false, c.loop-room.auto.room-end, c.next_number-count.ensures.next) in
     ap (λ (rs : List (List Step)). get_or rs room []) (c.of.ensures ∙ c.loop-room.invariant.rows)
     ∙ ap (λ (n : ℕ). get_or (map roads (range_with_len 0 n)) room []) size
     ∙ roads-all c.args.world.now c.next_number-count.ensures.sound c.args.self.now.player room

@@ -6,10 +6,17 @@ use Rattle.mud_rules.specs.Table.{question_verbs, other_verbs, verb_named}
 use Rattle.mud_rules.proofs.Finding.{lookup-append}
 use Rattle.mud_rules.proofs.verb.Verb.named.Goals as goal
 
-pub returns : goal.returns
+pub returns-in-Some : goal.returns-in-Some
 unfolding verb_named
-returns c =
+returns-in-Some c =
     let test = str_eq_ignore_ascii_case c.args.text.now in
-    c.or.ensures ∙ ap (λ o. option_or o c.verb_in-2.result) c.verb_in.ensures
-    ∙ ap (option_or (lookup test question_verbs)) c.verb_in-2.ensures
+    ap (λ o. option_or o (lookup test other_verbs)) (sym c.in-Some.is ∙ c.verb_in.ensures)
+    ∙ sym (lookup-append test question_verbs other_verbs)
+
+pub returns-in-None : goal.returns-in-None
+unfolding verb_named
+returns-in-None c =
+    let test = str_eq_ignore_ascii_case c.args.text.now in
+    c.verb_in-in-None.ensures
+    ∙ ap (λ o. option_or o (lookup test other_verbs)) (sym c.in-None.is ∙ c.verb_in.ensures)
     ∙ sym (lookup-append test question_verbs other_verbs)

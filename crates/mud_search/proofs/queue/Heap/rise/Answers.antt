@@ -1,5 +1,5 @@
 use Rattle.std.proofs.Common.{◌≡◌, ◌-◌, ◌/◌, ◌∙◌, ap, arith, subst, sym, ℕ}
-use Rattle.mud_search.specs.Queues.{entry_at, waiting_labels, IsNoLater, IsOrderedBut}
+use Rattle.mud_search.specs.inner.Queues.{entry_at, waiting_labels, IsNoLater, IsOrderedBut}
 use Rattle.mud_search.proofs.Heaps.{swapped_labels}
 use Rattle.mud_search.proofs.Mending.{risen, between}
 use Rattle.mud_search.proofs.queue.Heap.rise.Goals as goal

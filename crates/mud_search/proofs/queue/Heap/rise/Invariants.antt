@@ -1,5 +1,5 @@
 use Rattle.std.proofs.Common.{◌≡◌, ◌<◌, ◌≤◌, length}
-use Rattle.mud_search.specs.Queues.{IsMatched, IsOrderedBut, waiting_labels}
+use Rattle.mud_search.specs.inner.Queues.{IsMatched, IsOrderedBut, waiting_labels}
 use Rattle.mud_search.proofs.queue.Heap.rise.Given as goal
 
 abbrev pub invariant-loop-at : goal.invariant-loop-at

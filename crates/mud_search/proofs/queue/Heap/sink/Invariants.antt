@@ -1,5 +1,5 @@
 use Rattle.std.proofs.Common.{◌≡◌, ◌-◌, ◌<◌, ◌≤◌, length, set}
-use Rattle.mud_search.specs.Queues.{IsMatched, IsOrderedDownTo, waiting_labels}
+use Rattle.mud_search.specs.inner.Queues.{IsMatched, IsOrderedDownTo, waiting_labels}
 use Rattle.mud_search.proofs.queue.Heap.sink.Given as goal
 
 abbrev pub invariant-loop-below : goal.invariant-loop-below

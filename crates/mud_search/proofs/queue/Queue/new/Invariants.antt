@@ -1,5 +1,5 @@
 use Rattle.std.proofs.Common.{◌≡◌, ℕ, ◌<◌, length}
-use Rattle.mud_search.specs.Queues.{entry_at, place_at}
+use Rattle.mud_search.specs.inner.Queues.{entry_at, place_at}
 use Rattle.mud_search.proofs.queue.Queue.new.Given as goal
 
 abbrev pub invariant-loop-place : goal.invariant-loop-place

@@ -1,5 +1,5 @@
 use Rattle.std.proofs.Common.{◌≡◌, ◌<◌, None, length, set, sym, ap, ◌∙◌, arith}
-use Rattle.mud_search.specs.Queues.{waiting_labels}
+use Rattle.mud_search.specs.inner.Queues.{waiting_labels}
 use Rattle.mud_search.proofs.Heaps.{absent_stays, length_labels}
 use Rattle.mud_search.proofs.queue.Queue.remove.Goals as goal
 

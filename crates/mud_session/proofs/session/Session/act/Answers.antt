@@ -13,7 +13,8 @@ returns-clause-replied g c =
     let reply = shown c.act-reply.result in
     let state = g.D.Door.state in
     on_ok c.say.result
-    (acted g.D.Door.takes_in (line_of c.args.line.now) c.args.self.now c.tell.new.self c.say.new.self (state c.args.door.now)
+    (acted g.D.Door.takes_in (line_of c.args.line.now) c.args.self.now c.tell.new.self c.say.new.self
+    (state c.args.door.now)
     (state c.act-reply.new.self) (state c.tell.new.door) reply
     c.requires.goes_on c.requires.acts did.replies did.stored did.told c.tell.ensures.rest c.in_ok-tell.ensures.told
     (sayable c.questions.ensures _ did.replies.0 (line_of c.args.line.now) reply _ c.requires.acts did.replies.2))

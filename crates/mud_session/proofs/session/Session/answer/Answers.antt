@@ -2,7 +2,7 @@ use Rattle.std.proofs.Common.{List, ℕ, Some, refl, sym, ap, subst, ◌∙◌, 
 use Rattle.mud_nvt.specs.declared.Unit.{Unit as CodeUnit}
 use Rattle.mud_nvt.specs.Units.{TooLong, Ayt, Answer}
 use Rattle.mud_nvt.specs.Shown.{shown}
-use Rattle.mud_session.specs.Turning.{sends, HasTurn}
+use Rattle.mud_session.specs.inner.Turning.{sends, HasTurn}
 use Rattle.mud_session.proofs.Answering.{on_ok, rested}
 use Rattle.mud_session.proofs.session.Session.answer.Goals as goal
 

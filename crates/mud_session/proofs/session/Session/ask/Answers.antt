@@ -14,6 +14,7 @@ returns-in_ok-send_answer-in-Ok-clause-replied g c =
     (c.self.view_is ∙ c.in_ok-send_answer-in-Ok.ensures) in
     asked g.D.Door.takes_in (line_of c.args.line.now) c.args.self.now c.look.new.self c.match-answer-2.self
     (state c.args.door.now) (state c.look.new.door) (state c.ask.new.self)
-    c.is_quit-self-inside.result (answered c.in-Ok.answer) c.requires.question c.is_quit-self-inside.ensures looked.looked
+    c.is_quit-self-inside.result
+    (answered c.in-Ok.answer) c.requires.question c.is_quit-self-inside.ensures looked.looked
     (looked.all c.if-not-branch.false) c.ask.ensures.same c.in-Ok.ensures.answers
     (elim c.match-answer-2.branch [ in-Some-2 w ↦ w.self-is ∙ said | in-None-2 w ↦ w.self-is ∙ said ])

@@ -6,16 +6,22 @@ use Rattle.mud_talk.proofs.web_talk.WebTalk.feed.Goals as goal
 
 pub told-requires-clause-sits : goal.told-requires-clause-sits
 told-requires-clause-sits g c =
-    let names = subst (Sits c.args.self.web) (sym (ap (λ (s : DoorState). s.desk) c.new-seat.ensures)) c.args.self.sits in
+    let names =
+    subst (Sits c.args.self.web) (sym (ap (λ (s : DoorState). s.desk) c.new-seat.ensures)) c.args.self.sits in
     let going = sym c.ended.ensures ∙ c.if-ended.false in
-    let done = fed c.nothing_beyond.ensures c.args.self.web c.answer.new.self c.new-seat.result c.answer.new.door c.args.typed.now
+    let done =
+    fed c.nothing_beyond.ensures c.args.self.web c.answer.new.self c.new-seat.result c.answer.new.door
+    c.args.typed.now
     c.new-out.result.items c.answer.new.out.items names going c.new-out.ensures.items c.in-Ok.ensures.ok in
     ∥∥₁_map done (λ d. d.0)
 
 pub told-requires-clause-leaves : goal.told-requires-clause-leaves
 told-requires-clause-leaves g c =
-    let names = subst (Sits c.args.self.web) (sym (ap (λ (s : DoorState). s.desk) c.new-seat.ensures)) c.args.self.sits in
+    let names =
+    subst (Sits c.args.self.web) (sym (ap (λ (s : DoorState). s.desk) c.new-seat.ensures)) c.args.self.sits in
     let going = sym c.ended.ensures ∙ c.if-ended.false in
-    let done = fed c.nothing_beyond.ensures c.args.self.web c.answer.new.self c.new-seat.result c.answer.new.door c.args.typed.now
+    let done =
+    fed c.nothing_beyond.ensures c.args.self.web c.answer.new.self c.new-seat.result c.answer.new.door
+    c.args.typed.now
     c.new-out.result.items c.answer.new.out.items names going c.new-out.ensures.items c.in-Ok.ensures.ok in
     ∥∥₁_map done (λ d. d.1)

@@ -6,7 +6,8 @@ use Rattle.mud_talk.proofs.web_talk.WebTalk.nudge.Goals as goal
 
 pub told-requires-clause-sits : goal.told-requires-clause-sits
 told-requires-clause-sits g c =
-    let names = subst (Sits c.args.self.web) (sym (ap (λ (s : DoorState). s.desk) c.up_to-seat.ensures)) c.args.self.sits in
+    let names =
+    subst (Sits c.args.self.web) (sym (ap (λ (s : DoorState). s.desk) c.up_to-seat.ensures)) c.args.self.sits in
     let going = sym c.ended.ensures ∙ c.if-ended.false in
     let done = nudged c.nothing_beyond.ensures c.args.self.web c.nudge.new.self c.up_to-seat.result c.nudge.new.door
     c.new-out.result.items c.nudge.new.out.items names going c.new-out.ensures.items c.in-Ok.ensures.ok in
@@ -14,7 +15,8 @@ told-requires-clause-sits g c =
 
 pub told-requires-clause-leaves : goal.told-requires-clause-leaves
 told-requires-clause-leaves g c =
-    let names = subst (Sits c.args.self.web) (sym (ap (λ (s : DoorState). s.desk) c.up_to-seat.ensures)) c.args.self.sits in
+    let names =
+    subst (Sits c.args.self.web) (sym (ap (λ (s : DoorState). s.desk) c.up_to-seat.ensures)) c.args.self.sits in
     let going = sym c.ended.ensures ∙ c.if-ended.false in
     let done = nudged c.nothing_beyond.ensures c.args.self.web c.nudge.new.self c.up_to-seat.result c.nudge.new.door
     c.new-out.result.items c.nudge.new.out.items names going c.new-out.ensures.items c.in-Ok.ensures.ok in

@@ -12,7 +12,8 @@ returns-then-is_err-clause-err c =
     (λ same. record {
       contents = λ n. refl;
       leaving =
-          inserted-out c.args.number (λ n. nat_eq n source) c.args.self.now.leaving c.insert.new.self c.remove.new.self c.requires.leaving
+          inserted-out c.args.number
+          (λ n. nat_eq n source) c.args.self.now.leaving c.insert.new.self c.remove.new.self c.requires.leaving
           c.in_ok-insert-in-Exit.ensures.ok c.remove.ensures;
       arriving = same;
     })

@@ -1,14 +1,15 @@
 use Rattle.std.proofs.Common.{true, ap, sym, ◌∙◌}
 use Rattle.std.specs.Option.{option_map_or, option_and_then}
 use Rattle.mud_world.specs.State.{record_at, key_of, nests}
-use Rattle.mud_world.specs.Inner.{locked}
+use Rattle.mud_world.specs.inner.Parts.{locked}
 use Rattle.mud_world.proofs.Locking.{key_of-locked_same, key_of-locked_other, key_of-locked_gone}
 use Rattle.mud_world.proofs.world.World.+nesting.Goals as goal
 
 pub asked_nests_with-returns-in-None : goal.asked_nests_with-returns-in-None
 asked_nests_with-returns-in-None t c =
     let w = locked c.args.self.now c.args.object c.args.key.now in
-    sym (ap (λ v. option_map_or (nests w c.args.levels) v true) (key_of-locked_gone c.args.self.now c.args.object c.args.key.now c.args.asked (sym c.in-None.ensures)))
+    sym (ap (λ v. option_map_or (nests w c.args.levels) v true)
+    (key_of-locked_gone c.args.self.now c.args.object c.args.key.now c.args.asked (sym c.in-None.ensures)))
 
 pub asked_nests_with-returns-then-asked-object : goal.asked_nests_with-returns-then-asked-object
 asked_nests_with-returns-then-asked-object t c =

@@ -4,4 +4,5 @@ use Rattle.mud_world.proofs.world.World.arrives.Given as goal
 
 -- what is left of the way has the answer of the whole
 abbrev pub invariant-loop-step : goal.invariant-loop-step
-invariant-loop-step l = (m : ℕ) → m + l._step ≡ l.self.next → arrives l.self m l.actor l.at ≡ arrives l.self l.self.next l.actor l.object
+invariant-loop-step l = (m : ℕ) → m + l._step ≡ l.self.next
+    → arrives l.self m l.actor l.at ≡ arrives l.self l.self.next l.actor l.object

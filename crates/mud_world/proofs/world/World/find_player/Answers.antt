@@ -7,5 +7,6 @@ use Rattle.mud_world.proofs.world.World.find_player.Goals as goal
 pub returns : goal.returns
 returns c =
     c.get.ensures
-    ∙ owner-named (state_of c.self.inside) c.self.invariant.sound c.self.inside.owners c.self.invariant.names c.args.name.now
+    ∙ owner-named
+    (state_of c.self.inside) c.self.invariant.sound c.self.inside.owners c.self.invariant.names c.args.name.now
     ∙ ap (λ w. named_player w c.args.name.now) c.self.view_is

@@ -15,6 +15,7 @@ loop-i-preserved c =
     let at = c.in-Some.at.now in
     let low : c.loop-i.i < length keys = omega (arith, c.in-Some.ensures.lookup.3.0, ap length c.deref.ensures.0) in
     gathered-on c.args.self.now c.is_sound.ensures c.args.candidate keys _ c.loop-i.i at c.loop-i.invariant
-    (slice_get_read keys (length keys) c.loop-i.i at refl low (c.in-Some.ensures.lookup.1 ∙ ap (λ v. get_or v c.loop-i.i at) c.deref.ensures.0))
+    (slice_get_read keys (length keys) c.loop-i.i at refl low
+    (c.in-Some.ensures.lookup.1 ∙ ap (λ v. get_or v c.loop-i.i at) c.deref.ensures.0))
     low
     (c.in_ok-push_all-in-Some.ensures ∙ ap (λ v. keys ++ v) c.contents-inner.ensures)

@@ -10,7 +10,9 @@ returns-then-not-is_empty c =
     let w = c.args.self.now in
     let within = by_list (lies_in n) w c.contents.result.now c.is_empty.result c.is_empty.ensures c.contents.ensures in
     ap not c.if-not-is_empty.true
-    ∙ sym (needed n w.objects ∙ ap (λ b. b || (list_any (λ e. leaves n e.1) w.objects || list_any (λ e. arrives n e.1) w.objects)) (within ∙ ap not c.if-not-is_empty.true))
+    ∙ sym (needed n w.objects
+    ∙ ap (λ b. b || (list_any (λ e. leaves n e.1) w.objects || list_any (λ e. arrives n e.1) w.objects))
+    (within ∙ ap not c.if-not-is_empty.true))
 
 pub returns-else-not-is_empty : goal.returns-else-not-is_empty
 returns-else-not-is_empty c =
@@ -18,4 +20,6 @@ returns-else-not-is_empty c =
     let w = c.args.self.now in
     let within = by_list (lies_in n) w c.contents.result.now c.is_empty.result c.is_empty.ensures c.contents.ensures in
     c.has_ends.ensures
-    ∙ sym (needed n w.objects ∙ ap (λ b. b || (list_any (λ e. leaves n e.1) w.objects || list_any (λ e. arrives n e.1) w.objects)) (within ∙ ap not c.if-not-is_empty.false))
+    ∙ sym (needed n w.objects
+    ∙ ap (λ b. b || (list_any (λ e. leaves n e.1) w.objects || list_any (λ e. arrives n e.1) w.objects))
+    (within ∙ ap not c.if-not-is_empty.false))

@@ -1,4 +1,5 @@
-use Rattle.std.proofs.Common.{◌≡◌, ◌∙◌, ◌||◌, ◌+◌, ◌∷◌, [], List, String, Global, suc, true, false, drop, map, ap, sym, arith, drop-cons}
+use Rattle.std.proofs.Common.{◌≡◌, ◌∙◌, ◌||◌, ◌+◌, ◌∷◌, [], List, String, Global, suc, true, false, drop, map, ap, sym}
+use Rattle.std.proofs.Common.{arith, drop-cons}
 use Rattle.std.specs.Prelude.{string_bytes}
 use Rattle.std.proofs.lemmas.List.{drop_all}
 use Rattle.mud_world.specs.State.{is_taken}
@@ -12,8 +13,10 @@ returns-then-is_held c =
     let items = c.list-name-items.result.now in
     let i = c.loop-name.name-index in
     let item = c.name-item.result in
-    let left : drop i items ≡ item ∷ drop (suc i) items = drop-cons items i item c.loop-name-test.true ∙ ap (λ v. v ∷ drop (suc i) items) (sym c.name-item.is) in
-    let first : is_taken w n (string_bytes item ∷ []) ≡ true = ap (λ t. is_taken w n (t ∷ [])) (sym c.as_str.ensures.value) ∙ sym c.is_held.ensures ∙ c.if-is_held.true in
+    let left : drop i items ≡ item ∷ drop (suc i) items = drop-cons items i item c.loop-name-test.true
+    ∙ ap (λ v. v ∷ drop (suc i) items) (sym c.name-item.is) in
+    let first : is_taken w n (string_bytes item ∷ []) ≡ true =
+    ap (λ t. is_taken w n (t ∷ [])) (sym c.as_str.ensures.value) ∙ sym c.is_held.ensures ∙ c.if-is_held.true in
     sym
     (c.loop-name.invariant
     ∙ ap (λ (l : List (String Global)). is_taken w n (map string_bytes l)) left
@@ -27,8 +30,10 @@ loop-name-preserved c =
     let items = c.list-name-items.result.now in
     let i = c.loop-name.name-index in
     let item = c.name-item.result in
-    let left : drop i items ≡ item ∷ drop (suc i) items = drop-cons items i item c.loop-name-test.true ∙ ap (λ v. v ∷ drop (suc i) items) (sym c.name-item.is) in
-    let first : is_taken w n (string_bytes item ∷ []) ≡ false = ap (λ t. is_taken w n (t ∷ [])) (sym c.as_str.ensures.value) ∙ sym c.is_held.ensures ∙ c.if-is_held.false in
+    let left : drop i items ≡ item ∷ drop (suc i) items = drop-cons items i item c.loop-name-test.true
+    ∙ ap (λ v. v ∷ drop (suc i) items) (sym c.name-item.is) in
+    let first : is_taken w n (string_bytes item ∷ []) ≡ false =
+    ap (λ t. is_taken w n (t ∷ [])) (sym c.as_str.ensures.value) ∙ sym c.is_held.ensures ∙ c.if-is_held.false in
     let up : suc i ≡ i + 1 = omega arith in
     c.loop-name.invariant
     ∙ ap (λ (l : List (String Global)). is_taken w n (map string_bytes l)) left
@@ -43,5 +48,6 @@ returns c =
     let items = c.list-name-items.result.now in
     sym
     (c.loop-name.invariant
-    ∙ ap (λ (l : List (String Global)). is_taken w n (map string_bytes l)) (drop_all c.loop-name.name-index items c.loop-name-test.false)
+    ∙ ap (λ (l : List (String Global)). is_taken w n (map string_bytes l))
+    (drop_all c.loop-name.name-index items c.loop-name-test.false)
     ∙ taken-none w n)

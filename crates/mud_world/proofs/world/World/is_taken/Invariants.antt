@@ -5,4 +5,5 @@ use Rattle.mud_world.proofs.world.World.is_taken.Given as goal
 
 -- what is left has the answer of the whole
 abbrev pub invariant-loop-name : goal.invariant-loop-name
-invariant-loop-name l = is_taken l.self l.number l.names ≡ is_taken l.self l.number (map string_bytes (drop l.name-index l.name-items))
+invariant-loop-name l =
+    is_taken l.self l.number l.names ≡ is_taken l.self l.number (map string_bytes (drop l.name-index l.name-items))

@@ -5,4 +5,6 @@ use Rattle.mud_world.proofs.world.World.judge.Goals as goal
 
 pub returns : goal.returns
 returns c =
-    if_ok-weaker c.judge_levels.result _ _ (λ answers known who o is. known o ∙ ap (λ held. opens c.args.self.now 4 held o) (λ i a. is a i)) c.judge_levels.ensures
+    if_ok-weaker c.judge_levels.result _ _
+    (λ answers known who o is. known o ∙ ap (λ held. opens c.args.self.now 4 held o) (λ i a. is a i))
+    c.judge_levels.ensures

@@ -5,7 +5,7 @@ use Rattle.std.specs.Option.{option_map_or}
 use Rattle.std.specs.List.{list_any}
 use Rattle.mud_world.specs.State.{has}
 use Rattle.mud_world.specs.Truth.{key_true}
-use Rattle.mud_world.specs.Judging.{written}
+use Rattle.mud_world.specs.inner.Answers.{written}
 use Rattle.mud_world.proofs.Written.{written-anew}
 use Rattle.mud_world.proofs.world.World.judge_more.Goals as goal
 
@@ -16,6 +16,8 @@ returns c = λ o.
     let new = λ (k : ℕ). has c.args.self.now k (λ r. option_map_or test r.key true) in
     let answers = c.loop-object.answers.items in
     let done : written new plain.locked.items plain.answers.items ≡ answers =
-    sym c.loop-object.invariant ∙ ap (λ (left : List ℕ). written new left answers) (drop_all c.loop-object.object-index plain.locked.items (omega (arith, c.loop-object-test.false))) in
+    sym c.loop-object.invariant
+    ∙ ap (λ (left : List ℕ). written new left answers)
+    (drop_all c.loop-object.object-index plain.locked.items (omega (arith, c.loop-object-test.false))) in
     sym (ap (λ l. get_or l o false) done)
     ∙ written-anew c.args.self.now c.is_sound.ensures plain.answers.items plain.locked.items c.requires test o

@@ -4,11 +4,15 @@ use Rattle.std.specs.Option.{option_map_or}
 use Rattle.std.specs.List.{list_any}
 use Rattle.mud_world.specs.State.{has}
 use Rattle.mud_world.specs.Truth.{key_true}
-use Rattle.mud_world.specs.Judging.{written}
+use Rattle.mud_world.specs.inner.Answers.{written}
 use Rattle.mud_world.proofs.world.World.judge_more.Given as goal
 
 -- what is left is written over what there is
 abbrev pub invariant-loop-object : goal.invariant-loop-object
 invariant-loop-object l =
-    let new = λ (k : ℕ). has l.self k (λ r. option_map_or (key_true (λ a. list_any (nat_eq a) l.holding) (λ o. get_or l.before o false)) r.key true) in
-    written new (drop l.object-index l.plain.locked.items) l.answers.items ≡ written new l.plain.locked.items l.plain.answers.items
+    let new =
+    λ (k : ℕ). has l.self k
+    (λ r. option_map_or (key_true (λ a. list_any (nat_eq a) l.holding) (λ o. get_or l.before o false)) r.key true)
+    in
+    written new (drop l.object-index l.plain.locked.items) l.answers.items
+    ≡ written new l.plain.locked.items l.plain.answers.items

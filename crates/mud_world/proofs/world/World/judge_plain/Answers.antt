@@ -21,7 +21,8 @@ returns c =
       plain = λ o.
           ⊎_elim
           (λ (lt : o < c.loop-object.object). inv.1 o lt)
-          (λ (le : c.loop-object.object ≤ o). get_or-past c.loop-object.answers.items o (omega (arith, le, long)) ∙ sym (has-above w sound o (omega (arith, le, next, done)) _))
+          (λ (le : c.loop-object.object ≤ o). get_or-past c.loop-object.answers.items o (omega (arith, le, long))
+          ∙ sym (has-above w sound o (omega (arith, le, next, done)) _))
           (cases_lt o c.loop-object.object);
       keyless = λ o none.
           ⊎_elim
@@ -29,6 +30,7 @@ returns c =
           bool_cases (has w o (λ r. is_none r.key))
           (λ is. keyless-key (record_at w o) is)
           (λ not. absurd (true≢false (sym (inv.2 o lt not) ∙ none))))
-          (λ (le : c.loop-object.object ≤ o). ap (λ v. is_none (option_and_then (λ r. r.key) v)) (missing-above w sound o (omega (arith, le, next, done))))
+          (λ (le : c.loop-object.object ≤ o). ap (λ v. is_none (option_and_then (λ r. r.key) v))
+          (missing-above w sound o (omega (arith, le, next, done))))
           (cases_lt o c.loop-object.object);
     }

@@ -1,0 +1,19 @@
+-- The greatest of the costs that members claim of a room, as the tests find it.
+use Rattle.std.specs.Prelude.{ℕ, max, List, [], ◌∷◌, Option, None, Some}
+use Rattle.mud_roads.specs.declared.label.Label.{Label}
+use Rattle.mud_cert.specs.Certificate.{Account}
+use Rattle.mud_cert.specs.Lookup.{label_at}
+
+-- what a label gives, where there is one
+abbrev pub with_label : Option Label → (Label → Option ℕ) → Option ℕ
+with_label None f = None
+with_label (Some l) f = f l
+
+-- the greatest of this cost and those of the members' labels of the room, where all have one
+abbrev pub gathered_from : ℕ → List Account → ℕ → Option ℕ
+gathered_from cost [] room = Some cost
+gathered_from cost (m ∷ ms) room = with_label (label_at m room) (λ l. gathered_from (max cost l.cost) ms room)
+
+-- the greatest cost of the members' labels of the room, where all have one
+abbrev pub gathered : List Account → ℕ → Option ℕ
+gathered ms room = gathered_from 0 ms room

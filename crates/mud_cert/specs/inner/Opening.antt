@@ -1,0 +1,17 @@
+-- A certificate as far as its members go.
+use Rattle.std.specs.Prelude.{ℕ, ◌≤◌, List, length, All}
+use Rattle.mud_cert.specs.declared.cert.Form.{Form}
+use Rattle.mud_cert.specs.Certificate.{Account, IsAmount, IsAccount, CountsBy}
+
+-- of which world it speaks, how its labels count, and the members so far
+pub record Opening : Type 0 where
+  pub form : Form
+  pub version : ℕ
+  pub members : List Account
+
+-- the limits of a certificate, before its conclusion
+pub record IsOpening (p : Opening) : Type 0 where
+  pub version : IsAmount p.version
+  pub members : All IsAccount p.members
+  pub counts : All (CountsBy p.form) p.members
+  pub few : length p.members ≤ 8

@@ -1,0 +1,3 @@
+pub mod Played
+pub mod Texts
+pub mod Told

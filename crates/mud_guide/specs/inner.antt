@@ -1,0 +1,5 @@
+pub mod Arrivals
+pub mod Gatherings
+pub mod Listings
+pub mod Members
+pub mod Parts

@@ -1,0 +1,44 @@
+-- How the accounts of a certificate are made from labels and journeys.
+use Rattle.std.specs.Prelude.{◌≡◌, ℕ, ◌+◌, ◌<◌, List, Option, Some, All, AllPairs, Contains, IfSome, length}
+use Rattle.std.specs.Prelude.{slice_index_or}
+use Rattle.std.specs.Option.{option_map}
+use Rattle.std.specs.List.{AllZip}
+use Rattle.mud_world.specs.State.{State}
+use Rattle.mud_roads.specs.declared.label.Label.{Label}
+use Rattle.mud_roads.specs.Open.{Knowledge}
+use Rattle.mud_cert.specs.Certificate.{Account, IsAccount}
+use Rattle.mud_guide.specs.declared.lister.Listing.{Listing}
+use Rattle.mud_guide.specs.Journeys.{Journey, IsJourney}
+use Rattle.mud_guide.specs.Ways.{exits_of}
+
+-- the labels of the numbers below `next`, by rising number
+pub record AreEntries (labels : ℕ → Option Label) (next : ℕ) (entries : List (ℕ × Label)) : Type 0 where
+  pub rising : AllPairs (λ d e. d.0 < e.0) entries
+  pub inside : All (λ e. (e.0 < next) × (labels e.0 ≡ Some e.1)) entries
+  pub whole : (room : ℕ) (l : Label) → room < next → labels room ≡ Some l → Contains entries (room, l)
+
+-- the numbers of the journey are below `next`
+pub record IsInside (next : ℕ) (j : Journey) : Type 0 where
+  pub player : j.player < next
+  pub from : j.from < next
+  pub exits : IfSome j.way (All (λ s. s.exit < next))
+
+-- who goes on the journey, from where, all labels of numbers below `next`, and the exits of his way
+pub record IsListed (labels : ℕ → Option Label) (next : ℕ) (j : Journey) (a : Account) : Type 0 where
+  pub player : a.player ≡ j.player
+  pub from : a.from ≡ j.from
+  pub entries : AreEntries labels next a.labels
+  pub walk : a.walk ≡ option_map exits_of j.way
+
+-- the same of each journey, with the labels of its member
+pub record AreListed (labels : ℕ → ℕ → Option Label) (next : ℕ) (js : List Journey) (es : List Account) : Type 0 where
+  pub long : length es ≡ length js
+  pub each : (m : ℕ) (j : Journey) (a : Account) → m < length es
+      → IsListed (labels m) next (slice_index_or js m j) (slice_index_or es m a)
+
+-- the members of a party from a number on, how they go to the room, and what is claimed of them, within the limits
+pub record IsListing (w : State) (labels : ℕ → ℕ → Option Label) (first : ℕ) (to : Option ℕ) (ts : List Knowledge)
+    (l : Listing) : Type 0 where
+  pub journeys : AllZip (λ t j. IsJourney w to t.player j) ts l.journeys.items
+  pub accounts : AreListed (λ m. labels (first + m)) w.next l.journeys.items l.accounts.items
+  pub limits : All IsAccount l.accounts.items

@@ -1,0 +1,54 @@
+-- What a desk keeps, hears and answers, by its parts.
+use Rattle.std.specs.Prelude.{◌≡◌, ℕ, List, ◌++◌, length, take, drop, codes}
+use Rattle.std.specs.Prelude.{Option, Some, None, IsSomeAnd, IfSome, IsTrue}
+use Rattle.std.specs.Option.{option_map, option_and_then, option_to_list}
+use Rattle.mud_world.specs.State.{State, is_player}
+use Rattle.mud_rules.specs.Hearing.{heard_line}
+use Rattle.mud_rules.specs.declared.verdict.Verdict.{Verdict}
+use Rattle.mud_rules.specs.declared.verdict.Verdict.TheVariants.{Ask}
+use Rattle.mud_rules.specs.declared.verdict.Query.TheVariants.{History}
+use Rattle.mud_guide.specs.declared.answer.Answer.{Answer}
+use Rattle.mud_chron.specs.Entry.{Entry}
+use Rattle.mud_cert.specs.Certificate.{Certificate}
+use Rattle.mud_cert.specs.Text.{cert_text}
+use Rattle.mud_hall.specs.Told.{world_after, notice_text, notices}
+use Rattle.mud_hall.specs.Desk.{DeskState}
+use Rattle.mud_hall.specs.Answers.{answered, Shows}
+use Rattle.mud_row.specs.Known.{Standing}
+
+-- the notice of change n, if its line is heard
+abbrev pub notice_of : ℕ → Option (List ℕ) → List (List ℕ)
+notice_of n line = option_to_list (option_map (notice_text n) line)
+
+-- the notice of an entry for a player, if he hears it; it would be entry n, and w is the world before it
+abbrev pub notice_in : Option ℕ → ℕ → State → Entry → List (List ℕ)
+notice_in player n w e = notice_of n (option_and_then (heard_line w e.change) player)
+
+-- the desk after it took these entries in: it hears of them
+abbrev pub took_in : DeskState → List Entry → DeskState
+took_in s entries = record s { seen = s.seen ++ entries; told = s.told ++ notices s.player s.seen entries }
+
+-- the text is that of the certificate; its last line has no end
+abbrev pub TellsProof : Option Certificate → List ℕ → Type 0
+TellsProof cert text = IsSomeAnd cert (λ c. text ++ codes "\n" ≡ codes "proof\n" ++ cert_text c)
+
+-- the player, if there is one, is one of this world
+abbrev pub IsSeated : State → Option ℕ → Type 0
+IsSeated w player = IfSome player (λ p. IsTrue (is_player w p))
+
+-- the state of a desk of this replica; it hears also of what its world has not taken in yet
+abbrev pub state_of : ℕ → Option ℕ → Standing → List ℕ → List (List ℕ) → DeskState
+state_of number player r calls stored = record {
+  number = number;
+  player = player;
+  seen = r.list;
+  calls = calls;
+  told = stored ++ notices player (take r.at r.list) (drop r.at r.list);
+}
+
+-- the answer in a world at its version, whatever entries led there; there is none to the question about those
+abbrev pub IsResponse : State → ℕ → Option ℕ → Verdict → Option Answer → Type 0
+IsResponse w v player verdict None = verdict ≡ Ask History
+IsResponse w v player verdict (Some a) =
+    (a.version ≡ v)
+    × ((h : List Entry) → w ≡ world_after h → v ≡ length h → Shows h player verdict (answered a))

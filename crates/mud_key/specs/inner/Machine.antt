@@ -1,0 +1,138 @@
+-- A machine that reads a key text byte by byte. Clauses of private parts cite it, and `key_in` in Reading.antt
+-- computes by it; the law `laws::key` ties that to the grammar of key texts.
+use Rattle.std.specs.Prelude.{ℕ, zero, suc, Bool, true, false, Option, Some, None, List, [], ◌∷◌, ◌++◌, length}
+use Rattle.std.specs.Prelude.{replicate}
+use Rattle.std.specs.Prelude.{nat_lt, if◌then◌else◌}
+use Rattle.mud_key.specs.inner.Class.{class_of}
+use Rattle.mud_key.specs.Tree.{Tree, Has, Asks, Not, Join}
+use Rattle.mud_key.specs.declared.operator.Operator.{Operator}
+use Rattle.mud_key.specs.declared.operator.Operator.TheVariants.{And, Or}
+use Rattle.mud_key.specs.declared.class.Class.{Class}
+use Rattle.mud_key.specs.declared.class.Class.TheVariants.{Space, Digit, Letter, Sharp, Bang, Question, Open, Close}
+use Rattle.mud_key.specs.declared.class.Class.TheVariants.{Ampersand, Bar}
+
+-- a key as it is written
+abbrev pub Reading : Type 0
+Reading = Tree (List ℕ)
+
+-- what stands in front of the unary that comes: a chain and its operator, and some `!`
+pub record Front : Type 0 where
+  pub chain : Option (Reading × Operator)
+  pub nots : ℕ
+
+-- nothing in front
+abbrev pub bare : Front
+bare = record { chain = None; nots = 0 }
+
+-- the unary after so many `!`
+abbrev pub negated : ℕ → Reading → Reading
+negated zero k = k
+negated (suc n) k = negated n (Not k)
+
+-- the chain that a unary ends
+abbrev pub joined : Option (Reading × Operator) → Reading → Reading
+joined None k = k
+joined (Some c) k = Join c.1 c.0 k
+
+-- the chain that ends with this unary
+abbrev pub combined : Front → Reading → Reading
+combined f k = joined f.chain (negated f.nots k)
+
+-- an object, or one after `?`
+abbrev pub atom : Bool → List ℕ → Reading
+atom true o = Asks o
+atom false o = Has o
+
+-- where the machine stands: where a unary comes; where an object comes, after `?`; after a sharp and
+-- digits; after a name and so many spaces; after a chain; after a chain and half an operator
+pub data Mode : Type 0 where
+  Operand : Front → Mode
+  Asked : Front → Mode
+  Number : Front → Bool → List ℕ → Mode
+  Named : Front → Bool → List ℕ → ℕ → Mode
+  After : Reading → Mode
+  Half : Reading → Operator → Mode
+
+-- what stands before each open parenthesis, the innermost first, and where the machine stands
+abbrev pub State : Type 0
+State = List Front × Mode
+
+-- one byte further, after a chain
+abbrev pub after_step : List Front → Reading → Class → Option State
+after_step outer k Space = Some (outer, After k)
+after_step outer k Ampersand = Some (outer, Half k And)
+after_step outer k Bar = Some (outer, Half k Or)
+after_step (f ∷ outer) k Close = Some (outer, After (combined f k))
+after_step outer k _ = None
+
+-- one byte further, after a chain and half an operator
+abbrev pub half_step : List Front → Reading → Operator → Class → Option State
+half_step outer k And Ampersand = Some (outer, Operand (record { chain = Some (k, And); nots = 0 }))
+half_step outer k Or Bar = Some (outer, Operand (record { chain = Some (k, Or); nots = 0 }))
+half_step outer k op _ = None
+
+-- one byte further, from where a unary comes
+abbrev pub operand_step : List Front → Front → Class → ℕ → Option State
+operand_step outer f Space b = Some (outer, Operand f)
+operand_step outer f Bang b = Some (outer, Operand (record { chain = f.chain; nots = suc f.nots }))
+operand_step outer f Question b = Some (outer, Asked f)
+operand_step outer f Open b = Some (f ∷ outer, Operand bare)
+operand_step outer f Sharp b = Some (outer, Number f false [])
+operand_step outer f Digit b = Some (outer, Named f false (b ∷ []) 0)
+operand_step outer f Letter b = Some (outer, Named f false (b ∷ []) 0)
+operand_step outer f _ b = None
+
+-- one byte further, from where an object comes
+abbrev pub asked_step : List Front → Front → Class → ℕ → Option State
+asked_step outer f Space b = Some (outer, Asked f)
+asked_step outer f Sharp b = Some (outer, Number f true [])
+asked_step outer f Digit b = Some (outer, Named f true (b ∷ []) 0)
+asked_step outer f Letter b = Some (outer, Named f true (b ∷ []) 0)
+asked_step outer f _ b = None
+
+-- one byte further, after a sharp and digits
+abbrev pub number_step : List Front → Front → Bool → List ℕ → Class → ℕ → Option State
+number_step outer f a ds Digit b = if nat_lt (length ds) 9 then Some (outer, Number f a (ds ++ b ∷ [])) else None
+number_step outer f a [] k b = None
+number_step outer f a (d ∷ ds) k b = after_step outer (combined f (atom a (35 ∷ d ∷ ds))) k
+
+-- one byte further, after a name
+abbrev pub named_step : List Front → Front → Bool → List ℕ → ℕ → Class → ℕ → Option State
+named_step outer f a text n Space b = Some (outer, Named f a text (suc n))
+named_step outer f a text n Digit b = Some (outer, Named f a (text ++ replicate n 32 ++ b ∷ []) 0)
+named_step outer f a text n Letter b = Some (outer, Named f a (text ++ replicate n 32 ++ b ∷ []) 0)
+named_step outer f a text n Sharp b = Some (outer, Named f a (text ++ replicate n 32 ++ b ∷ []) 0)
+named_step outer f a text n k b = after_step outer (combined f (atom a text)) k
+
+-- one byte further, from anywhere
+abbrev pub step : List Front → Mode → Class → ℕ → Option State
+step outer (Operand f) k b = operand_step outer f k b
+step outer (Asked f) k b = asked_step outer f k b
+step outer (Number f a ds) k b = number_step outer f a ds k b
+step outer (Named f a text n) k b = named_step outer f a text n k b
+step outer (After t) k b = after_step outer t k
+step outer (Half t op) k b = half_step outer t op k
+
+-- one byte further, unless no key text went on so
+abbrev pub next : Option State → ℕ → Option State
+next None b = None
+next (Some s) b = step s.0 s.1 (class_of b) b
+
+-- after these bytes
+abbrev pub run : Option State → List ℕ → Option State
+run s [] = s
+run s (b ∷ bs) = run (next s b) bs
+
+-- before the first byte
+abbrev pub start : Option State
+start = Some ([], Operand bare)
+
+-- the chain that stands, if the unary is whole
+abbrev pub settled : Mode → Option Reading
+settled (Operand f) = None
+settled (Asked f) = None
+settled (Number f a []) = None
+settled (Number f a (d ∷ ds)) = Some (combined f (atom a (35 ∷ d ∷ ds)))
+settled (Named f a text n) = Some (combined f (atom a text))
+settled (After t) = Some t
+settled (Half t op) = None

@@ -1,0 +1,151 @@
+-- What the scan keeps of the machine: where it stands, and what it has counted; proofs/Scanned.antt ties it to the
+-- grammar of key texts.
+use Rattle.std.specs.Prelude.{ℕ, ◌+◌, ◌-◌, ◌≡◌, Option, Some, None, List, [], ◌∷◌, length, nat_lt, nat_eq}
+use Rattle.std.specs.Prelude.{if◌then◌else◌, Bool, true, false, ◌&&◌}
+use Rattle.mud_key.specs.declared.operator.Operator.{Operator}
+use Rattle.mud_key.specs.declared.operator.Operator.TheVariants.{And, Or}
+use Rattle.mud_key.specs.declared.class.Class.{Class}
+use Rattle.mud_key.specs.declared.class.Class.TheVariants.{Space, Digit, Letter, Sharp, Bang, Question, Open, Close}
+use Rattle.mud_key.specs.declared.class.Class.TheVariants.{Ampersand, Bar}
+use Rattle.mud_key.specs.declared.place.Place.{Place}
+use Rattle.mud_key.specs.declared.place.Place.TheVariants as place
+use Rattle.mud_key.specs.declared.scan.Scan.{Scan}
+use Rattle.mud_key.specs.Tree.{objects_of, nots_of}
+use Rattle.mud_key.specs.inner.Machine.{Reading, Front, Mode, Operand, Asked, Number, Named, After, Half}
+
+-- where the machine stands, without what it has read
+abbrev pub place_of : Mode → Place
+place_of (Operand f) = place.Operand
+place_of (Asked f) = place.Asked
+place_of (Number f a ds) = place.Number (length ds)
+place_of (Named f a text n) = place.Named
+place_of (After t) = place.After
+place_of (Half t op) = place.Half op
+
+-- the objects of a chain that stands in front
+abbrev pub chain_objects : Option (Reading × Operator) → ℕ
+chain_objects None = 0
+chain_objects (Some c) = objects_of c.0
+
+-- the `!` of a chain that stands in front
+abbrev pub chain_nots : Option (Reading × Operator) → ℕ
+chain_nots None = 0
+chain_nots (Some c) = nots_of c.0
+
+-- the `!` that stand in front of a unary
+abbrev pub front_nots : Front → ℕ
+front_nots f = chain_nots f.chain + f.nots
+
+-- the objects so far, within the innermost parentheses
+abbrev pub mode_objects : Mode → ℕ
+mode_objects (Operand f) = chain_objects f.chain
+mode_objects (Asked f) = chain_objects f.chain
+mode_objects (Number f a ds) = chain_objects f.chain + 1
+mode_objects (Named f a text n) = chain_objects f.chain + 1
+mode_objects (After t) = objects_of t
+mode_objects (Half t op) = objects_of t
+
+-- the `!` so far, within the innermost parentheses
+abbrev pub mode_nots : Mode → ℕ
+mode_nots (Operand f) = front_nots f
+mode_nots (Asked f) = front_nots f
+mode_nots (Number f a ds) = front_nots f
+mode_nots (Named f a text n) = front_nots f
+mode_nots (After t) = nots_of t
+mode_nots (Half t op) = nots_of t
+
+-- the objects before the open parentheses
+abbrev pub outer_objects : List Front → ℕ
+outer_objects [] = 0
+outer_objects (f ∷ outer) = outer_objects outer + chain_objects f.chain
+
+-- the `!` before the open parentheses
+abbrev pub outer_nots : List Front → ℕ
+outer_nots [] = 0
+outer_nots (f ∷ outer) = outer_nots outer + front_nots f
+
+-- the scan where the machine is here
+abbrev pub scan_of : List Front → Mode → Scan
+scan_of outer m = record {
+  depth = length outer;
+  place = place_of m;
+  objects = outer_objects outer + mode_objects m;
+  nots = outer_nots outer + mode_nots m;
+}
+
+-- one byte further, after a chain
+abbrev pub after_next : Scan → Class → Option Scan
+after_next s Space = Some (record s { place = place.After })
+after_next s Ampersand = Some (record s { place = place.Half And })
+after_next s Bar = Some (record s { place = place.Half Or })
+after_next s Close = if nat_lt 0 s.depth then Some (record s { depth = s.depth - 1; place = place.After }) else None
+after_next s _ = None
+
+-- one byte further, from where a unary comes
+abbrev pub operand_next : Scan → Class → Option Scan
+operand_next s Space = Some (record s { place = place.Operand })
+operand_next s Bang = Some (record s { place = place.Operand; nots = s.nots + 1 })
+operand_next s Question = Some (record s { place = place.Asked })
+operand_next s Open = Some (record s { depth = s.depth + 1; place = place.Operand })
+operand_next s Sharp = Some (record s { place = place.Number 0; objects = s.objects + 1 })
+operand_next s Digit = Some (record s { place = place.Named; objects = s.objects + 1 })
+operand_next s Letter = Some (record s { place = place.Named; objects = s.objects + 1 })
+operand_next s _ = None
+
+-- one byte further, from where an object comes
+abbrev pub asked_next : Scan → Class → Option Scan
+asked_next s Space = Some (record s { place = place.Asked })
+asked_next s Sharp = Some (record s { place = place.Number 0; objects = s.objects + 1 })
+asked_next s Digit = Some (record s { place = place.Named; objects = s.objects + 1 })
+asked_next s Letter = Some (record s { place = place.Named; objects = s.objects + 1 })
+asked_next s _ = None
+
+-- one byte further, after a sharp and n digits
+abbrev pub number_next : Scan → ℕ → Class → Option Scan
+number_next s n Digit = if nat_lt n 9 then Some (record s { place = place.Number (n + 1) }) else None
+number_next s n k = if nat_lt 0 n then after_next s k else None
+
+-- one byte further, after a name
+abbrev pub named_next : Scan → Class → Option Scan
+named_next s Space = Some (record s { place = place.Named })
+named_next s Digit = Some (record s { place = place.Named })
+named_next s Letter = Some (record s { place = place.Named })
+named_next s Sharp = Some (record s { place = place.Named })
+named_next s k = after_next s k
+
+-- one byte further, after a chain and half an operator
+abbrev pub half_next : Scan → Operator → Class → Option Scan
+half_next s And Ampersand = Some (record s { place = place.Operand })
+half_next s Or Bar = Some (record s { place = place.Operand })
+half_next s op k = None
+
+-- one byte further, from a place
+abbrev pub place_next : Scan → Place → Class → Option Scan
+place_next s place.Operand k = operand_next s k
+place_next s place.Asked k = asked_next s k
+place_next s (place.Number n) k = number_next s n k
+place_next s place.Named k = named_next s k
+place_next s place.After k = after_next s k
+place_next s (place.Half op) k = half_next s op k
+
+-- one byte further, from anywhere
+abbrev pub scan_next : Scan → Class → Option Scan
+scan_next s k = place_next s s.place k
+
+-- whether a chain may end here
+abbrev pub is_whole_place : Place → Bool
+is_whole_place place.Operand = false
+is_whole_place place.Asked = false
+is_whole_place (place.Number n) = nat_lt 0 n
+is_whole_place place.Named = true
+is_whole_place place.After = true
+is_whole_place (place.Half op) = false
+
+-- whether a key text may end here
+abbrev pub is_whole : Scan → Bool
+is_whole s = nat_eq s.depth 0 && is_whole_place s.place
+
+-- what the scan has counted, of a key
+pub record Counts (s : Scan) (key : Reading) : Type 0 where
+  pub objects : s.objects ≡ objects_of key
+  pub nots : s.nots ≡ nots_of key

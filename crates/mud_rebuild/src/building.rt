@@ -1,0 +1,287 @@
+//! A world that is built again: what is made comes as it came, with the names that it has in the end, and between
+//! that only what is needed.
+
+ghost use Rattle.std.specs.Prelude.{◌≤◌};
+
+use crate::delivering::{Step, steps_of};
+use crate::routing::way;
+use crate::stop::Stop;
+use crate::survey::survey_of;
+use mud_chron::Entry;
+use mud_key::{Name, Names};
+use mud_world::{Change, Deed, Doors, Record, Target, World};
+use std::alloc::{AllocError, Global};
+
+// The desk that makes what is no entry of the old history.
+const DESK: u32 = 1;
+
+// The player who may change and recycle all objects.
+const WIZARD: u32 = 1;
+
+// Whether the names are the same.
+fn same_names(names: &Names, others: &Names) -> bool {
+    names.list() == others.list()
+}
+
+// A world that is built again, towards a goal.
+#[derive(Drop)]
+struct Site<'a> {
+    alloc: Global,
+    goal: &'a World,
+    world: World,
+    entries: Vec<Entry>,
+}
+
+impl Site<'_> {
+    // Makes a change.
+    #[tactic(auto, using(crate::proofs::Spelling::spelled))]
+    fn act(&mut self, desk: u32, actor: u32, deed: Deed) -> Result<(), Stop>
+        requires from { 1 ≤ desk }
+        requires to { desk ≤ 64 }
+    {
+        let change = Change { actor, deed };
+        if self.world.legal(&change).is_err() {
+            return Err(Stop::GivenUp);
+        }
+        // for the prover: `next_number` says that the world is sound
+        let _ = self.world.next_number();
+        self.world.apply(&change)?;
+        self.entries.push(Entry::new(desk, change))?;
+        Ok(())
+    }
+
+    // The player walks to the room.
+    fn walk_to(&mut self, player: u32, room: u32) -> Result<(), Stop> {
+        let Some(here) = self.world.place(player) else {
+            return Err(Stop::GivenUp);
+        };
+        if here == room {
+            return Ok(());
+        }
+        let Some(exits) = way(self.alloc, &self.world, here, room)? else {
+            return Err(Stop::GivenUp);
+        };
+        for exit in exits.iter() {
+            self.act(DESK, player, Deed::Walk { exit: *exit })?;
+        }
+        Ok(())
+    }
+
+    // A player moves a thing.
+    fn deliver(&mut self, step: Step) -> Result<(), Stop> {
+        if let Some(room) = step.room {
+            self.walk_to(step.actor, room)?;
+            if self.world.is_player(step.to) {
+                self.walk_to(step.to, room)?;
+            }
+        }
+        let deed = Deed::Move {
+            thing: step.thing,
+            to: step.to,
+        };
+        self.act(DESK, step.actor, deed)
+    }
+
+    // The names that the object has in the end; these, where it is gone.
+    fn names(&self, number: u32, names: &Names) -> Result<Names, AllocError> {
+        match self.goal.get(number) {
+            Some(record) => record.names.copy(self.alloc),
+            None => names.copy(self.alloc),
+        }
+    }
+
+    // The first name that the player has in the end.
+    fn name(&self, number: u32, name: &Name) -> Result<Name, AllocError> {
+        if let Some(record) = self.goal.get(number) {
+            if let Ok(first) = Name::read(self.alloc, &record.names.list()[0]) {
+                return Ok(first);
+            }
+        }
+        name.copy(self.alloc)
+    }
+
+    // The target of a dig, with the names that it has in the end.
+    fn target(&self, target: &Target) -> Result<Target, AllocError> {
+        match target {
+            Target::New(names) => Ok(Target::New(self.names(self.world.next_number(), names)?)),
+            Target::Old(room) => Ok(Target::Old(*room)),
+        }
+    }
+
+    // The exits of a dig, of which the first gets this number, with the names that they have in the end.
+    fn doors(&self, number: u32, doors: &Option<Doors>) -> Result<Option<Doors>, AllocError> {
+        let Some(doors) = doors else {
+            return Ok(None);
+        };
+        let back = match &doors.back {
+            Some(names) => Some(self.names(number.saturating_add(1), names)?),
+            None => None,
+        };
+        let out = self.names(number, &doors.out)?;
+        Ok(Some(Doors { out, back }))
+    }
+
+    // Digs what the entry digs, the actor in this room.
+    fn dig(
+        &mut self,
+        entry: &Entry,
+        here: u32,
+        target: &Target,
+        doors: &Option<Doors>,
+    ) -> Result<(), Stop> {
+        let actor = entry.change().actor;
+        if doors.is_some() {
+            self.walk_to(actor, here)?;
+        }
+        let next = self.world.next_number();
+        let first = match target {
+            Target::New(_) => next.saturating_add(1),
+            Target::Old(_) => next,
+        };
+        let doors = self.doors(first, doors)?;
+        let target = self.target(target)?;
+        self.act(entry.desk(), actor, Deed::Dig(target, doors))
+    }
+
+    // Makes what the entry makes, if it makes objects, the actor in this room.
+    fn make(&mut self, entry: &Entry, here: u32) -> Result<(), Stop> {
+        let change = entry.change();
+        let next = self.world.next_number();
+        match &change.deed {
+            Deed::Dig(target, doors) => self.dig(entry, here, target, doors),
+            Deed::Make(names) => {
+                let names = self.names(next, names)?;
+                self.act(entry.desk(), change.actor, Deed::Make(names))
+            }
+            Deed::Player(name) => {
+                let name = self.name(next, name)?;
+                self.act(entry.desk(), change.actor, Deed::Player(name))
+            }
+            _ => Ok(()),
+        }
+    }
+
+    // Gives an object the names that it has in the end.
+    fn rename(&mut self, object: u32) -> Result<(), Stop> {
+        let (Some(goal), Some(record)) = (self.goal.get(object), self.world.get(object)) else {
+            return Ok(());
+        };
+        if same_names(&goal.names, &record.names) {
+            return Ok(());
+        }
+        let names = goal.names.copy(self.alloc)?;
+        self.act(DESK, WIZARD, Deed::Rename { object, names })
+    }
+
+    // Gives an exit the cost that it has in the end.
+    fn cost(&mut self, exit: u32) -> Result<(), Stop> {
+        let (Some(goal), Some(passage)) = (self.goal.passage(exit), self.world.passage(exit)) else {
+            return Ok(());
+        };
+        if goal.cost == passage.cost {
+            return Ok(());
+        }
+        let cost = goal.cost;
+        self.act(DESK, WIZARD, Deed::Cost { exit, cost })
+    }
+
+    // Gives an object the key that it has in the end.
+    fn lock(&mut self, object: u32) -> Result<(), Stop> {
+        let Some(Record { key: Some(key), .. }) = self.goal.get(object) else {
+            return Ok(());
+        };
+        let key = key.copy(self.alloc)?;
+        self.act(DESK, WIZARD, Deed::Lock { object, key })
+    }
+
+    // Gives an object its names and its cost, and a player his place, as they are in the end.
+    fn settle(&mut self, number: u32) -> Result<(), Stop> {
+        if self.goal.is_player(number) {
+            if let Some(room) = self.goal.place(number) {
+                self.walk_to(number, room)?;
+            }
+        }
+        self.rename(number)?;
+        self.cost(number)
+    }
+
+    // Settles all objects.
+    fn settle_all(&mut self) -> Result<(), Stop> {
+        for number in 0..self.goal.next_number() {
+            self.settle(number)?;
+        }
+        Ok(())
+    }
+
+    // Locks all objects that have a key in the end, once nobody has to pass.
+    fn lock_all(&mut self) -> Result<(), Stop> {
+        for number in 0..self.goal.next_number() {
+            self.lock(number)?;
+        }
+        Ok(())
+    }
+
+    // Takes away what is gone in the end: first all but rooms, and then the rooms.
+    fn clear(&mut self, rooms: bool) -> Result<(), Stop> {
+        for object in 0..self.goal.next_number() {
+            let is_gone = self.world.exists(object) && !self.goal.exists(object);
+            if is_gone && self.world.is_room(object) == rooms {
+                self.act(DESK, WIZARD, Deed::Recycle { object })?;
+            }
+        }
+        Ok(())
+    }
+
+    // Makes the steps of this time, from this one on, and answers which is the next.
+    fn deliver_at(&mut self, steps: &[Step], from: usize, time: usize) -> Result<usize, Stop> {
+        for at in from..steps.len() {
+            let step = steps[at];
+            if step.time > time {
+                return Ok(at);
+            }
+            self.deliver(step)?;
+        }
+        Ok(steps.len())
+    }
+}
+
+// Builds the world of the entries, which are legal, again.
+fn built(alloc: Global, entries: &[Entry], goal: &World) -> Result<Vec<Entry>, Stop> {
+    let survey = survey_of(alloc, entries)?;
+    let steps = steps_of(alloc, goal, &survey, entries.len())?;
+    let mut site = Site {
+        alloc,
+        goal,
+        world: World::opening(alloc)?,
+        entries: Vec::new(alloc),
+    };
+    site.rename(0)?;
+    site.rename(1)?;
+    let mut next = 0;
+    for (time, entry) in entries.iter().enumerate() {
+        next = site.deliver_at(steps.as_slice(), next, time)?;
+        let here = survey.places.get(time).copied().unwrap_or(0);
+        site.make(entry, here)?;
+    }
+    site.deliver_at(steps.as_slice(), next, entries.len())?;
+    site.settle_all()?;
+    site.lock_all()?;
+    site.clear(false)?;
+    site.clear(true)?;
+    let Site { entries, .. } = site;
+    Ok(entries)
+}
+
+/// A history of the world of the entries that builds it again; none, where that leads nowhere. Nothing is promised of
+/// it: its caller compares the worlds. The only error is out of memory.
+pub fn build_again(
+    alloc: Global,
+    entries: &[Entry],
+    goal: &World,
+) -> Result<Option<Vec<Entry>>, AllocError> {
+    match built(alloc, entries, goal) {
+        Ok(entries) => Ok(Some(entries)),
+        Err(Stop::OutOfMemory) => Err(AllocError),
+        Err(Stop::GivenUp) => Ok(None),
+    }
+}

@@ -1,0 +1,183 @@
+//! A connection, which the two threads of its session share, and what both do with it.
+
+use crate::steps::{Said, end, greet, nudge};
+use mud_hall::{Hall, HallName};
+use mud_house::{Bells, House, Places, rest};
+use mud_talk::{Ending, Entrance, Parting, Talk, Wire};
+use std::alloc::Global;
+use std::sync::atomic::{AtomicBool, Ordering};
+use std::sync::{Arc, Mutex, Wait};
+use std::time::Clock;
+
+/// The house of the hall that `J` names.
+pub type HouseOf<J> = House<Hall<J>, Places<J>, Bells>;
+
+/// A connection: its wire, and its session with the desk, while that lasts. The lock of the session is taken by its
+/// reader thread and its notice thread, and by nobody else.
+#[derive(Drop)]
+pub struct Connection<J: HallName> {
+    wire: Arc<Wire>,
+    talk: Mutex<Option<Talk<J>>>,
+    // Whether a line was answered since the notice thread asked last.
+    was_answered: AtomicBool,
+}
+
+// How often it is tried, a second long, to close a web socket whose session is busy, and how long between two tries.
+const CLOSE_TRIES: u32 = 20;
+
+const CLOSE_MILLISECONDS: u64 = 50;
+
+// How many entries are synced, as far as sessions count.
+pub(crate) fn synced<R: Wait, J: HallName>(rt: &R, house: &HouseOf<J>) -> u32 {
+    u32::try_from(house.gate.synced(rt)).unwrap_or(u32::MAX)
+}
+
+impl<J: HallName> Connection<J> {
+    /// A connection whose session has not begun.
+    pub fn new(wire: Arc<Wire>) -> Connection<J> {
+        Connection {
+            wire,
+            talk: Mutex::new(None),
+            was_answered: AtomicBool::new(false),
+        }
+    }
+
+    /// Its socket.
+    pub(crate) fn wire(&self) -> &Wire {
+        &self.wire
+    }
+
+    /// Its session, under the lock.
+    pub(crate) fn talk(&self) -> &Mutex<Option<Talk<J>>> {
+        &self.talk
+    }
+
+    /// A line was answered, and what others had done was told before.
+    pub(crate) fn note_answer(&self) {
+        self.was_answered.store(true, Ordering::Relaxed);
+    }
+
+    /// Whether a line was answered since this was asked last.
+    pub(crate) fn was_answered(&self) -> bool {
+        self.was_answered.swap(false, Ordering::Relaxed)
+    }
+
+    /// Lets a browser in by this answer to its head; whether it was taken.
+    pub fn let_in<R: Wait + Clock>(&self, rt: &R, answer: &[u8]) -> bool {
+        self.wire.wait_for_ever() && self.wire.let_in(rt, rt, answer)
+    }
+
+    /// Begins the session at a place; the number of its desk. Where memory ran out or no desk is left, there is none.
+    pub fn start<R: Wait>(
+        &self,
+        rt: &R,
+        alloc: Global,
+        house: &HouseOf<J>,
+        at: usize,
+    ) -> Option<u32> {
+        let (talk, number) = greet(rt, alloc, house, self.wire.entrance(), at)?;
+        *self.talk.lock(rt) = Some(talk);
+        Some(number)
+    }
+
+    /// Ends the session: its desk is kept for the next one, and its place is free. The socket is shut first, which ends
+    /// a write that the other thread waits for under the lock.
+    pub fn leave<R: Wait>(&self, rt: &R, house: &HouseOf<J>, at: usize) {
+        self.wire.shut();
+        let talk = self.talk.lock(rt).take();
+        if let Some(talk) = talk {
+            house.keep(rt, at, talk.into_desk());
+        }
+        house.free(rt, at);
+    }
+
+    /// Under the session's lock, sends what it says once what that may name is synced; whether the session goes on.
+    pub(crate) fn send<R: Wait + Clock>(
+        &self,
+        rt: &R,
+        house: &HouseOf<J>,
+        talk: &mut Option<Talk<J>>,
+        said: Said,
+    ) -> bool {
+        let parting = match self.wire.send(rt, rt, &house.gate, said.text) {
+            Ok(()) => said.parting,
+            Err(parting) => Some(parting),
+        };
+        match parting {
+            None => true,
+            Some(Parting::JournalFault) => {
+                self.tell_fault(rt, talk);
+                false
+            }
+            Some(parting) => {
+                self.wire.part(rt, parting);
+                false
+            }
+        }
+    }
+
+    // Under the session's lock, says that the journal takes no more.
+    fn tell_fault<R: Wait>(&self, rt: &R, talk: &mut Option<Talk<J>>) {
+        match self.wire.entrance() {
+            Entrance::Telnet => self.wire.tell_ending(rt, Ending::JournalFault),
+            Entrance::Web => self.close(rt, talk, Parting::JournalFault),
+        }
+    }
+
+    // Under the session's lock, closes its web socket for this reason, or for that for which it has ended.
+    fn close<R: Wait>(&self, rt: &R, talk: &mut Option<Talk<J>>, parting: Parting) {
+        let first = self.wire.part(rt, parting);
+        end(talk, &self.wire, first);
+        self.wire.end_writing();
+    }
+
+    /// The session ends for this reason, unless it has ended for another. A web socket is closed if the session's lock
+    /// is free within a second: who holds it for longer waits for the other side.
+    pub(crate) fn part<R: Wait>(&self, rt: &R, parting: Parting) {
+        self.wire.part(rt, parting);
+        if self.wire.entrance() == Entrance::Telnet {
+            return;
+        }
+        for _ in 0..CLOSE_TRIES {
+            if let Some(mut guard) = self.talk.try_lock() {
+                self.close(rt, &mut guard, parting);
+                return;
+            }
+            rest(rt, CLOSE_MILLISECONDS);
+        }
+    }
+
+    /// Says why all sessions end. By Telnet the socket is shut then; the other side of a web socket closes it.
+    pub(crate) fn tell_ending<R: Wait>(&self, rt: &R, ending: Ending) {
+        match self.wire.entrance() {
+            Entrance::Telnet => {
+                self.wire.tell_ending(rt, ending);
+                self.wire.shut();
+            }
+            Entrance::Web => self.part(rt, Parting::of_all(ending)),
+        }
+    }
+
+    /// Has the session, under its lock, look for what others did up to the `most`-th entry, and sends what it says;
+    /// whether it goes on. The hall's lock isn't taken for it, however much there is.
+    pub(crate) fn catch_up<R: Wait + Clock>(
+        &self,
+        rt: &R,
+        house: &HouseOf<J>,
+        most: u32,
+        talk: &mut Option<Talk<J>>,
+    ) -> bool {
+        match nudge(talk, house, most) {
+            Some(said) => self.send(rt, house, talk, said),
+            None => false,
+        }
+    }
+
+    /// Has the session look for what others did, as far as it is synced, and sends what it says; whether the session
+    /// goes on. How far that is, is asked first: so nothing but the other side is waited for under the session's lock.
+    pub(crate) fn look<R: Wait + Clock>(&self, rt: &R, house: &HouseOf<J>) -> bool {
+        let most = synced(rt, house);
+        let mut guard = self.talk.lock(rt);
+        self.catch_up(rt, house, most, &mut guard)
+    }
+}

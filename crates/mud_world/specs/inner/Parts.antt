@@ -1,0 +1,91 @@
+-- Parts of results, conditions and of what is true of every world.
+use Rattle.std.specs.Prelude.{◌≡◌, ◌≢◌, ℕ, ◌+◌, Bool, false, not, ◌&&◌, ◌||◌, nat_eq, nat_lt, List, Option, Some, None}
+use Rattle.std.specs.Prelude.{IfSome, IsTrue, is_none, if◌then◌else◌}
+use Rattle.std.specs.Option.{option_map_or}
+use Rattle.std.specs.List.{list_any, list_all}
+use Rattle.std.specs.Map.{set_value, remove_entry}
+use Rattle.mud_key.specs.Tree.{Tree, IsKey, objects_of, nots_of, atoms_of}
+use Rattle.mud_key.specs.Names.{AreNames}
+use Rattle.mud_world.specs.declared.record.Kind.TheVariants.{Player}
+use Rattle.mud_world.specs.declared.record.Record.{Record}
+use Rattle.mud_world.specs.declared.change.Change.{Change}
+use Rattle.mud_world.specs.declared.change.Doors.{Doors}
+use Rattle.mud_world.specs.Kinds.{kind_at, kind_costing, kind_needs, is_player_kind}
+use Rattle.mud_world.specs.State.{State, record_at, exists, place_of, is_number, source_of, shares}
+use Rattle.mud_world.specs.Results.{changed}
+use Rattle.mud_world.specs.Legal.{refusal, after}
+
+-- object n, where it exists, has record r
+abbrev pub with_record : State → ℕ → Record → State
+with_record w n r = record w { objects = set_value (nat_eq n) w.objects r }
+
+-- object n is gone
+abbrev pub removed : State → ℕ → State
+removed w n = record w { objects = remove_entry (nat_eq n) w.objects }
+
+-- object n has this place
+abbrev pub moved : State → ℕ → ℕ → State
+moved w n place = changed w n (λ r. record r { kind = kind_at place r.kind })
+
+-- object n has this key, or none
+abbrev pub keyed : State → ℕ → Option (Tree ℕ) → State
+keyed w n key = changed w n (λ r. record r { key = key })
+
+-- object n has this key
+abbrev pub locked : State → ℕ → Tree ℕ → State
+locked w n key = keyed w n (Some key)
+
+-- object n, an exit, costs so much
+abbrev pub costing : State → ℕ → ℕ → State
+costing w n cost = changed w n (λ r. record r { kind = kind_costing cost r.kind })
+
+-- object n has these names
+abbrev pub renamed : State → ℕ → List (List ℕ) → State
+renamed w n names = changed w n (λ r. record r { names = names })
+
+-- it is the hall, #0, or something lies in it, or an exit has an end at it
+abbrev pub in_use : State → ℕ → Bool
+in_use w n = nat_eq n 0 || list_any (λ e. kind_needs n e.1.kind) w.objects
+
+-- so many new objects would have a number above 8,191
+abbrev pub is_full : State → ℕ → Bool
+is_full w count = nat_lt 8192 (w.next + count)
+
+-- an object of the key is missing, or the key has more than 16 objects or 64 `!`
+abbrev pub is_bad_key : State → Tree ℕ → Bool
+is_bad_key w key =
+    list_any (λ o. not (exists w o)) (atoms_of key) || (nat_lt 16 (objects_of key) || nat_lt 64 (nots_of key))
+
+-- the exit leaves the actor's room
+abbrev pub leaves_from : State → ℕ → ℕ → Bool
+leaves_from w actor exit = option_map_or (λ room. is_number room (source_of w exit)) (place_of w actor) false
+
+-- a player has no key
+abbrev pub IsKeyless : Record → Type 0
+IsKeyless r = (place : ℕ) → r.kind ≡ Player place → r.key ≡ None
+
+-- the key, where there is one, is within the limits of keys
+abbrev pub IsLockedWell : Record → Type 0
+IsLockedWell r = IfSome r.key IsKey
+
+-- no two players share a name
+abbrev pub AreNamedApart : State → Type 0
+AreNamedApart w =
+    (a b : ℕ) (r s : Record) → record_at w a ≡ Some r → record_at w b ≡ Some s → a ≢ b
+    → IsTrue (is_player_kind r.kind) → IsTrue (is_player_kind s.kind) → shares r.names s.names ≡ false
+
+-- the names of an exit back, where there is one
+abbrev pub AreBackNames : Option (List (List ℕ)) → Type 0
+AreBackNames back = IfSome back AreNames
+
+-- the names of the exits of a dig
+abbrev pub AreDoors : Option Doors → Type 0
+AreDoors doors = IfSome doors (λ d. AreNames d.out × AreBackNames d.back)
+
+-- the world after a change, which changes nothing where it is not legal
+abbrev pub stepped : State → Change → State
+stepped w e = if is_none (refusal w e) then after w e else w
+
+-- each byte is one from 32 to 126
+abbrev pub is_printable : List ℕ → Bool
+is_printable text = list_all (λ b. not (nat_lt b 32) && not (nat_lt 126 b)) text

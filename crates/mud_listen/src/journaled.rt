@@ -9,7 +9,6 @@ ghost use Rattle.mud_journal.specs.Disk.{Holds, Begins};
 ghost use Rattle.mud_house.specs.Listening.{MayEnd, Settles, SettlesInPart, IsListenFault};
 
 use crate::listen::{is_well_ended, resumed, serve_house};
-use crate::server::Server;
 use log::Log;
 use mud_chron::Entry;
 use mud_ends::Sink;
@@ -20,7 +19,7 @@ use mud_house::{
 };
 use mud_journal::{Disk, Found, Gate, Journal, JournalFault};
 use mud_row::History;
-use mud_threads::HouseOf;
+use mud_threads::{HouseOf, Server};
 use std::alloc::{AllocError, Global};
 use std::io::Write;
 use std::marker::Brand;
@@ -60,63 +59,79 @@ fn write_all<J: HallName, D: Disk + Drop, R: Wait>(
 
 // What the thread that serves the connections is begun with: where they come, and when it ends.
 #[derive(Drop)]
-pub(crate) struct Serving<'s> {
+struct Serving<'s> {
     listeners: Listeners,
     limits: Limits,
     stop: Option<&'s StopSign>,
 }
 
-impl<'s, E, J, R> Server<'s, E, J, R>
+// Serves the connections; whether all were served that were to be. At its end nobody asks for more of the journal.
+fn serve_and_close<'s, E, J, R>(server: &Server<'s, E, J, R>, serving: Serving<'s>) -> bool
 where
     J: HallName + Send + Sync + 's,
     R: Threads + Wait + Log + Clock + Sync + 's,
 {
-    // Serves the connections; whether all were served that were to be. At its end nobody asks for more of the journal.
-    fn serve_and_close(&self, serving: Serving<'s>) -> bool {
-        let Serving {
-            listeners,
-            limits,
-            stop,
-        } = serving;
-        let is_served = serve_house(self.rt, self.alloc, self.house, listeners, limits, stop);
-        self.house.gate.close(self.rt);
-        is_served
-    }
+    let Serving {
+        listeners,
+        limits,
+        stop,
+    } = serving;
+    let is_served = serve_house(
+        server.rt,
+        server.alloc,
+        server.house,
+        listeners,
+        limits,
+        stop,
+    );
+    server.house.gate.close(server.rt);
+    is_served
+}
 
-    // Begins the thread that serves the connections.
-    fn begin_serving(&self, serving: Serving<'s>) -> Option<JoinHandle<bool>> {
-        let server = self.again();
-        let begun = self.scope.spawn(move || server.serve_and_close(serving));
-        begun.ok()
-    }
+// Begins the thread that serves the connections.
+fn begin_serving<'s, E, J, R>(
+    server: &Server<'s, E, J, R>,
+    serving: Serving<'s>,
+) -> Option<JoinHandle<bool>>
+where
+    J: HallName + Send + Sync + 's,
+    R: Threads + Wait + Log + Clock + Sync + 's,
+{
+    let other = server.again();
+    let begun = server.scope.spawn(move || serve_and_close(&other, serving));
+    begun.ok()
+}
 
-    // Begins the thread that serves the connections, writes the journal, and waits until that thread has ended; the
-    // journal, and whether all were served that were to be.
-    fn serve_and_write<D: Disk + Drop>(
-        &self,
-        listeners: Listeners,
-        limits: Limits,
-        stop: Option<&'s StopSign>,
-        scribe: Scribe<J, D>,
-    ) -> Result<(Scribe<J, D>, bool), ListenFault>
-        ensures longer { IfOk result (λ s. IsPrefix scribe.entries s.0.entries) }
-        ensures fault { IfErr result (λ f. (capacity : ℕ) (loaded : List Entry) (old new : Writer)
-            → IsListenFault capacity loaded old new f) }
-    {
-        let serving = Serving {
-            listeners,
-            limits,
-            stop,
-        };
-        let Some(begun) = self.begin_serving(serving) else {
-            return Err(ListenFault::OutOfMemory);
-        };
-        let mut scribe = scribe;
-        let written = write_all(self.rt, self.house, &mut scribe);
-        let is_served = begun.join(self.rt);
-        written?;
-        Ok((scribe, is_served))
-    }
+// Begins the thread that serves the connections, writes the journal, and waits until that thread has ended; the
+// journal, and whether all were served that were to be.
+fn serve_and_write<'s, E, J, D, R>(
+    server: &Server<'s, E, J, R>,
+    listeners: Listeners,
+    limits: Limits,
+    stop: Option<&'s StopSign>,
+    scribe: Scribe<J, D>,
+) -> Result<(Scribe<J, D>, bool), ListenFault>
+where
+    J: HallName + Send + Sync + 's,
+    D: Disk + Drop,
+    R: Threads + Wait + Log + Clock + Sync + 's,
+    ensures longer { IfOk result (λ s. IsPrefix scribe.entries s.0.entries) }
+    ensures fault { IfErr result (λ f. (capacity : ℕ) (loaded : List Entry) (old new : Writer)
+        → IsListenFault capacity loaded old new f) }
+{
+    let serving = Serving {
+        listeners,
+        limits,
+        stop,
+    };
+    let Some(begun) = begin_serving(server, serving) else {
+        return Err(ListenFault::OutOfMemory);
+    };
+    let mut scribe = scribe;
+    let written = write_all(server.rt, server.house, &mut scribe);
+    let is_served = begun.join(server.rt);
+    written?;
+    Ok((scribe, is_served))
 }
 
 // Serves the connections in other threads, and writes the journal in this one.
@@ -144,7 +159,7 @@ fn serve_journaled<
             alloc,
             house,
         };
-        server.serve_and_write(listeners, limits, stop, scribe)
+        serve_and_write(&server, listeners, limits, stop, scribe)
     })
 }
 

@@ -19,11 +19,8 @@
 //! is served at all, that a change wakes anybody or that a desk is handed back: tests show it.
 #![tactic(auto)]
 
-mod browsers;
-mod closing;
 mod journaled;
 mod listen;
-mod server;
 
 pub use journaled::listen_journaled;
 pub use listen::listen_on;

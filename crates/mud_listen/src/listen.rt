@@ -6,35 +6,24 @@ ghost use Rattle.mud_ends.specs.Ends.{Writer};
 ghost use Rattle.mud_chron.specs.Entry.{Entry};
 ghost use Rattle.mud_house.specs.Listening.{MayEnd, Settles, SettlesInPart, IsListenFault};
 
-use crate::closing::see_out;
-use crate::server::{Begun, Server};
 use log::Log;
 use mud_chron::Entry;
 use mud_ends::Sink;
 use mud_hall::{HallName, LoadFault, NewHall};
 use mud_house::{
-    Arrival, Arrivals, Doors, House, Limits, ListenFault, Listeners, NoPlace, Site, StopSign,
-    settle, write_entries, write_ports,
+    Arrival, Arrivals, Doors, House, Limits, ListenFault, Listeners, Site, StopSign, settle,
+    write_entries, write_ports,
 };
 use mud_journal::Gate;
 use mud_row::History;
-use mud_talk::{Entrance, Wire, set_up};
-use mud_threads::HouseOf;
+use mud_threads::{HouseOf, Server, see_out};
 use std::alloc::Global;
 use std::io::Write;
 use std::marker::Brand;
-use std::net::{Shutdown, SocketAddr, TcpStream};
-use std::sync::{Arc, Wait};
+use std::sync::Wait;
 use std::thread;
 use std::thread::{Scope, Threads};
 use std::time::Clock;
-
-// Refuses a connection for which there is no place.
-fn refuse(stream: TcpStream, no_place: NoPlace) {
-    let mut stream = stream;
-    let _ = stream.write_all(no_place.line().as_bytes());
-    let _ = stream.shutdown(Shutdown::Both);
-}
 
 // Whether there is a sign, and it is set.
 fn is_set(stop: Option<&StopSign>) -> bool
@@ -56,80 +45,34 @@ fn is_done(stop: Option<&StopSign>, total: u32, count: u32) -> bool
     }
 }
 
-impl<'s, E, J, R> Server<'s, E, J, R>
+// Takes connections until no session may begin any more, and closes the listeners; whether it came to that. If not, one
+// of them can never give a connection again, or the journal takes no more. A connection that is taken after the sign
+// was set is none.
+fn accept_all<'s, E, J, R>(
+    server: &Server<'s, E, J, R>,
+    arrivals: Arrivals,
+    limits: Limits,
+    stop: Option<&StopSign>,
+) -> bool
 where
     J: HallName + Send + Sync + 's,
     R: Threads + Wait + Log + Clock + Sync + 's,
+    ensures { IsTrue result → IfNone stop.entry (0 < limits.total) }
 {
-    // Begins a session by Telnet at the place; whether it did.
-    fn begin(&self, at: usize, stream: TcpStream) -> bool {
-        let (rt, house) = (self.rt, self.house);
-        let opened = match Arc::new(self.alloc, Wire::new(stream, Entrance::Telnet)) {
-            Ok(wire) => self.open(at, wire),
-            Err(_) => None,
-        };
-        let Some(begun) = opened else {
-            house.free(rt, at);
-            return false;
-        };
-        let Begun {
-            kept,
-            reads,
-            tells,
-            sleeper,
-            number,
-        } = begun;
-        let has_begun = self.begin_telling(tells, sleeper) && self.begin_reading(reads, at, number);
-        if !has_begun {
-            kept.leave(rt, house, at);
+    let mut arrivals = arrivals;
+    for _ in server.rt.forever() {
+        if is_done(stop, limits.total, server.counted()) {
+            return true;
         }
-        has_begun
-    }
-
-    // Serves a connection by Telnet, or refuses it where there is no place for it.
-    fn welcome(&self, stream: TcpStream, peer: SocketAddr) {
-        if !set_up(&stream) {
-            return;
-        }
-        match self.admit(peer.ip()) {
-            Ok(at) => {
-                let has_begun = self.begin(at, stream);
-                self.house.lobby.settle(&self.house.limits, has_begun);
-            }
-            Err(no_place) => refuse(stream, no_place),
+        match arrivals.next(server.rt) {
+            Arrival::Never => return false,
+            _ if server.house.gate.has_failed(server.rt) => return false,
+            Arrival::Telnet(stream, peer) if !is_set(stop) => server.welcome(stream, peer),
+            Arrival::Web(stream, peer) if !is_set(stop) => server.receive(stream, peer),
+            _ => continue,
         }
     }
-
-    // How many sessions count for the total.
-    fn counted(&self, limits: Limits) -> u32 {
-        if limits.counts_players {
-            self.house.players()
-        } else {
-            self.house.lobby.begun()
-        }
-    }
-
-    // Takes connections until no session may begin any more, and closes the listeners; whether it came to that. If not,
-    // one of them can never give a connection again, or the journal takes no more. A connection that is taken after the
-    // sign was set is none.
-    fn accept_all(&self, arrivals: Arrivals, limits: Limits, stop: Option<&StopSign>) -> bool
-        ensures { IsTrue result → IfNone stop.entry (0 < limits.total) }
-    {
-        let mut arrivals = arrivals;
-        for _ in self.rt.forever() {
-            if is_done(stop, limits.total, self.counted(limits)) {
-                return true;
-            }
-            match arrivals.next(self.rt) {
-                Arrival::Never => return false,
-                _ if self.house.gate.has_failed(self.rt) => return false,
-                Arrival::Telnet(stream, peer) if !is_set(stop) => self.welcome(stream, peer),
-                Arrival::Web(stream, peer) if !is_set(stop) => self.receive(stream, peer),
-                _ => continue,
-            }
-        }
-        unreachable!()
-    }
+    unreachable!()
 }
 
 // Takes connections as long as it may, and sees the sessions out.
@@ -153,7 +96,7 @@ where
         alloc,
         house,
     };
-    let is_served = server.accept_all(arrivals, limits, stop);
+    let is_served = accept_all(&server, arrivals, limits, stop);
     house.lobby.close(rt);
     see_out(rt, house, stop);
     is_served

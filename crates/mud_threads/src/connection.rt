@@ -15,7 +15,7 @@ pub type HouseOf<J> = House<Hall<J>, Places<J>, Bells>;
 /// A connection: its wire, and its session with the desk, while that lasts. The lock of the session is taken by its
 /// reader thread and its notice thread, and by nobody else.
 #[derive(Drop)]
-pub struct Connection<J: HallName> {
+pub(crate) struct Connection<J: HallName> {
     wire: Arc<Wire>,
     talk: Mutex<Option<Talk<J>>>,
     // Whether a line was answered since the notice thread asked last.
@@ -34,7 +34,7 @@ pub(crate) fn synced<R: Wait, J: HallName>(rt: &R, house: &HouseOf<J>) -> u32 {
 
 impl<J: HallName> Connection<J> {
     /// A connection whose session has not begun.
-    pub fn new(wire: Arc<Wire>) -> Connection<J> {
+    pub(crate) fn new(wire: Arc<Wire>) -> Connection<J> {
         Connection {
             wire,
             talk: Mutex::new(None),
@@ -63,12 +63,12 @@ impl<J: HallName> Connection<J> {
     }
 
     /// Lets a browser in by this answer to its head; whether it was taken.
-    pub fn let_in<R: Wait + Clock>(&self, rt: &R, answer: &[u8]) -> bool {
+    pub(crate) fn let_in<R: Wait + Clock>(&self, rt: &R, answer: &[u8]) -> bool {
         self.wire.wait_for_ever() && self.wire.let_in(rt, rt, answer)
     }
 
     /// Begins the session at a place; the number of its desk. Where memory ran out or no desk is left, there is none.
-    pub fn start<R: Wait>(
+    pub(crate) fn start<R: Wait>(
         &self,
         rt: &R,
         alloc: Global,
@@ -82,7 +82,7 @@ impl<J: HallName> Connection<J> {
 
     /// Ends the session: its desk is kept for the next one, and its place is free. The socket is shut first, which ends
     /// a write that the other thread waits for under the lock.
-    pub fn leave<R: Wait>(&self, rt: &R, house: &HouseOf<J>, at: usize) {
+    pub(crate) fn leave<R: Wait>(&self, rt: &R, house: &HouseOf<J>, at: usize) {
         self.wire.shut();
         let talk = self.talk.lock(rt).take();
         if let Some(talk) = talk {

@@ -1,19 +1,23 @@
-//! The two threads of a session: the reader thread, which serves what comes, and the notice thread, which tells what
-//! others did.
+//! The threads of a server, but for the one that takes connections and the one that writes a journal.
 //!
-//! Both have one [`Connection`]: its wire, and its session with the desk, under a lock that nobody else takes.
-//! [`read_all`] is what a reader thread does, and [`tell_all`] what a notice thread does. `mud_listen` begins them.
-//! docs/SERVER.md says what they lock and who wakes whom.
+//! A [`Server`] is what each thread that begins others has. It lets somebody in by Telnet (`welcome`), or has a browser
+//! heard, which may come to play (`receive`). A session has two threads with one connection between them: the reader
+//! thread, which serves what comes, and the notice thread, which tells what others did. [`see_out`] waits until all
+//! have ended. docs/SERVER.md says what they lock and who wakes whom.
 //!
 //! No contract says what a thread does: tests show it. Proved is that none can come to a fault, and, by the contracts
 //! of `mud_talk`, what a session makes of the bytes that it is given.
 #![tactic(auto)]
 
+mod browsers;
+mod closing;
 mod connection;
 mod notice;
 mod reader;
+mod server;
 mod steps;
+mod telnet;
 
-pub use connection::{Connection, HouseOf};
-pub use notice::{Sleeper, tell_all};
-pub use reader::read_all;
+pub use closing::see_out;
+pub use connection::HouseOf;
+pub use server::Server;

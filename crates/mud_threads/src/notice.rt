@@ -16,8 +16,8 @@ const LISTENER_MILLISECONDS: u64 = 1;
 
 /// What a notice thread sleeps on until a bell wakes it.
 #[derive(Drop)]
-pub struct Sleeper {
-    pub parker: Parker,
+pub(crate) struct Sleeper {
+    pub(crate) parker: Parker,
 }
 
 // How long the notice thread of a session rests.
@@ -34,7 +34,7 @@ fn rest_of<J: HallName>(connection: &Connection<J>) -> u64 {
 ///
 /// Whether all sessions end is looked for before the first sleep, too: who is woken for that is known by then. While it
 /// rests, a wake-up is kept and costs whoever wakes it no call: so what is done in a busy world is told together.
-pub fn tell_all<J: HallName, R: Wait + Clock>(
+pub(crate) fn tell_all<J: HallName, R: Wait + Clock>(
     rt: &R,
     house: &HouseOf<J>,
     connection: &Connection<J>,

@@ -185,7 +185,7 @@ impl<'a, J: HallName, R: Threads + Wait + Log + Clock + Sync> Reading<'a, J, R> 
 
 /// The reader thread of the session at a place, at the desk of this number: it sends the greeting, gives the session
 /// what came already and all that comes, and brings it down.
-pub fn read_all<'a, J: HallName, R: Threads + Wait + Log + Clock + Sync>(
+pub(crate) fn read_all<'a, J: HallName, R: Threads + Wait + Log + Clock + Sync>(
     rt: &'a R,
     alloc: Global,
     house: &'a HouseOf<J>,

@@ -1,9 +1,8 @@
 use denote.Param.Send.{sendable}
 use Rattle.std.proofs.Crossing.{crosses}
 use Rattle.mud_threads.proofs.notice.Sleeper.TheSendSync as sleeper
-use Rattle.mud_threads.proofs.Crosses.{connection_send, connection_sync}
-use Rattle.mud_listen.proofs.Crosses.{server_send}
-use Rattle.mud_listen.proofs.server.Server.begin_telling.Goals as goal
+use Rattle.mud_threads.proofs.Crosses.{connection_send, connection_sync, server_send}
+use Rattle.mud_threads.proofs.server.Server.begin_telling.Goals as goal
 
 pub spawn-telling-requires-send-F : goal.spawn-telling-requires-send-F
 spawn-telling-requires-send-F g c κs within =

@@ -77,7 +77,7 @@ where
     }
 
     /// Begins a thread that hears a browser; without a chair in the lobby it is sent away.
-    pub(crate) fn receive(&self, stream: TcpStream, peer: SocketAddr) {
+    pub fn receive(&self, stream: TcpStream, peer: SocketAddr) {
         let Some((wire, chair)) = self.received(stream) else {
             return;
         };

@@ -1,11 +1,13 @@
 //! What the threads of a server are begun with, and how a session begins.
 
+use crate::connection::{Connection, HouseOf};
+use crate::notice::{Sleeper, tell_all};
+use crate::reader::read_all;
 use crossbeam_utils::sync::Parker;
 use log::Log;
 use mud_hall::HallName;
 use mud_house::{Bell, NoPlace};
 use mud_talk::Wire;
-use mud_threads::{Connection, HouseOf, Sleeper, read_all, tell_all};
 use std::alloc::Global;
 use std::net::IpAddr;
 use std::sync::{Arc, Wait};
@@ -15,11 +17,11 @@ use std::time::Clock;
 /// What each thread of a server that begins others has: the scope in which they run, the handle by which, memory, and
 /// the house that all share.
 #[derive(Drop)]
-pub(crate) struct Server<'s, E, J: HallName, R> {
-    pub(crate) scope: &'s Scope<'s, E>,
-    pub(crate) rt: &'s R,
-    pub(crate) alloc: Global,
-    pub(crate) house: &'s HouseOf<J>,
+pub struct Server<'s, E, J: HallName, R> {
+    pub scope: &'s Scope<'s, E>,
+    pub rt: &'s R,
+    pub alloc: Global,
+    pub house: &'s HouseOf<J>,
 }
 
 /// What the threads of a new session are given.
@@ -38,7 +40,7 @@ where
     R: Threads + Wait + Log + Clock + Sync + 's,
 {
     /// The same, for a thread that is begun.
-    pub(crate) fn again(&self) -> Server<'s, E, J, R> {
+    pub fn again(&self) -> Server<'s, E, J, R> {
         let Server {
             scope,
             rt,
@@ -50,6 +52,15 @@ where
             rt,
             alloc,
             house,
+        }
+    }
+
+    /// How many sessions count for the total.
+    pub fn counted(&self) -> u32 {
+        if self.house.limits.counts_players {
+            self.house.players()
+        } else {
+            self.house.lobby.begun()
         }
     }
 

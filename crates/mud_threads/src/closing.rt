@@ -1,9 +1,9 @@
 //! How the sessions end once no connection is taken any more.
 
+use crate::connection::HouseOf;
 use mud_hall::HallName;
 use mud_house::{StopSign, rest};
 use mud_talk::Ending;
-use mud_threads::HouseOf;
 use std::sync::Wait;
 
 // How long the server waits between two looks at its sessions.
@@ -14,7 +14,7 @@ const LAST_LOOKS: u32 = 40;
 
 /// Waits until no session is left. Once the server is to end or the journal takes no more, the sessions are to end,
 /// too: a socket that is not shut two seconds later is shut then.
-pub(crate) fn see_out<J: HallName, R: Wait>(rt: &R, house: &HouseOf<J>, stop: Option<&StopSign>) {
+pub fn see_out<J: HallName, R: Wait>(rt: &R, house: &HouseOf<J>, stop: Option<&StopSign>) {
     if stop.is_none() && house.gate.is_open() {
         return;
     }

@@ -2,8 +2,8 @@ use denote.Param.Send.{sendable}
 use Rattle.std.proofs.Crossing.{crosses}
 use Rattle.std.proofs.net.ip_addr.IpAddr.TheSendSync as address
 use Rattle.mud_talk.proofs.wire.Wire.TheSendSync as wire
-use Rattle.mud_listen.proofs.Crosses.{server_send}
-use Rattle.mud_listen.proofs.server.Server.receive.Goals as goal
+use Rattle.mud_threads.proofs.Crosses.{server_send}
+use Rattle.mud_threads.proofs.server.Server.receive.Goals as goal
 
 pub spawn-hearing-requires-send-F : goal.spawn-hearing-requires-send-F
 spawn-hearing-requires-send-F g c κs within =

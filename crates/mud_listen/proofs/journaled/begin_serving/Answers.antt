@@ -1,7 +1,8 @@
 use denote.Param.Send.{sendable}
 use Rattle.std.proofs.Crossing.{crosses}
-use Rattle.mud_listen.proofs.Crosses.{server_send, serving_send}
-use Rattle.mud_listen.proofs.server.Server.begin_serving.Goals as goal
+use Rattle.mud_threads.proofs.Crosses.{server_send}
+use Rattle.mud_listen.proofs.Crosses.{serving_send}
+use Rattle.mud_listen.proofs.journaled.begin_serving.Goals as goal
 
 pub spawn-begun-requires-send-F : goal.spawn-begun-requires-send-F
 spawn-begun-requires-send-F g c κs within =

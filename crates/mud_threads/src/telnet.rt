@@ -1,0 +1,64 @@
+//! Those who come by Telnet: each has a session at once, or is refused.
+
+use crate::server::{Begun, Server};
+use log::Log;
+use mud_hall::HallName;
+use mud_house::NoPlace;
+use mud_talk::{Entrance, Wire, set_up};
+use std::io::Write;
+use std::net::{Shutdown, SocketAddr, TcpStream};
+use std::sync::{Arc, Wait};
+use std::thread::Threads;
+use std::time::Clock;
+
+// Refuses a connection for which there is no place.
+fn refuse(stream: TcpStream, no_place: NoPlace) {
+    let mut stream = stream;
+    let _ = stream.write_all(no_place.line().as_bytes());
+    let _ = stream.shutdown(Shutdown::Both);
+}
+
+impl<'s, E, J, R> Server<'s, E, J, R>
+where
+    J: HallName + Send + Sync + 's,
+    R: Threads + Wait + Log + Clock + Sync + 's,
+{
+    // Begins a session by Telnet at the place; whether it did.
+    fn begin(&self, at: usize, stream: TcpStream) -> bool {
+        let (rt, house) = (self.rt, self.house);
+        let opened = match Arc::new(self.alloc, Wire::new(stream, Entrance::Telnet)) {
+            Ok(wire) => self.open(at, wire),
+            Err(_) => None,
+        };
+        let Some(begun) = opened else {
+            house.free(rt, at);
+            return false;
+        };
+        let Begun {
+            kept,
+            reads,
+            tells,
+            sleeper,
+            number,
+        } = begun;
+        let has_begun = self.begin_telling(tells, sleeper) && self.begin_reading(reads, at, number);
+        if !has_begun {
+            kept.leave(rt, house, at);
+        }
+        has_begun
+    }
+
+    /// Serves a connection by Telnet, or refuses it where there is no place for it.
+    pub fn welcome(&self, stream: TcpStream, peer: SocketAddr) {
+        if !set_up(&stream) {
+            return;
+        }
+        match self.admit(peer.ip()) {
+            Ok(at) => {
+                let has_begun = self.begin(at, stream);
+                self.house.lobby.settle(&self.house.limits, has_begun);
+            }
+            Err(no_place) => refuse(stream, no_place),
+        }
+    }
+}

@@ -52,8 +52,20 @@ def copy(folder):
         shutil.copy2(edit, must_fail)
 
 
-@part("plantable", "each wrong body can be planted: what it takes away stands once in its file")
+def promises(crate):
+    """Whether a contract of the crate says what a call answers or leaves."""
+    return any("ensures" in file_text(path) for path in glob.glob(f"{TOP}/crates/{crate}/src/**/*.rt", recursive=True))
+
+
+def is_tried(crate):
+    """Whether the gate plants a wrong body of the crate. The crate of the tests needs none: nobody calls it."""
+    return crate == "mud_tests" or bool(glob.glob(f"{TOP}/crates/{crate}/must-fail/*.edit"))
+
+
+@part("plantable", "each wrong body can be planted: what it takes away stands once in its file; no promise is without")
 def plantable(count):
+    for crate in sorted(os.listdir(f"{TOP}/crates")):
+        count(f"plantable: {crate}", is_tried(crate) or not promises(crate), "the gate plants no wrong body of it")
     for edit in edits():
         faults = unplantable(edit)
         count(f"plantable: {os.path.relpath(edit, FOLDER)}", not faults, "; ".join(faults))

@@ -62,7 +62,7 @@ def is_tried(crate):
     return crate == "mud_tests" or bool(glob.glob(f"{TOP}/crates/{crate}/must-fail/*.edit"))
 
 
-@part("plantable", "each wrong body can be planted: what it takes away stands once in its file; no promise is without")
+@part("plantable", "each wrong body can be planted, and each crate that promises something has one in the gate")
 def plantable(count):
     for crate in sorted(os.listdir(f"{TOP}/crates")):
         count(f"plantable: {crate}", is_tried(crate) or not promises(crate), "the gate plants no wrong body of it")

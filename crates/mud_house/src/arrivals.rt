@@ -6,7 +6,7 @@ use crate::ready::wait_for_either;
 use crate::resting::rest;
 use libc::{EBADF, EINVAL, ENOTSOCK};
 use log::{Log, warn};
-use mud_talk::Entrance;
+use mud_wire::Entrance;
 use std::io::{Error, ErrorKind};
 use std::net::{SocketAddr, TcpListener, TcpStream};
 use std::sync::Wait;

@@ -10,7 +10,7 @@ use crossbeam_utils::sync::Unparker;
 use log::{Log, warn};
 use mud_hall::{Desk, Fault, Hall, HallName};
 use mud_journal::Gate;
-use mud_talk::{Ending, Parting, Wire};
+use mud_wire::{Ending, Parting, Wire};
 use std::alloc::{AllocError, Global};
 use std::net::IpAddr;
 use std::sync::atomic::{AtomicBool, AtomicU32, Ordering};

@@ -2,7 +2,7 @@
 
 use crate::doors::Site;
 use crate::limits::Limits;
-use mud_talk::Wire;
+use mud_wire::Wire;
 use std::alloc::{AllocError, Global};
 use std::sync::atomic::{AtomicBool, AtomicU32, Ordering};
 use std::sync::{Arc, Mutex, Wait};

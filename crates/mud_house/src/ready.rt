@@ -3,7 +3,7 @@
 use crate::options::ACCEPT_MILLISECONDS;
 use libc::net::{POLLIN, poll};
 use libc::types::pollfd;
-use mud_talk::Entrance;
+use mud_wire::Entrance;
 use std::net::TcpListener;
 use std::os::fd::AsRawFd;
 

@@ -1,7 +1,7 @@
 //! What a step of a session gives.
 
-use crate::parting::Parting;
 use mud_journal::{Held, Telling};
+use mud_wire::Parting;
 
 /// What sessions send: it names no version above a number.
 pub struct Sayings;

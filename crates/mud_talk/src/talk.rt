@@ -2,12 +2,11 @@
 
 ghost use Rattle.std.specs.Prelude.{◌≤◌};
 
-use crate::parting::Parting;
 use crate::step::Step;
 use crate::telnet_talk::TelnetTalk;
 use crate::web_talk::WebTalk;
-use crate::wire::Wire;
 use mud_hall::{Desk, Hall, HallName};
+use mud_wire::{Parting, Wire};
 use std::sync::Wait;
 use std::thread::Threads;
 

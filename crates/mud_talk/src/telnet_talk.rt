@@ -5,12 +5,12 @@ ghost use Rattle.mud_nvt.specs.History.{StandsAfter};
 ghost use Rattle.mud_session.specs.Laws.{NamesSeen};
 ghost use Rattle.mud_session.specs.Session.{sent};
 
-use crate::parting::Parting;
 use crate::step::{Sayings, Step};
 use mud_hall::{Desk, Hall, HallName};
 use mud_journal::Held;
 use mud_session::laws::nothing_beyond;
 use mud_session::{Seat, Session, SessionFault};
+use mud_wire::Parting;
 use std::sync::Wait;
 use std::thread::Threads;
 

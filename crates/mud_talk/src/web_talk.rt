@@ -5,14 +5,14 @@ ghost use Rattle.mud_session.specs.Session.{sent};
 ghost use Rattle.mud_web_session.specs.Web.{StandsAfter, has_ended};
 ghost use Rattle.mud_talk.specs.Sayings.{LeavesUpTo, SitsOnWeb};
 
-use crate::parting::Parting;
 use crate::step::{Sayings, Step};
 use mud_hall::{Desk, Hall, HallName};
 use mud_journal::Held;
 use mud_session::Seat;
 use mud_session::laws::nothing_beyond;
 use mud_web::{Ending as Close, Fault};
-use mud_web_session::WebSession;
+use mud_web_session::{WebFault, WebSession};
+use mud_wire::Parting;
 use std::alloc::Global;
 use std::sync::Wait;
 use std::thread::Threads;
@@ -24,6 +24,15 @@ pub struct WebTalk<J: HallName> {
     web: WebSession,
     desk: Desk<J>,
     ghost sits: { ∥ (has_ended web ≡ false → SitsOnWeb web desk.state) ∥₁ },
+}
+
+// What ended a session over a web socket.
+fn parting_of(fault: &WebFault) -> Parting {
+    match fault {
+        WebFault::OutOfMemory => Parting::OutOfMemory,
+        WebFault::Over(error) => Parting::of_error(error),
+        WebFault::NotText | WebFault::Ended => Parting::Left,
+    }
 }
 
 // Adds what the other side is told at the end, if it is told something.
@@ -205,7 +214,7 @@ impl<J: HallName> WebTalk<J> {
         nothing_beyond();
         match web.answer(rt, &mut seat, typed, &mut out) {
             Ok(()) => WebTalk::told(alloc, web, seat, out, before),
-            Err(fault) => WebTalk::silenced(alloc, web, seat, out, before, Parting::of_web(&fault)),
+            Err(fault) => WebTalk::silenced(alloc, web, seat, out, before, parting_of(&fault)),
         }
     }
 
@@ -228,7 +237,7 @@ impl<J: HallName> WebTalk<J> {
         nothing_beyond();
         match web.nudge(&mut seat, &mut out) {
             Ok(()) => WebTalk::told(alloc, web, seat, out, before),
-            Err(fault) => WebTalk::silenced(alloc, web, seat, out, before, Parting::of_web(&fault)),
+            Err(fault) => WebTalk::silenced(alloc, web, seat, out, before, parting_of(&fault)),
         }
     }
 

@@ -3,7 +3,7 @@
 use crate::server::{Begun, Server};
 use log::Log;
 use mud_hall::HallName;
-use mud_talk::{Entrance, Heard, Wire, hear, refuse, set_up};
+use mud_wire::{Entrance, Heard, Wire, hear, refuse, set_up};
 use std::net::{IpAddr, SocketAddr, TcpStream};
 use std::sync::{Arc, Wait};
 use std::thread::Threads;

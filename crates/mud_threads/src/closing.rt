@@ -3,7 +3,7 @@
 use crate::connection::HouseOf;
 use mud_hall::HallName;
 use mud_house::{StopSign, rest};
-use mud_talk::Ending;
+use mud_wire::Ending;
 use std::sync::Wait;
 
 // How long the server waits between two looks at its sessions.

@@ -3,7 +3,8 @@
 use crate::steps::{Said, end, greet, nudge};
 use mud_hall::{Hall, HallName};
 use mud_house::{Bells, House, Places, rest};
-use mud_talk::{Ending, Entrance, Parting, Talk, Wire};
+use mud_talk::Talk;
+use mud_wire::{Ending, Entrance, Parting, Wire};
 use std::alloc::Global;
 use std::sync::atomic::{AtomicBool, Ordering};
 use std::sync::{Arc, Mutex, Wait};

@@ -4,7 +4,7 @@ use crate::connection::{Connection, HouseOf};
 use crossbeam_utils::sync::Parker;
 use mud_hall::HallName;
 use mud_house::rest;
-use mud_talk::Parting;
+use mud_wire::Parting;
 use std::sync::Wait;
 use std::time::Clock;
 

@@ -7,7 +7,7 @@ use crossbeam_utils::sync::Parker;
 use log::Log;
 use mud_hall::HallName;
 use mud_house::{Bell, NoPlace};
-use mud_talk::Wire;
+use mud_wire::Wire;
 use std::alloc::Global;
 use std::net::IpAddr;
 use std::sync::{Arc, Wait};

@@ -4,7 +4,7 @@ use crate::server::{Begun, Server};
 use log::Log;
 use mud_hall::HallName;
 use mud_house::NoPlace;
-use mud_talk::{Entrance, Wire, set_up};
+use mud_wire::{Entrance, Wire, set_up};
 use std::io::Write;
 use std::net::{Shutdown, SocketAddr, TcpStream};
 use std::sync::{Arc, Wait};

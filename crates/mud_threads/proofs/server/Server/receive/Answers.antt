@@ -1,7 +1,7 @@
 use denote.Param.Send.{sendable}
 use Rattle.std.proofs.Crossing.{crosses}
 use Rattle.std.proofs.net.ip_addr.IpAddr.TheSendSync as address
-use Rattle.mud_talk.proofs.wire.Wire.TheSendSync as wire
+use Rattle.mud_wire.proofs.wire.Wire.TheSendSync as wire
 use Rattle.mud_threads.proofs.Crosses.{server_send}
 use Rattle.mud_threads.proofs.server.Server.receive.Goals as goal
 

@@ -5,8 +5,7 @@ ghost use Rattle.std.specs.Prelude.{◌≤◌, length, IfOk};
 use crate::options::probe;
 use crate::parting::{Ending, Parting};
 use crate::patience::{Patience, now};
-use crate::step::Sayings;
-use mud_journal::{Gate, Held};
+use mud_journal::{Gate, Held, Telling};
 use std::io::{ErrorKind, Read, Write};
 use std::net::{IpAddr, Ipv4Addr, Shutdown, SocketAddr, TcpStream};
 use std::sync::{Mutex, Wait};
@@ -128,12 +127,12 @@ impl Wire {
     }
 
     /// Sends all of a text, once what it may name is synced; what ended the session, if it was not taken.
-    pub fn send<R: Wait, C: Clock>(
+    pub fn send<R: Wait, C: Clock, T: Telling>(
         &self,
         rt: &R,
         clock: &C,
         gate: &Gate,
-        text: Held<Sayings>,
+        text: Held<T>,
     ) -> Result<(), Parting> {
         if text.is_empty() {
             return Ok(());

@@ -3,8 +3,8 @@ use Rattle.std.specs.Prelude.{◌≡◌, ℕ, List, [], drop}
 use Rattle.websocket.specs.Handshake.{response_bytes}
 use Rattle.mud_web.specs.declared.asking.Asked.TheVariants as Asked
 use Rattle.mud_web.specs.Asking.{LetsIn}
-use Rattle.mud_talk.specs.declared.head.Heard.{Heard}
-use Rattle.mud_talk.specs.declared.head.Heard.TheVariants.{Page, Play, Refused, Gone}
+use Rattle.mud_wire.specs.declared.head.Heard.{Heard}
+use Rattle.mud_wire.specs.declared.head.Heard.TheVariants.{Page, Play, Refused, Gone}
 
 -- who plays sent a head that is let in; what is answered is the key's answer, and the rest is what came after it
 abbrev pub WasLetIn : Heard → (origin : List ℕ) → Type 0

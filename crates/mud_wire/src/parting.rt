@@ -1,7 +1,6 @@
 //! What ends a session.
 
 use mud_web::{Ending as Close, Fault};
-use mud_web_session::WebFault;
 use thiserror::Error;
 use websocket::error;
 
@@ -79,15 +78,6 @@ impl Parting {
             Fault::OutOfMemory => Parting::OutOfMemory,
             Fault::Over(error) => Parting::of_error(error),
             Fault::Ended => Parting::Left,
-        }
-    }
-
-    /// What ended a session over a web socket.
-    pub fn of_web(fault: &WebFault) -> Parting {
-        match fault {
-            WebFault::OutOfMemory => Parting::OutOfMemory,
-            WebFault::Over(error) => Parting::of_error(error),
-            WebFault::NotText | WebFault::Ended => Parting::Left,
         }
     }
 

@@ -8,11 +8,8 @@ use mud_wire::Parting;
 use std::sync::Wait;
 use std::time::Clock;
 
-// How long it rests between two looks at what others did, where the player's own lines bring him notices, and where he
-// only listens.
-const TALKER_MILLISECONDS: u64 = 2;
-
-const LISTENER_MILLISECONDS: u64 = 1;
+// How long it rests after each look at what others did.
+const REST_MILLISECONDS: u64 = 1;
 
 /// What a notice thread sleeps on until a bell wakes it.
 #[derive(Drop)]
@@ -20,12 +17,18 @@ pub(crate) struct Sleeper {
     pub(crate) parker: Parker,
 }
 
-// How long the notice thread of a session rests.
-fn rest_of<J: HallName>(connection: &Connection<J>) -> u64 {
-    if connection.was_answered() {
-        TALKER_MILLISECONDS
-    } else {
-        LISTENER_MILLISECONDS
+// Waits while the player's own lines bring him what others did, which saves a text of its own: until none was answered
+// for the length of a rest, or all sessions end.
+fn leave_to_reader<J: HallName, R: Wait + Clock>(
+    rt: &R,
+    house: &HouseOf<J>,
+    connection: &Connection<J>,
+) {
+    for _ in rt.forever() {
+        if !connection.was_answered() || house.ending(rt).is_some() {
+            return;
+        }
+        rest(rt, REST_MILLISECONDS);
     }
 }
 
@@ -44,6 +47,7 @@ pub(crate) fn tell_all<J: HallName, R: Wait + Clock>(
         if house.ending(rt).is_none() {
             sleeper.parker.park(rt);
         }
+        leave_to_reader(rt, house, connection);
         if let Some(ending) = house.ending(rt) {
             connection.tell_ending(rt, ending);
             return;
@@ -52,7 +56,7 @@ pub(crate) fn tell_all<J: HallName, R: Wait + Clock>(
             connection.part(rt, Parting::Left);
             break;
         }
-        rest(rt, rest_of(connection));
+        rest(rt, REST_MILLISECONDS);
     }
     connection.wire().shut();
 }

@@ -1,6 +1,6 @@
 //! What refuses a change.
 
-ghost use Rattle.std.specs.Prelude.{MatchResult, not, ◌||◌, ◌≡◌, ℕ, ◌≤◌, [], ◌∷◌, Some, None, length};
+ghost use Rattle.std.specs.Prelude.{MatchResult, not, ◌||◌, ◌≡◌, ℕ, ◌≤◌, [], ◌∷◌, Some, None, length, find};
 ghost use Rattle.mud_world.specs.State.{is_taken, State, exists};
 ghost use Rattle.mud_key.specs.Node.{key_of as tree_of};
 ghost use Rattle.mud_world.specs.Legal.{dug, actor_fails, deed_fails, refusal, fails};
@@ -11,29 +11,67 @@ ghost use Rattle.mud_world.specs.Kinds.{kind_needs};
 ghost use Rattle.mud_world.specs.Inside.{leaves, arrives, arriving_of};
 
 use crate::limits::{LAST_NUMBER, MOST_COST};
-use crate::speech::is_speech;
 use crate::world::World;
 use crate::{Change, Deed, Doors, Refusal, Target};
 use mud_key::{Key, Name, Names, Node, Operator};
 
-// The refusals of changes by rising number.
-const REFUSALS: [Refusal; 15] = [
-    Refusal::NoSuch,
-    Refusal::WrongKind,
-    Refusal::NotHere,
-    Refusal::Denied,
-    Refusal::BadName,
-    Refusal::NameTaken,
-    Refusal::BadKey,
-    Refusal::KeyNesting,
-    Refusal::BadCost,
-    Refusal::RecursiveMove,
-    Refusal::LockedExit,
-    Refusal::LockedRoom,
-    Refusal::LockedThing,
-    Refusal::InUse,
-    Refusal::WorldFull,
-];
+// What can refuse a deed, by rising number.
+#[tactic(auto, unfolding(crate::specs::Legal::refusal))]
+fn refusals_of(deed: &Deed) -> &'static [Refusal]
+    ensures { (w : State) (actor : ℕ) → find (fails w (record { actor = actor; deed = deed.now })) result.now
+        ≡ refusal w (record { actor = actor; deed = deed.now }) }
+{
+    match deed {
+        Deed::Dig(_, _) | Deed::Make(_) => {
+            &[Refusal::NoSuch, Refusal::WrongKind, Refusal::WorldFull]
+        }
+        Deed::Player(_) => &[Refusal::NoSuch, Refusal::NameTaken, Refusal::WorldFull],
+        Deed::Lock { .. } => &[
+            Refusal::NoSuch,
+            Refusal::WrongKind,
+            Refusal::Denied,
+            Refusal::BadKey,
+            Refusal::KeyNesting,
+        ],
+        Deed::Unlock { .. } => &[Refusal::NoSuch, Refusal::WrongKind, Refusal::Denied],
+        Deed::Move { .. } => &[
+            Refusal::NoSuch,
+            Refusal::WrongKind,
+            Refusal::NotHere,
+            Refusal::RecursiveMove,
+            Refusal::LockedRoom,
+            Refusal::LockedThing,
+        ],
+        Deed::Walk { .. } => &[
+            Refusal::NoSuch,
+            Refusal::WrongKind,
+            Refusal::NotHere,
+            Refusal::LockedExit,
+            Refusal::LockedRoom,
+        ],
+        Deed::Cost { .. } => &[
+            Refusal::NoSuch,
+            Refusal::WrongKind,
+            Refusal::Denied,
+            Refusal::BadCost,
+        ],
+        Deed::Rename { .. } => &[
+            Refusal::NoSuch,
+            Refusal::WrongKind,
+            Refusal::Denied,
+            Refusal::NameTaken,
+        ],
+        Deed::Recycle { .. } => &[
+            Refusal::NoSuch,
+            Refusal::WrongKind,
+            Refusal::Denied,
+            Refusal::InUse,
+        ],
+        Deed::Say(_) | Deed::Emote(_) => {
+            &[Refusal::NoSuch, Refusal::WrongKind, Refusal::BadName]
+        }
+    }
+}
 
 impl World {
     // Whether so many new objects would have a number above 8,191.
@@ -282,21 +320,29 @@ impl World {
                 Deed::Player(name) => self.player_fails(actor, name, fault),
                 Deed::Rename { object, names } => self.rename_fails(actor, *object, names, fault),
                 Deed::Recycle { object } => self.recycle_fails(actor, *object, fault),
-                Deed::Say(text) | Deed::Emote(text) => {
-                    fault == Refusal::BadName && !is_speech(text.as_str())
+                Deed::Say(speech) | Deed::Emote(speech) => {
+                    // what is a speech can be said
+                    let _ = speech.as_str();
+                    false
                 }
             }
     }
 
-    // The refusal of least number whose condition holds.
-    #[tactic(auto, unfolding(crate::specs::Legal::refusal))]
-    fn first_refusal(&self, change: &Change) -> Option<Refusal>
-        ensures { result ≡ refusal self.now change.now }
+    // The first of these refusals whose condition holds.
+    fn first_of(&self, refusals: &[Refusal], change: &Change) -> Option<Refusal>
+        ensures { result ≡ find (fails self.now change.now) refusals.now }
     {
-        REFUSALS
+        refusals
             .iter()
             .copied()
             .find(|fault| self.fails(change, *fault))
+    }
+
+    // The refusal of least number whose condition holds.
+    fn first_refusal(&self, change: &Change) -> Option<Refusal>
+        ensures { result ≡ refusal self.now change.now }
+    {
+        self.first_of(refusals_of(&change.deed), change)
     }
 
     /// The refusal of least number whose condition holds of the change, or none: the change is legal.

@@ -1,6 +1,8 @@
 pub mod Joining
 pub mod Searching
 pub mod Finding
+pub mod Lettered
+pub mod Listed
 pub mod Longer
 pub mod Bounds
 pub mod Least

@@ -26,6 +26,7 @@ use Rattle.mud_rules.specs.declared.verdict.Query.TheVariants as query
 use Rattle.mud_rules.specs.declared.verdict.Verdict.{Verdict}
 use Rattle.mud_rules.specs.declared.verdict.Verdict.TheVariants as verdict
 use Rattle.mud_rules.specs.Matching.{is_empty}
+use Rattle.mud_rules.specs.inner.Steps.{asks}
 use Rattle.mud_rules.specs.Outcome.{outcome, does, on_found, shaped}
 use Rattle.mud_rules.specs.inner.Parts.{connect, connecting, dig_room, dig_exits, first_of, has_empty_side}
 use Rattle.mud_rules.specs.Shapes.{all_of, looked_at, object_named, is_pair, text_behind}
@@ -81,18 +82,6 @@ asks-connect_line b w l =
     asks-shaped b (not (is_empty (first_of l))) (connect w (first_of l)) (asks-connect b w (name_in (first_of l)))
 
 -- ---- the table
-
-abbrev asks : Verb → Bool
-asks verb.Look = true
-asks verb.Inventory = true
-asks verb.Key = true
-asks verb.Route = true
-asks verb.Meet = true
-asks verb.Proof = true
-asks verb.Version = true
-asks verb.History = true
-asks verb.Quit = true
-asks other = false
 
 -- the last clause is for all commands that do something with what they find
 asks-command : (w : State) (p : ℕ) (l : Line) (v : Verb) → AsksIf (asks v) (command w p l v)
@@ -159,16 +148,36 @@ plain test (row ∷ rows) none = go (test row.0) (asks row.1) refl none (plain t
     go true false is none later = is
     go false false is none later = later none
 
-by_question : (question other : Option Verb) → option_map_or asks other false ≡ false
-    → option_map_or asks (option_or question other) false ≡ true → is_some question ≡ true
-by_question None other plain asked = absurd (true≢false (sym asked ∙ plain))
-by_question (Some v) other plain asked = refl
+-- what a word of a question names, asks
+asking : (test : List ℕ → Bool) (rows : List (List ℕ × Verb)) → list_any (λ row. not (asks row.1)) rows ≡ false
+    → is_some (lookup test rows) ≡ option_map_or asks (lookup test rows) false
+asking test [] all = refl
+asking test (row ∷ rows) all = go (test row.0) (asks row.1) refl all (asking test rows)
+  where
+    go : (here asked : Bool) → asks row.1 ≡ asked → (not asked || list_any (λ row. not (asks row.1)) rows) ≡ false
+        → (list_any (λ row. not (asks row.1)) rows ≡ false
+        → is_some (lookup test rows) ≡ option_map_or asks (lookup test rows) false)
+        → is_some (if here then Some row.1 else lookup test rows)
+        ≡ option_map_or asks (if here then Some row.1 else lookup test rows) false
+    go here false is all later = absurd (true≢false all)
+    go true true is all later = sym is
+    go false true is all later = later all
+
+either : (question other : Option Verb) → is_some question ≡ option_map_or asks question false
+    → option_map_or asks other false ≡ false → is_some question ≡ option_map_or asks (option_or question other) false
+either None other asking plain = sym plain
+either (Some v) other asking plain = asking
+
+-- the words of questions are those whose verb asks
+pub questioned : (text : List ℕ)
+    → is_some (lookup (str_eq_ignore_ascii_case text) question_verbs) ≡ option_map_or asks (verb_named text) false
+unfolding verb_named
+questioned text =
+    let test : List ℕ → Bool = str_eq_ignore_ascii_case text in
+    either (lookup test question_verbs) (lookup test other_verbs) (asking test question_verbs refl)
+    (plain test other_verbs refl)
+    ∙ sym (ap (λ o. option_map_or asks o false) (lookup-append test question_verbs other_verbs))
 
 pub are_questions : AreQuestions
-unfolding verb_named
 are_questions w player l q is =
-    let test : List ℕ → Bool = str_eq_ignore_ascii_case l.verb in
-    let asked : AsksIf (option_map_or asks (verb_named l.verb) false) (verdict.Ask q) =
-    subst (AsksIf (option_map_or asks (verb_named l.verb) false)) is (asks-decision w player l) in
-    by_question (lookup test question_verbs) (lookup test other_verbs) (plain test other_verbs refl)
-    (sym (ap (λ o. option_map_or asks o false) (lookup-append test question_verbs other_verbs)) ∙ asked)
+    questioned l.verb ∙ subst (AsksIf (option_map_or asks (verb_named l.verb) false)) is (asks-decision w player l)

@@ -3,11 +3,12 @@
 ghost use Rattle.std.specs.Prelude.{◌≡◌, ◌++◌, [], Some, not, codes, filter, IfOk, OnOk, string_bytes};
 ghost use Rattle.std.specs.Option.{option_map_or};
 ghost use Rattle.mud_key.specs.Printed.{printed, by_text};
-ghost use Rattle.mud_world.specs.State.{is_number, key_of, place_of};
+ghost use Rattle.mud_world.specs.State.{contents_of, is_number, key_of, leaving_of, place_of};
+ghost use Rattle.mud_rules.specs.Listing.{listed, listed_under};
 ghost use Rattle.mud_rules.specs.Answers.{kind_text, look_text, inventory_text, key_of_text, show_text};
 
 use crate::View;
-use crate::listing::{push_about, push_entry, push_listed, push_listed_under};
+use crate::listing::{push_about, push_entry, push_listed};
 use mud_key::print;
 use mud_world::{Kind, World};
 use std::alloc::{AllocError, Global};
@@ -36,12 +37,41 @@ pub fn show(
     }
 }
 
+// The exits that leave a room, on a line of their own.
+fn push_exits(text: &mut String, world: &World, room: u32) -> Result<(), AllocError>
+    ensures { OnOk result (string_bytes text.new
+        ≡ string_bytes text.old ++ listed_under world.now (codes "exits ") (leaving_of world.now room)) }
+{
+    push_listed(text, world, "\n  exits ", world.leaving(room), None)
+}
+
+// What lies in an object but for the player, on a line of its own.
+fn push_contents(
+    text: &mut String,
+    world: &World,
+    number: u32,
+    player: Option<u32>,
+) -> Result<(), AllocError>
+    ensures { OnOk result (string_bytes text.new ≡ string_bytes text.old ++ listed_under world.now (codes "contents ")
+        (filter (λ o. not (is_number o player)) (contents_of world.now number))) }
+{
+    push_listed(text, world, "\n  contents ", world.contents(number), player)
+}
+
+// The objects of a list.
+fn push_all(text: &mut String, world: &World, numbers: &[u32]) -> Result<(), AllocError>
+    ensures { OnOk result (string_bytes text.new
+        ≡ string_bytes text.old ++ listed world.now numbers.now) }
+{
+    push_listed(text, world, "", numbers, None)
+}
+
 fn push_kind(text: &mut String, world: &World, number: u32, kind: Kind) -> Result<(), AllocError>
     ensures { OnOk result (string_bytes text.new
         ≡ string_bytes text.old ++ kind_text world.now number kind) }
 {
     match kind {
-        Kind::Room => push_listed_under(text, world, "exits ", world.leaving(number)),
+        Kind::Room => push_exits(text, world, number),
         Kind::Exit(passage) => {
             push_about(text, "\n  from #", passage.source)?;
             push_about(text, " to #", passage.destination)?;
@@ -61,35 +91,11 @@ fn look_text(
 {
     let mut text = String::with_capacity(alloc, LOOK)?;
     push_entry(&mut text, world, number)?;
-    let others = others_of(alloc, world.contents(number), player)?;
-    push_listed_under(&mut text, world, "contents ", &others)?;
+    push_contents(&mut text, world, number, player)?;
     if let Some(record) = world.get(number) {
         push_kind(&mut text, world, number, record.kind)?;
     }
     Ok(text)
-}
-
-fn is_player(number: u32, player: Option<u32>) -> bool
-    ensures { result ≡ is_number number player }
-{
-    match player {
-        Some(player) => number == player,
-        None => false,
-    }
-}
-
-// All but the player.
-fn others_of(alloc: Global, numbers: &[u32], player: Option<u32>) -> Result<Vec<u32>, AllocError>
-    ensures { IfOk result (λ others. others.items
-        ≡ filter (λ o. not (is_number o player)) numbers.now) }
-{
-    let mut others = Vec::with_capacity(alloc, numbers.len())?;
-    for number in numbers {
-        if !is_player(*number, player) {
-            others.push(*number)?;
-        }
-    }
-    Ok(others)
 }
 
 // The room that a player is in.
@@ -112,7 +118,7 @@ fn inventory_text(alloc: Global, world: &World, player: u32) -> Result<String, A
     if contents.is_empty() {
         text.push_str("nothing")?;
     } else {
-        push_listed(&mut text, world, contents)?;
+        push_all(&mut text, world, contents)?;
     }
     Ok(text)
 }

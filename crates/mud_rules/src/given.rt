@@ -1,6 +1,7 @@
 //! What a line gives to its command: a text, an object or two; or the refusal of its shape.
 
-ghost use Rattle.std.specs.Prelude.{◌≡◌, IfOk, string_bytes};
+ghost use Rattle.std.specs.Prelude.{◌≡◌, IfOk};
+ghost use Rattle.std.specs.Cow.{cow_str_bytes};
 ghost use Rattle.std.specs.Result.{result_map_both};
 ghost use Rattle.mud_words.specs.Line.{line_of};
 ghost use Rattle.mud_rules.specs.Shapes.{all_of, text_behind, object_named, object_before, objects_round};
@@ -11,12 +12,16 @@ use crate::outcome::{both, found};
 use crate::shapes::{all_of, is_pair};
 use mud_words::{Parsed, Prep};
 use mud_world::Refusal;
-use std::alloc::AllocError;
+use std::alloc::{AllocError, Global};
+use std::borrow::CowStr;
 
 impl Actor<'_> {
     // The text after the verb.
-    pub(crate) fn text_behind(&self, parsed: &Parsed) -> Result<Result<String, Refusal>, AllocError>
-        ensures { IfOk result (λ text. result_map_both string_bytes (λ f. f) text
+    pub(crate) fn text_behind<'a>(
+        &self,
+        parsed: &'a Parsed,
+    ) -> Result<Result<CowStr<'a, Global>, Refusal>, AllocError>
+        ensures { IfOk result (λ text. result_map_both cow_str_bytes (λ f. f) text
             ≡ text_behind (line_of parsed.now)) }
     {
         let text = all_of(self.alloc, parsed)?;

@@ -1,8 +1,9 @@
 //! Names and lists of objects in texts.
 
-ghost use Rattle.std.specs.Prelude.{◌≡◌, ◌++◌, OnOk, codes, decimal, string_bytes};
-ghost use Rattle.std.specs.List.{flat_map};
-ghost use Rattle.mud_rules.specs.Listing.{first_name, entry_text, listed, listed_under};
+ghost use Rattle.std.specs.Prelude.{◌≡◌, ◌++◌, OnOk, codes, decimal, filter, not, string_bytes};
+ghost use Rattle.mud_world.specs.State.{is_number};
+ghost use Rattle.mud_rules.specs.Listing.{first_name, entry_text};
+ghost use Rattle.mud_rules.specs.inner.Steps.{listed_after};
 
 use itoa::Buffer;
 use mud_world::World;
@@ -45,50 +46,34 @@ pub(crate) fn push_entry(text: &mut String, world: &World, number: u32) -> Resul
     push_about(text, " #", number)
 }
 
-// The others of a list, each after a comma.
-fn push_others(text: &mut String, world: &World, numbers: &[u32]) -> Result<(), AllocError>
-    ensures { OnOk result (string_bytes text.new
-        ≡ string_bytes text.old ++ flat_map (λ n. codes ", "
-        ++ entry_text world.now n) numbers.now) }
+fn is_player(number: u32, player: Option<u32>) -> bool
+    ensures { result ≡ is_number number player }
 {
-    for number in numbers {
-        text.push_str(", ")?;
-        push_entry(text, world, *number)?;
+    match player {
+        Some(player) => number == player,
+        None => false,
     }
-    Ok(())
 }
 
+// The objects of a list but for the player, after a heading, where there is one to list.
 pub(crate) fn push_listed(
-    text: &mut String,
-    world: &World,
-    numbers: &[u32],
-) -> Result<(), AllocError>
-    ensures { OnOk result (string_bytes text.new
-        ≡ string_bytes text.old ++ listed world.now numbers.now) }
-{
-    match numbers.split_first() {
-        Some((first, others)) => {
-            push_entry(text, world, *first)?;
-            push_others(text, world, others)
-        }
-        None => Ok(()),
-    }
-}
-
-// A further line, where there is something to list.
-pub(crate) fn push_listed_under(
     text: &mut String,
     world: &World,
     heading: &str,
     numbers: &[u32],
+    player: Option<u32>,
 ) -> Result<(), AllocError>
-    ensures { OnOk result (string_bytes text.new
-        ≡ string_bytes text.old ++ listed_under world.now heading.now numbers.now) }
+    ensures { OnOk result (string_bytes text.new ≡ string_bytes text.old
+        ++ listed_after heading.now world.now (filter (λ o. not (is_number o player)) numbers.now)) }
 {
-    if numbers.is_empty() {
-        return Ok(());
+    let mut lead = heading;
+    for number in numbers {
+        if is_player(*number, player) {
+            continue;
+        }
+        text.push_str(lead)?;
+        push_entry(text, world, *number)?;
+        lead = ", ";
     }
-    text.push_str("\n  ")?;
-    text.push_str(heading)?;
-    push_listed(text, world, numbers)
+    Ok(())
 }

@@ -1,6 +1,7 @@
 //! The shapes of lines.
 
 ghost use Rattle.std.specs.Prelude.{◌≡◌, ◌∷◌, IfOk, map, string_bytes};
+ghost use Rattle.std.specs.Cow.{cow_str_bytes};
 ghost use Rattle.mud_words.specs.Line.{line_of};
 ghost use Rattle.mud_words.specs.inner.Searching.{joined};
 ghost use Rattle.mud_rules.specs.Shapes.{all_of, looked_at, is_prep, is_pair};
@@ -8,17 +9,33 @@ ghost use Rattle.mud_rules.specs.inner.Parts.{first_of, is_aimed};
 
 use mud_words::{Parsed, Prep};
 use std::alloc::{AllocError, Global};
+use std::borrow::CowStr;
 
-// Words joined by one space.
-pub(crate) fn joined(alloc: Global, words: &[String]) -> Result<String, AllocError>
+fn joined_text(alloc: Global, words: &[String]) -> Result<String, AllocError>
     ensures { IfOk result (λ text. string_bytes text ≡ joined (map string_bytes words.now)) }
 {
     words.join(alloc, " ")
 }
 
+// Words joined by one space. A lone word is not copied.
+pub(crate) fn joined<'a>(
+    alloc: Global,
+    words: &'a [String],
+) -> Result<CowStr<'a, Global>, AllocError>
+    ensures { IfOk result (λ text. cow_str_bytes text ≡ joined (map string_bytes words.now)) }
+{
+    match words {
+        [word] => Ok(CowStr::Borrowed(word.as_str())),
+        _ => Ok(CowStr::Owned(joined_text(alloc, words)?)),
+    }
+}
+
 // The words after the verb.
-pub(crate) fn all_of(alloc: Global, parsed: &Parsed) -> Result<String, AllocError>
-    ensures { IfOk result (λ text. string_bytes text ≡ all_of (line_of parsed.now)) }
+pub(crate) fn all_of<'a>(
+    alloc: Global,
+    parsed: &'a Parsed,
+) -> Result<CowStr<'a, Global>, AllocError>
+    ensures { IfOk result (λ text. cow_str_bytes text ≡ all_of (line_of parsed.now)) }
 {
     joined(alloc, &parsed.args)
 }

@@ -1,10 +1,11 @@
 //! The verbs of the table of commands.
 
-ghost use Rattle.std.specs.Prelude.{◌≡◌, map};
+ghost use Rattle.std.specs.Prelude.{◌≡◌, ◌∷◌, ℕ, List, map};
 ghost use Rattle.std.specs.Option.{is_some};
+ghost use Rattle.std.specs.Char.{to_ascii_lowercase};
 ghost use Rattle.std.specs.Map.{lookup};
 ghost use Rattle.std.specs.Str.{str_eq_ignore_ascii_case};
-ghost use Rattle.mud_rules.specs.inner.Steps.{row_of};
+ghost use Rattle.mud_rules.specs.inner.Steps.{row_of, asks};
 ghost use Rattle.mud_rules.specs.Table.{verb_named, question_verbs};
 
 use crate::comparing::is_word;
@@ -38,33 +39,11 @@ pub(crate) enum Verb {
     Quit,
 }
 
-// The words that are verbs of questions.
-const QUESTIONS: &[(&str, Verb)] = &[
-    ("look", Verb::Look),
-    ("l", Verb::Look),
-    ("inventory", Verb::Inventory),
-    ("inv", Verb::Inventory),
-    ("i", Verb::Inventory),
+// The verbs that begin with `@`.
+const WITH_SIGN: &[(&str, Verb)] = &[
     ("@key", Verb::Key),
-    ("route", Verb::Route),
-    ("meet", Verb::Meet),
-    ("proof", Verb::Proof),
     ("@version", Verb::Version),
     ("@history", Verb::History),
-    ("quit", Verb::Quit),
-];
-
-// The other words that are verbs.
-const OTHERS: &[(&str, Verb)] = &[
-    ("connect", Verb::Connect),
-    ("go", Verb::Go),
-    ("take", Verb::Take),
-    ("get", Verb::Take),
-    ("drop", Verb::Drop),
-    ("put", Verb::Put),
-    ("give", Verb::Give),
-    ("say", Verb::Say),
-    ("emote", Verb::Emote),
     ("@dig", Verb::Dig),
     ("@create", Verb::Create),
     ("@lock", Verb::Lock),
@@ -76,21 +55,62 @@ const OTHERS: &[(&str, Verb)] = &[
 
 impl Verb {
     /// The verb that a word names, if the table has it.
-    #[tactic(auto, unfolding(crate::specs::Table::verb_named))]
     pub(crate) fn named(text: &str) -> Option<Verb>
         ensures { result ≡ verb_named text.now }
     {
-        match verb_in(QUESTIONS, text) {
-            Some(verb) => Some(verb),
-            None => verb_in(OTHERS, text),
-        }
+        let [letter, ..] = text.as_bytes() else {
+            return None;
+        };
+        verb_in(rows_with(letter.to_ascii_lowercase()), text)
     }
 
     /// Whether a word names the verb of a question.
     pub(crate) fn asks(text: &str) -> bool
         ensures { result ≡ is_some (lookup (str_eq_ignore_ascii_case text.now) question_verbs) }
     {
-        verb_in(QUESTIONS, text).is_some()
+        match Verb::named(text) {
+            Some(verb) => verb.is_question(),
+            None => false,
+        }
+    }
+
+    // Whether it is the verb of a question.
+    fn is_question(self) -> bool
+        ensures { result ≡ asks self }
+    {
+        match self {
+            Verb::Look | Verb::Inventory | Verb::Key => true,
+            Verb::Route | Verb::Meet | Verb::Proof => true,
+            Verb::Version | Verb::History | Verb::Quit => true,
+            _ => false,
+        }
+    }
+}
+
+// The words of the table that begin with a letter, which is a small one.
+fn rows_with(letter: u8) -> &'static [(&'static str, Verb)]
+    ensures { (c : ℕ) (cs : List ℕ) → to_ascii_lowercase c ≡ letter
+        → lookup (str_eq_ignore_ascii_case (c ∷ cs)) (map row_of result.now) ≡ verb_named (c ∷ cs) }
+{
+    match letter {
+        b'@' => WITH_SIGN,
+        b'c' => &[("connect", Verb::Connect)],
+        b'd' => &[("drop", Verb::Drop)],
+        b'e' => &[("emote", Verb::Emote)],
+        b'g' => &[("go", Verb::Go), ("get", Verb::Take), ("give", Verb::Give)],
+        b'i' => &[
+            ("inventory", Verb::Inventory),
+            ("inv", Verb::Inventory),
+            ("i", Verb::Inventory),
+        ],
+        b'l' => &[("look", Verb::Look), ("l", Verb::Look)],
+        b'm' => &[("meet", Verb::Meet)],
+        b'p' => &[("proof", Verb::Proof), ("put", Verb::Put)],
+        b'q' => &[("quit", Verb::Quit)],
+        b'r' => &[("route", Verb::Route)],
+        b's' => &[("say", Verb::Say)],
+        b't' => &[("take", Verb::Take)],
+        _ => &[],
     }
 }
 

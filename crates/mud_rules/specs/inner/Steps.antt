@@ -1,6 +1,6 @@
 -- Steps of the code. Cited by private clauses alone: what they come to, Matching, Outcome, Journeys and Table say.
-use Rattle.std.specs.Prelude.{ℕ, Bool, not, ◌&&◌, ◌||◌, nat_lt, List, length, filter, codes, Option, Some}
-use Rattle.std.specs.Prelude.{None, ok_or, Result, Ok, Err, if◌then◌else◌}
+use Rattle.std.specs.Prelude.{ℕ, Bool, true, false, not, ◌&&◌, ◌||◌, nat_lt, List, [], ◌∷◌, ◌++◌, length, filter, codes}
+use Rattle.std.specs.Prelude.{Option, Some, None, ok_or, Result, Ok, Err, if◌then◌else◌}
 use Rattle.std.specs.Borrow.{Bor}
 use Rattle.std.specs.Option.{option_map_or}
 use Rattle.std.specs.List.{list_any}
@@ -20,8 +20,10 @@ use Rattle.mud_rules.specs.declared.matching.Match.TheVariants.{Nothing, NoSuch,
 use Rattle.mud_rules.specs.declared.matching.Sort.{Sort}
 use Rattle.mud_rules.specs.declared.matching.Sort.TheVariants.{Rooms, Players}
 use Rattle.mud_rules.specs.declared.verb.Verb.{Verb}
+use Rattle.mud_rules.specs.declared.verb.Verb.TheVariants as verb
 use Rattle.mud_rules.specs.Matching.{is_empty, is_like, sole, object_number}
 use Rattle.mud_rules.specs.Party.{is_party}
+use Rattle.mud_rules.specs.Listing.{listed}
 
 -- ---- matching
 
@@ -90,3 +92,23 @@ unfit party = refused_if (not (is_party party)) PartyBad
 -- a row of the code's table of verbs
 abbrev pub row_of : Bor (List ℕ) × Verb → List ℕ × Verb
 row_of row = (row.0.now, row.1)
+
+-- the verbs of questions
+abbrev pub asks : Verb → Bool
+asks verb.Look = true
+asks verb.Inventory = true
+asks verb.Key = true
+asks verb.Route = true
+asks verb.Meet = true
+asks verb.Proof = true
+asks verb.Version = true
+asks verb.History = true
+asks verb.Quit = true
+asks other = false
+
+-- ---- lists
+
+-- a list after what stands before its first object, where there is one
+abbrev pub listed_after : List ℕ → State → List ℕ → List ℕ
+listed_after lead w [] = []
+listed_after lead w (n ∷ ns) = lead ++ listed w (n ∷ ns)

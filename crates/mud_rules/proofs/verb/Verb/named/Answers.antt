@@ -1,22 +1,16 @@
-use Rattle.std.proofs.Common.{◌∙◌, sym, ap}
-use Rattle.std.specs.Option.{option_or}
-use Rattle.std.specs.Map.{lookup}
-use Rattle.std.specs.Str.{str_eq_ignore_ascii_case}
-use Rattle.mud_rules.specs.Table.{question_verbs, other_verbs, verb_named}
-use Rattle.mud_rules.proofs.Finding.{lookup-append}
+use Rattle.std.proofs.Common.{map, ap, ◌∙◌, arith}
+use Rattle.mud_rules.specs.inner.Steps.{row_of}
+use Rattle.mud_rules.specs.Table.{verb_named}
+use Rattle.mud_rules.proofs.Lettered.{empty_word, first_letter}
 use Rattle.mud_rules.proofs.verb.Verb.named.Goals as goal
 
-pub returns-in-Some : goal.returns-in-Some
-unfolding verb_named
-returns-in-Some c =
-    let test = str_eq_ignore_ascii_case c.args.text.now in
-    ap (λ o. option_or o (lookup test other_verbs)) (sym c.in-Some.is ∙ c.verb_in.ensures)
-    ∙ sym (lookup-append test question_verbs other_verbs)
+pub returns-in_default : goal.returns-in_default
+returns-in_default c =
+    empty_word c.as_bytes.result.now (omega arith) ∙ ap verb_named c.as_bytes.ensures.value
 
-pub returns-in-None : goal.returns-in-None
-unfolding verb_named
-returns-in-None c =
-    let test = str_eq_ignore_ascii_case c.args.text.now in
-    c.verb_in-in-None.ensures
-    ∙ ap (λ o. option_or o (lookup test other_verbs)) (sym c.in-None.is ∙ c.verb_in.ensures)
-    ∙ sym (lookup-append test question_verbs other_verbs)
+pub returns : goal.returns
+returns c =
+    c.verb_in.ensures
+    ∙ first_letter c.args.text.now c.as_bytes.result.now c.to_ascii_lowercase.result
+    (map row_of c.rows_with.result.now) c.as_bytes.ensures.value (omega arith) c.to_ascii_lowercase.ensures.value
+    c.rows_with.ensures

@@ -1,7 +1,7 @@
 use Rattle.std.proofs.Common.{string_bytes, ◌∙◌}
 use Rattle.std.proofs.lemmas.Result.{IfOk-weaker}
 use Rattle.mud_words.proofs.JoinLemmas.{joined_by}
-use Rattle.mud_rules.proofs.shapes.joined.Goals as goal
+use Rattle.mud_rules.proofs.shapes.joined_text.Goals as goal
 
 pub returns : goal.returns
 returns c = IfOk-weaker c.join.result _ _ (λ text e. e ∙ joined_by string_bytes c.args.words.now) c.join.ensures.ok

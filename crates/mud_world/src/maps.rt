@@ -1,6 +1,7 @@
 //! The records by number, and the edits of what stands beside them.
 
 ghost use Rattle.std.specs.Prelude.{◌≡◌, ℕ, ◌++◌, [], ◌∷◌, None, Some, IfOk, OnOk, OnErr, map, nat_eq, string_bytes};
+ghost use Rattle.std.specs.Prelude.{option_copied};
 ghost use Rattle.mud_world.specs.declared.record.Record.{Record};
 ghost use Rattle.std.specs.Map.{lookup, remove_entry};
 ghost use Rattle.std.specs.List.{list_any};
@@ -19,6 +20,17 @@ use indexmap::IndexMap;
 use mud_key::{Key, Names};
 use mud_lists::{Lists, Owners};
 use std::alloc::{AllocError, Global};
+
+// The record of a number. As long as nothing was recycled, it stands at its number. Each look at an object comes here.
+#[inline(always)]
+pub(crate) fn record_of(records: &IndexMap<u32, Record>, number: u32) -> Option<&Record>
+    ensures { option_copied result ≡ lookup (nat_eq number) records.now.entries }
+{
+    match records.get_index(number as usize) {
+        Some((at, record)) if *at == number => Some(record),
+        _ => records.get(&number),
+    }
+}
 
 fn put_record(
     records: &mut IndexMap<u32, Record>,
@@ -90,7 +102,7 @@ fn enroll(
         → OnOk result (AreOwnersPassed [] (called r) number owners.old owners.new) }
     ensures err { OnErr result (HaveSameOwners owners.old owners.new) }
 {
-    match records.get(&number) {
+    match record_of(records, number) {
         Some(record) => owners.pass(&[], called(record.kind, &record.names), number),
         None => Ok(()),
     }
@@ -179,7 +191,7 @@ pub(crate) fn rename_in(
     ensures err_records { OnErr result (records.new.entries ≡ records.old.entries) }
     ensures err_owners { OnErr result (HaveSameOwners owners.old owners.new) }
 {
-    match records.get(&object) {
+    match record_of(records, object) {
         Some(record) => {
             let old = called(record.kind, &record.names);
             owners.pass(old, called(record.kind, &names), object)?;
@@ -205,7 +217,7 @@ pub(crate) fn rekey(
     ensures err_records { OnErr result (records.new.entries ≡ records.old.entries) }
     ensures err_askers { OnErr result (AreSame askers.old askers.new) }
 {
-    match records.get(&object) {
+    match record_of(records, object) {
         Some(record) => exchange(askers, object, &record.key, &key)?,
         None => return Ok(()),
     }
@@ -219,7 +231,7 @@ pub(crate) fn unkey(records: &mut IndexMap<u32, Record>, askers: &mut Lists, obj
     ensures askers { (r : Record) → lookup (nat_eq object) records.old.entries ≡ Some r
         → AreRekeyed object r.key None askers.old askers.new }
 {
-    match records.get(&object) {
+    match record_of(records, object) {
         Some(record) => leave(askers, object, &record.key, &None),
         None => return,
     }

@@ -5,7 +5,7 @@ ghost use Rattle.mud_world.specs.State.{named_player, is_player, State, record_a
 ghost use Rattle.mud_world.specs.Sound.{IsSound};
 
 use crate::links::Links;
-use crate::maps::{copy_records, grow};
+use crate::maps::{copy_records, grow, record_of};
 use crate::{Kind, Record};
 use indexmap::IndexMap;
 use mud_key::{Names, NamesFault};
@@ -127,11 +127,7 @@ impl World {
     pub fn get(&self, number: u32) -> Option<&Record>
         ensures { option_copied result ≡ record_at self.now number }
     {
-        // as long as nothing was recycled, a record stands at its number
-        match self.records.get_index(number as usize) {
-            Some((at, record)) if *at == number => Some(record),
-            _ => self.records.get(&number),
-        }
+        record_of(&self.records, number)
     }
 
     /// The number that the next new object gets, 2 to 8,192; at 8,192 the world is full.

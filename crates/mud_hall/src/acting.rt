@@ -1,11 +1,12 @@
 //! Lines that act.
 
-ghost use Rattle.std.specs.Prelude.{◌≡◌, ◌≢◌, ◌++◌, ◌∷◌, [], ◌<◌, ◌≤◌, ◌+◌};
-ghost use Rattle.std.specs.Prelude.{length, Some, None, IfOk, IfErr, OnErr, OnOk, string_bytes};
+ghost use Rattle.std.specs.Prelude.{◌≡◌, ◌≢◌, ◌++◌, ◌∷◌, [], ◌<◌, ◌≤◌, ◌+◌, ◌⊎◌};
+ghost use Rattle.std.specs.Prelude.{length, Some, None, IfOk, IfErr, OnErr, OnOk, Err, string_bytes};
 ghost use Rattle.mud_words.specs.Line.{line_of};
 ghost use Rattle.mud_rules.specs.Outcome.{IsLawful};
+ghost use Rattle.mud_rules.specs.Replies.{reply_text};
 ghost use Rattle.mud_hall.specs.Told.{world_after};
-ghost use Rattle.mud_hall.specs.Desk.{DeskState, as_player, untold};
+ghost use Rattle.mud_hall.specs.Desk.{DeskState, as_player, as_accepted, untold};
 ghost use Rattle.mud_hall.specs.Replies.{Failed, shown, Acts, Comes, Stores, verdict_on};
 
 use crate::desk::Desk;
@@ -72,7 +73,7 @@ impl<J: HallName> Desk<J> {
         self.player = Some(player);
     }
 
-    // Adds a change to the history. All that takes memory is made before the cell is set.
+    // Adds a change to the history.
     fn store(&mut self, alloc: Global, row: &Row, change: Change) -> Result<Reply, Fault>
         requires row { row.now ≡ J.cells }
         requires all { self.old.at ≡ length self.old.state.seen }
@@ -80,20 +81,69 @@ impl<J: HallName> Desk<J> {
         ensures stores { Stores (length row.now) self.old.state change (shown result) self.new.state }
         ensures told { shown result ≢ Failed Fault.OutOfMemory → untold self.new ≡ [] }
     {
-        if self.replica.known() == row.capacity() {
+        let text = self.text(alloc, row, &change)?;
+        let version = self.add(alloc, row, change)?;
+        Ok(Reply::Accepted { version, text })
+    }
+
+    // What is replied to a change, where the history takes one more.
+    fn text(&self, alloc: Global, row: &Row, change: &Change) -> Result<String, Fault>
+        requires { self.now.at ≡ length self.now.state.seen }
+        ensures text { IfOk result
+            (λ text. string_bytes text ≡ reply_text (world_after self.now.state.seen) change.now) }
+        ensures fault { IfErr result (λ f. (f ≡ Fault.OutOfMemory)
+            ⊎ ((f ≡ Fault.HistoryFull) × (length self.now.state.seen ≡ length row.now))) }
+    {
+        if self.seen() == row.capacity() {
             return Err(Fault::HistoryFull);
         }
-        let actor = change.actor;
-        let text = reply_text(alloc, self.replica.world(), &change)?;
-        // for the prover: `next_number` says that the world is sound
-        let _sound = self.replica.world().next_number();
-        let entry = Box::new(alloc, Entry::new(self.number, change))?;
+        Ok(reply_text(alloc, self.world(), change)?)
+    }
+
+    // Makes the change the next entry, which has its version. All that takes memory is made before the cell is set.
+    fn add(&mut self, alloc: Global, row: &Row, change: Change) -> Result<u32, Fault>
+        requires row { row.now ≡ J.cells }
+        requires all { self.old.at ≡ length self.old.state.seen }
+        requires lawful { IsLawful (world_after self.old.state.seen) self.old.state.player (Verdict.Change change) }
+        ensures room { IfOk result (λ _. length self.old.state.seen < length row.now) }
+        ensures version { IfOk result (λ v. v ≡ length self.old.state.seen + 1) }
+        ensures accepted { OnOk result (self.new.state ≡ as_accepted self.old.state change) }
+        ensures fault { IfErr result (λ f. Stores (length row.now) self.old.state change (Failed f) self.new.state) }
+        ensures told { result ≢ Err Fault.OutOfMemory → untold self.new ≡ [] }
+    {
+        let entry = self.entry(alloc, change)?;
+        self.publish(row, entry)
+    }
+
+    // The change as an entry of this desk.
+    fn entry(&self, alloc: Global, change: Change) -> Result<Box<Entry>, AllocError>
+        requires { IsLawful (world_after self.now.state.seen) self.now.state.player (Verdict.Change change) }
+        ensures { IfOk result (λ e. e.value ≡ record { desk = self.now.state.number; change = change }) }
+    {
+        Ok(Box::new(alloc, Entry::new(self.number, change))?)
+    }
+
+    // The same with an entry of this desk.
+    fn publish(&mut self, row: &Row, entry: Box<Entry>) -> Result<u32, Fault>
+        requires row { row.now ≡ J.cells }
+        requires all { self.old.at ≡ length self.old.state.seen }
+        requires own { entry.value.desk ≡ self.old.state.number }
+        requires lawful { IsLawful (world_after self.old.state.seen) self.old.state.player
+            (Verdict.Change entry.value.change) }
+        ensures room { IfOk result (λ _. length self.old.state.seen < length row.now) }
+        ensures version { IfOk result (λ v. v ≡ length self.old.state.seen + 1) }
+        ensures accepted { OnOk result (self.new.state ≡ as_accepted self.old.state entry.value.change) }
+        ensures fault { IfErr result
+            (λ f. Stores (length row.now) self.old.state entry.value.change (Failed f) self.new.state) }
+        ensures told { result ≢ Err Fault.OutOfMemory → untold self.new ≡ [] }
+    {
+        let actor = entry.change().actor;
         self.calls.reserve(1)?;
         match self.replica.publish(row, entry) {
             Ok(version) => {
                 self.calls.push_reserved(version);
                 self.player = Some(actor);
-                Ok(Reply::Accepted { version, text })
+                Ok(version)
             }
             Err((_, RowFault::HistoryFull)) => Err(Fault::HistoryFull),
             Err((_, RowFault::Unpublished)) => Err(Fault::Unpublished),

@@ -4,7 +4,7 @@ ghost use Rattle.std.specs.Prelude.{◌≡◌, ◌≤◌, None, IfOk, string_byt
 ghost use Rattle.std.specs.Option.{IsSome};
 ghost use Rattle.mud_words.specs.Line.{line_of};
 ghost use Rattle.mud_world.specs.State.{is_player};
-ghost use Rattle.mud_rules.specs.Outcome.{IsJourney, IsQuestion};
+ghost use Rattle.mud_rules.specs.Outcome.{IsJourney, IsLawful, IsQuestion};
 ghost use Rattle.mud_rules.specs.Replies.{refusal_text};
 ghost use Rattle.mud_rules.specs.Answers.{show_text};
 ghost use Rattle.mud_rules.specs.Table.{decision};
@@ -34,11 +34,30 @@ pub(crate) fn respond<S: Guide>(
     requires seated { IfSome player (λ p. IsTrue (is_player world.now p)) }
     ensures { IfOk result (IsResponse world.now version player (decision world.now player (line_of said.now))) }
 {
-    match decide(alloc, world, player, said)? {
-        Verdict::Ask(query) => explain(by, alloc, world, version, player, &query),
-        Verdict::Refused(refusal) => Ok(Some(plain(alloc, version, refusal_text(refusal))?)),
-        Verdict::Change(_) => Ok(Some(not_understood(alloc, version)?)),
-        Verdict::Become(_) => Ok(Some(not_understood(alloc, version)?)),
+    let verdict = decide(alloc, world, player, said)?;
+    answer(by, alloc, world, version, player, &verdict)
+}
+
+// The answer to what a line is decided to be.
+fn answer<S: Guide>(
+    by: &S,
+    alloc: Global,
+    world: &World,
+    version: u32,
+    player: Option<u32>,
+    verdict: &Verdict,
+) -> Result<Option<Answer>, AllocError>
+    requires ready { S.ready by.now }
+    requires version { version ≤ 65536 }
+    requires seated { IfSome player (λ p. IsTrue (is_player world.now p)) }
+    requires lawful { IsLawful world.now player verdict.now }
+    requires asked { (q : _) → verdict.now ≡ Verdict.Ask q → CanAsk player q }
+    ensures { IfOk result (IsResponse world.now version player verdict.now) }
+{
+    match verdict {
+        Verdict::Ask(query) => explain(by, alloc, world, version, player, query),
+        Verdict::Refused(refusal) => Ok(Some(plain(alloc, version, refusal_text(*refusal))?)),
+        _ => Ok(Some(not_understood(alloc, version)?)),
     }
 }
 

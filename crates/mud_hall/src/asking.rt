@@ -63,7 +63,7 @@ impl<J: HallName> Desk<J> {
     }
 
     // The world of all that it has seen.
-    fn world(&self) -> &World
+    pub(crate) fn world(&self) -> &World
         requires { self.now.at ≡ length self.now.state.seen }
         ensures { result.now ≡ world_after self.now.state.seen }
     {

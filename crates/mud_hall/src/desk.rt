@@ -2,6 +2,7 @@
 
 ghost use Rattle.std.specs.Prelude.{◌≡◌, ◌++◌, ◌∷◌, [], ◌<◌, ◌≤◌, ◌+◌, ◌⊎◌, length, max};
 ghost use Rattle.std.specs.Prelude.{map, Some, None, IfOk, IfErr, OnErr, OnOk, MatchBool, string_bytes};
+ghost use Rattle.std.specs.Prelude.{vec_len, vec_capacity};
 ghost use Rattle.std.specs.Option.{option_to_list};
 ghost use mathlib.Core.List.{IsPrefix};
 ghost use Rattle.mud_hall.specs.Told.{notice_text};
@@ -116,9 +117,7 @@ impl<J: HallName> Desk<J> {
         let line = line_told(alloc, self.player, version, replica.world(), entry)?;
         self.told.reserve(1)?;
         replica.step(row)?;
-        if let Some(line) = line {
-            self.told.push_reserved(line);
-        }
+        push_line(&mut self.told, line);
         Ok(true)
     }
 
@@ -195,6 +194,17 @@ impl<J: HallName> Desk<J> {
     {
         let empty = Vec::new(*Vec::allocator(&self.told));
         mem::replace(&mut self.told, empty)
+    }
+}
+
+// One more line, if there is one. There is room for it.
+fn push_line(lines: &mut Vec<String>, line: Option<String>)
+    requires { vec_len lines.old < vec_capacity lines.old }
+    ensures { map string_bytes lines.new.items
+        ≡ map string_bytes lines.old.items ++ map string_bytes (option_to_list line) }
+{
+    if let Some(line) = line {
+        lines.push_reserved(line);
     }
 }
 

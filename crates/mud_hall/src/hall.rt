@@ -96,23 +96,27 @@ impl NewHall {
         if let Err(fault) = is_loadable(alloc, capacity, &entries) {
             return Err(fault);
         }
-        let row = Row::new(alloc, capacity)?;
-        let mut start = row.pass(alloc)?;
-        let mut known = Replica::new(alloc, &row)?;
-        match row.fill(alloc, &mut start, entries) {
-            Ok(()) => {}
-            Err(FillFault::OutOfMemory) => return Err(LoadFault::OutOfMemory),
+        let mut hall = NewHall::open(alloc, capacity)?;
+        hall.load(entries)?;
+        Ok(hall)
+    }
+
+    // Fills an empty hall with these entries.
+    fn load(&mut self, entries: Vec<Entry>) -> Result<(), LoadFault>
+        requires empty { self.old.loaded ≡ [] }
+        requires room { length entries.items ≤ length self.old.cells }
+        ensures cells { self.new.cells ≡ self.old.cells }
+        ensures loaded { OnOk result (self.new.loaded ≡ entries.items) }
+        ensures fault { IfErr result (λ f. (f ≡ LoadFault.OutOfMemory) ⊎ (f ≡ LoadFault.NotStored)) }
+    {
+        let filled = self.row.fill(self.alloc, &mut self.start, entries);
+        self.known.hear(&mut self.start);
+        match filled {
+            Ok(()) => Ok(self.known.catch_up(&self.row)?),
+            Err(FillFault::OutOfMemory) => Err(LoadFault::OutOfMemory),
             Err(FillFault::HistoryFull) => unreachable!(),
-            Err(FillFault::Unpublished) => return Err(LoadFault::NotStored),
+            Err(FillFault::Unpublished) => Err(LoadFault::NotStored),
         }
-        known.hear(&mut start);
-        known.catch_up(&row)?;
-        Ok(NewHall {
-            row,
-            known,
-            start,
-            alloc,
-        })
     }
 
     /// The hall by its name, from which all types of its desks take it.

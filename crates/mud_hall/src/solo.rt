@@ -1,15 +1,17 @@
 //! A desk of one user, with a world of its own.
 
-ghost use Rattle.std.specs.Prelude.{◌≡◌, ◌≢◌, ◌≤◌, ◌++◌, [], length, codes, string_bytes};
-ghost use Rattle.std.specs.Prelude.{Some, None, IfOk, IfErr, IsTrue};
+ghost use Rattle.std.specs.Prelude.{◌≡◌, ◌≢◌, ◌≤◌, ◌<◌, ◌++◌, ◌⊎◌, [], length, codes, string_bytes};
+ghost use Rattle.std.specs.Prelude.{Some, None, IfOk, IfErr, OnOk, OnErr, IsTrue, vec_len, vec_capacity};
 ghost use Rattle.std.specs.Thread.{IsSync};
 ghost use Rattle.mud_world.specs.State.{is_player};
+ghost use Rattle.mud_world.specs.Legal.{refusal, after};
 ghost use Rattle.mud_chron.specs.inner.Texts.{written_text};
 ghost use Rattle.mud_words.specs.Line.{line_of};
 ghost use Rattle.mud_words.specs.Parse.{parsed};
 ghost use Rattle.mud_rules.specs.Outcome.{IsJourney, IsLawful};
+ghost use Rattle.mud_rules.specs.Replies.{reply_text};
 ghost use Rattle.mud_hall.specs.Told.{world_after};
-ghost use Rattle.mud_hall.specs.Desk.{as_player, with_told};
+ghost use Rattle.mud_hall.specs.Desk.{as_player, as_accepted, with_told};
 ghost use Rattle.mud_hall.specs.Replies.{shown, verdict_on, Replies, Stores};
 ghost use Rattle.mud_hall.specs.Answers.{answered, Answers, IsGuided};
 ghost use Rattle.mud_hall.specs.Alone.{Alone, alone};
@@ -159,20 +161,38 @@ impl Solo {
         ensures stores { Stores self.old.capacity self.old.state change (shown result) self.new.state }
         ensures stored { IfErr result (λ f. f ≢ Fault.Unpublished) }
     {
-        let version = self.version();
-        if version == self.capacity {
+        let version = self.version() + 1;
+        let text = self.text(&change)?;
+        self.keep(change)?;
+        Ok(Reply::Accepted { version, text })
+    }
+
+    // What is replied to a change, where the history takes one more.
+    fn text(&self, change: &Change) -> Result<String, Fault>
+        ensures text { IfOk result
+            (λ text. string_bytes text ≡ reply_text (world_after self.now.state.seen) change.now) }
+        ensures room { OnOk result (length self.now.state.seen < self.now.capacity) }
+        ensures fault { IfErr result (λ f. (f ≡ Fault.OutOfMemory)
+            ⊎ ((f ≡ Fault.HistoryFull) × (length self.now.state.seen ≡ self.now.capacity))) }
+    {
+        if self.version() == self.capacity {
             return Err(Fault::HistoryFull);
         }
-        let text = reply_text(self.alloc, &self.world, &change)?;
-        self.history.reserve(1)?;
-        let actor = change.actor;
-        self.world.apply(&change)?;
+        Ok(reply_text(self.alloc, &self.world, change)?)
+    }
+
+    // Makes a change, and keeps it as the next entry.
+    fn keep(&mut self, change: Change) -> Result<(), AllocError>
+        requires room { length self.old.state.seen < self.old.capacity }
+        requires lawful { IsLawful (world_after self.old.state.seen) self.old.state.player (Verdict.Change change) }
+        ensures capacity { self.new.capacity ≡ self.old.capacity }
+        ensures ok { OnOk result (self.new.state ≡ as_accepted self.old.state change) }
+        ensures err { OnErr result (self.new.state ≡ self.old.state) }
+    {
+        apply(&mut self.history, &mut self.world, &change)?;
+        self.player = change.actor;
         self.history.push_reserved(Entry::new(1, change));
-        self.player = actor;
-        Ok(Reply::Accepted {
-            version: version + 1,
-            text,
-        })
+        Ok(())
     }
 
     /// Answers a line, as `Desk::ask_with` at an open gate.
@@ -244,4 +264,16 @@ impl Solo {
     {
         Vec::new(self.alloc)
     }
+}
+
+// Makes a change in the world, once the history has room for it.
+fn apply(history: &mut Vec<Entry>, world: &mut World, change: &Change) -> Result<(), AllocError>
+    requires { refusal world.old change.now ≡ None }
+    ensures items { history.new.items ≡ history.old.items }
+    ensures room { OnOk result (vec_len history.new < vec_capacity history.new) }
+    ensures ok { OnOk result (world.new ≡ after world.old change.now) }
+    ensures err { OnErr result (world.new ≡ world.old) }
+{
+    history.reserve(1)?;
+    world.apply(change)
 }

@@ -4,7 +4,6 @@ use Rattle.mud_hall.proofs.Guests.{can-ask}
 use Rattle.mud_hall.proofs.answering.respond.Goals as goal
 
 -- a guest asks about no journey
-pub explain-requires-clause-player : goal.explain-requires-clause-player
-explain-requires-clause-player g c =
-    can-ask c.args.world.now c.args.player (line_of c.args.said.now) c.in-Ask.query
-    (sym c.in_ok-query.ensures.decision ∙ c.in-Ask.is)
+pub answer-requires-clause-asked : goal.answer-requires-clause-asked
+answer-requires-clause-asked g c q is =
+    can-ask c.args.world.now c.args.player (line_of c.args.said.now) q (sym c.in_ok-verdict.ensures.decision ∙ is)

@@ -1,135 +1,85 @@
 -- The turns of a session are calls of its desk.
-use Rattle.std.proofs.Common.{◌≡◌, ℕ, Bool, true, false, List, [], ◌∷◌, ◌++◌, Option, Some, None, refl, sym, ap, ◌∙◌}
-use Rattle.std.proofs.Common.{subst, map}
-use Rattle.std.specs.Prelude.{MatchBool}
-use Rattle.std.specs.Option.{option_to_list}
-use Rattle.std.specs.List.{flat_map}
-use Rattle.std.proofs.lemmas.List.{append-nil}
-use Rattle.std.proofs.lemmas.List.Concat.{flat_map-append}
+use Rattle.std.proofs.Common.{◌≡◌, ℕ, List, [], ◌∷◌, ◌++◌, Some, refl, ap, subst}
 use Rattle.mud_words.specs.Parse.{parsed}
-use Rattle.mud_words.specs.Words.{is_blank}
-use Rattle.mud_nvt.specs.Units.{Given, Text, TooLong, Ayt, Answer}
-use Rattle.mud_rules.specs.Table.{is_question}
-use Rattle.mud_hall.specs.Desk.{DeskState, TakesIn}
-use Rattle.mud_hall.specs.Steps.{Call, See, Act, Ask, Told, PerformsAll}
-use Rattle.mud_session.specs.Session.{Talk, Said, Turn, Does, Rests, Looks, IsActed, IsAsked, IsAnswered, Plays}
-use Rattle.mud_session.specs.Laws.{reply_in, reply_by, handed_by, AreCalls}
+use Rattle.mud_hall.specs.Desk.{DeskState, TakesIn, HandsOut}
+use Rattle.mud_hall.specs.Replies.{Reply, Replies}
+use Rattle.mud_hall.specs.Answers.{Answered, Answers}
+use Rattle.mud_hall.specs.Steps.{Call, See, Act, Ask, Told, Performs, PerformsAll}
+use Rattle.mud_session.specs.Session.{TakingIn, Talk, Case, Rests, Looks, Fails, Asks, Acts, Turn, Sees, Does, Plays}
+use Rattle.mud_session.specs.Laws.{calls_of, all_calls}
 
--- one turn is these calls
-record IsCalls (capacity : ℕ) (old : DeskState) (unit : Option Given) (notices : List (List ℕ)) (reply : Option Said)
-    (new : DeskState) : Type 0 where
-  calls : List Call
-  performs : PerformsAll capacity old calls new
-  handed : notices ≡ flat_map handed_by calls
-  said : reply_in unit reply ≡ flat_map reply_by calls
+-- what holds of each call that a turn makes
+pub record HoldsOfCalls (T : TakingIn) (P : ℕ → DeskState → Call → DeskState → Type 0) : Type 0 where
+  pub sees : (capacity : ℕ) (old new : DeskState) → T old new → P capacity old See new
+  pub tells : (capacity : ℕ) (old : DeskState) (lines : List (List ℕ)) (new : DeskState) → HandsOut old lines new
+      → P capacity old (Told lines) new
+  pub asks : (capacity : ℕ) (old : DeskState) (line : List ℕ) (answer : Answered) → Answers old (parsed line) answer
+      → P capacity old (Ask line (Some answer)) old
+  pub acts : (capacity : ℕ) (old ready : DeskState) (line : List ℕ) (reply : Reply) (new : DeskState) → T old ready
+      → Replies capacity ready (parsed line) reply new → P capacity old (Act line reply) new
 
-pub unsaid : (unit : Option Given) → reply_in unit None ≡ []
-unsaid None = refl
-unsaid (Some TooLong) = refl
-unsaid (Some Ayt) = refl
-unsaid (Some (Answer bytes)) = refl
-unsaid (Some (Text line)) = refl
+-- it holds of calls one after the other
+abbrev pub HoldsOfAll : (DeskState → Call → DeskState → Type 0) → DeskState → List Call → DeskState → Type 0
+HoldsOfAll P old [] new = new ≡ old
+HoldsOfAll P old (call ∷ calls) new = (now : DeskState) × P old call now × HoldsOfAll P now calls new
 
-looked : (capacity : ℕ) (old : DeskState) (unit : Option Given) (lines : List (List ℕ)) (new : DeskState)
-    → Looks TakesIn old lines new → IsCalls capacity old unit lines None new
-looked capacity old unit lines new looks = record {
-  calls = See ∷ Told lines ∷ [];
-  performs = (looks.ready, looks.takes, (new, looks.tells, refl));
-  handed = sym (append-nil lines);
-  said = unsaid unit;
+goes-on : (P : DeskState → Call → DeskState → Type 0) (a b c : DeskState) (xs ys : List Call) → HoldsOfAll P a xs b
+    → HoldsOfAll P b ys c → HoldsOfAll P a (xs ++ ys) c
+goes-on P a b c [] ys same more = subst (λ (d : DeskState). HoldsOfAll P d ys c) same more
+goes-on P a b c (x ∷ xs) ys (now, does, rest) more = (now, does, goes-on P now b c xs ys rest more)
+
+looked : (T : TakingIn) (P : ℕ → DeskState → Call → DeskState → Type 0) → HoldsOfCalls T P → (capacity : ℕ)
+    (old : DeskState) (lines : List (List ℕ)) (new : DeskState) → Sees T old lines new
+    → HoldsOfAll (P capacity) old (See ∷ Told lines ∷ []) new
+looked T P holds capacity old lines new sees = (
+  sees.ready,
+  holds.sees capacity old sees.ready sees.takes,
+  (new, holds.tells capacity sees.ready lines new sees.tells, refl),
+)
+
+turned : (T : TakingIn) (P : ℕ → DeskState → Call → DeskState → Type 0) → HoldsOfCalls T P → (capacity : ℕ)
+    (old : DeskState) (case : Case) (lines : List (List ℕ)) (new : DeskState) → Does T capacity old case lines new
+    → HoldsOfAll (P capacity) old (calls_of lines case) new
+turned T P holds capacity old (Rests unit) lines new does = does.2
+turned T P holds capacity old Looks lines new sees = looked T P holds capacity old lines new sees
+turned T P holds capacity old (Fails line) lines new does = looked T P holds capacity old lines new does.1
+turned T P holds capacity old (Asks line answer) lines new (heard, question, sees, all, answers) =
+    goes-on (P capacity) old new new (See ∷ Told lines ∷ []) (Ask line (Some answer) ∷ [])
+    (looked T P holds capacity old lines new sees) (new, holds.asks capacity new line answer answers, refl)
+turned T P holds capacity old (Acts line reply) lines new (heard, other, acts) = (
+  acts.acted,
+  holds.acts capacity old acts.ready line reply acts.acted acts.takes acts.replies,
+  (new, holds.tells capacity acts.acted lines new acts.tells, refl),
+)
+
+-- what holds of each call holds of all calls of some turns
+pub all_turned : (T : TakingIn) (P : ℕ → DeskState → Call → DeskState → Type 0) → HoldsOfCalls T P → (old new : Talk)
+    (turns : List Turn) → Plays T old turns new → HoldsOfAll (P old.capacity) old.desk (all_calls turns) new.desk
+all_turned T P holds old new [] same = ap (λ (t : Talk). t.desk) same
+all_turned T P holds old new (turn ∷ turns) (goes, mid, takes, plays) =
+    goes-on (P old.capacity) old.desk mid.desk new.desk (calls_of turn.notices turn.case) (all_calls turns)
+    (turned T P holds old.capacity old.desk turn.case turn.notices mid.desk takes.does)
+    (subst (λ (n : ℕ). HoldsOfAll (P n) mid.desk (all_calls turns) new.desk) takes.capacity
+    (all_turned T P holds mid new turns plays))
+
+-- ---- at a desk of a hall
+
+performed : HoldsOfCalls TakesIn Performs
+performed = record {
+  sees = λ capacity old new takes. takes;
+  tells = λ capacity old lines new hands. hands;
+  asks = λ capacity old line answer answers. (answers, refl);
+  acts = λ capacity old ready line reply new takes replies.
+      record { ready = ready; takes_in = takes; replies = replies };
 }
 
-asked : (old : Talk) (line : List ℕ) (lines : List (List ℕ)) (said : Said) (new : Talk)
-    → IsAsked TakesIn old (parsed line) lines said new
-    → IsCalls old.capacity old.desk (Some (Text line)) lines (Some said) new.desk
-asked old line lines said new asks = record {
-  calls = See ∷ Told lines ∷ Ask line (Some asks.answer) ∷ [];
-  performs =
-      (asks.looks.ready, asks.looks.takes, (new.desk, asks.looks.tells, (new.desk, (asks.answers, refl), refl)));
-  handed = sym (append-nil lines);
-  said = ap (λ (text : List ℕ). (line, text) ∷ []) asks.text;
-}
-
-acted : (old : Talk) (line : List ℕ) (lines : List (List ℕ)) (said : Said) (new : Talk)
-    → IsActed TakesIn old (parsed line) lines said new
-    → IsCalls old.capacity old.desk (Some (Text line)) lines (Some said) new.desk
-acted old line lines said new acts = record {
-  calls = Act line acts.reply ∷ Told lines ∷ [];
-  performs = (
-    acts.acted,
-    record { ready = acts.ready; takes_in = acts.takes; replies = acts.replies },
-    (new.desk, acts.tells, refl),
-  );
-  handed = sym (append-nil lines);
-  said = ap (λ (o : Option (List ℕ)). map (λ (text : List ℕ). (line, text)) (option_to_list o) ++ []) (sym acts.text);
-}
-
-answered : (old : Talk) (line : List ℕ) (lines : List (List ℕ)) (said : Option Said) (new : Talk)
-    → IsAnswered TakesIn old (parsed line) lines said new
-    → IsCalls old.capacity old.desk (Some (Text line)) lines said new.desk
-answered old line lines None new looks = looked old.capacity old.desk (Some (Text line)) lines new.desk looks
-answered old line lines (Some said) new is = go (is_question (parsed line)) is
-  where
-    go : (b : Bool)
-        → MatchBool b (IsAsked TakesIn old (parsed line) lines said new)
-        (IsActed TakesIn old (parsed line) lines said new)
-        → IsCalls old.capacity old.desk (Some (Text line)) lines (Some said) new.desk
-    go true asks = asked old line lines said new asks
-    go false acts = acted old line lines said new acts
-
--- what a turn does is by its unit
-abbrev Of : Talk → Turn → Talk → Option Given → Type 0
-Of old turn new unit = IsCalls old.capacity old.desk unit turn.notices turn.reply new.desk
-
-rested : (old : Talk) (turn : Turn) (new : Talk) (unit : Option Given) → Rests old turn new → Of old turn new unit
-rested old turn new unit rests = record {
-  calls = [];
-  performs = rests.desk;
-  handed = rests.notices;
-  said = ap (reply_in unit) rests.reply ∙ unsaid unit;
-}
-
-turned : (old : Talk) (turn : Turn) (new : Talk) (unit : Option Given) → Does TakesIn old turn new unit
-    → Of old turn new unit
-turned old turn new None does =
-    subst (λ (r : Option Said). IsCalls old.capacity old.desk None turn.notices r new.desk) (sym does.1)
-    (looked old.capacity old.desk None turn.notices new.desk does.0)
-turned old turn new (Some TooLong) does = rested old turn new (Some TooLong) does
-turned old turn new (Some Ayt) does = rested old turn new (Some Ayt) does
-turned old turn new (Some (Answer bytes)) does = rested old turn new (Some (Answer bytes)) does
-turned old turn new (Some (Text line)) does = go (is_blank line) does
-  where
-    go : (b : Bool)
-        → MatchBool b (Rests old turn new) (IsAnswered TakesIn old (parsed line) turn.notices turn.reply new)
-        → Of old turn new (Some (Text line))
-    go true rests = rested old turn new (Some (Text line)) rests
-    go false is = answered old line turn.notices turn.reply new is
-
--- ---- turns one after the other
-
-goes-on : (capacity : ℕ) (a b c : DeskState) (xs ys : List Call) → PerformsAll capacity a xs b
-    → PerformsAll capacity b ys c → PerformsAll capacity a (xs ++ ys) c
-goes-on capacity a b c [] ys same more = subst (λ (d : DeskState). PerformsAll capacity d ys c) same more
-goes-on capacity a b c (x ∷ xs) ys (now, does, rest) more = (now, does, goes-on capacity now b c xs ys rest more)
+all-performed : (capacity : ℕ) (old : DeskState) (calls : List Call) (new : DeskState)
+    → HoldsOfAll (Performs capacity) old calls new → PerformsAll capacity old calls new
+all-performed capacity old [] new same = same
+all-performed capacity old (call ∷ calls) new (now, does, rest) = (now, does, all-performed capacity now calls new rest)
 
 pub turns_are_calls : (old new : Talk) (turns : List Turn) → Plays TakesIn old turns new
-    → AreCalls old.capacity old.desk turns new.desk
-turns_are_calls old new [] same =
-    record { calls = []; performs = ap (λ (t : Talk). t.desk) same; notices = refl; replies = refl }
-turns_are_calls old new (turn ∷ turns) (goes, mid, takes, plays) =
-    let one : IsCalls old.capacity old.desk turn.unit turn.notices turn.reply mid.desk =
-    turned old turn mid turn.unit takes.does in
-    let rest : AreCalls mid.capacity mid.desk turns new.desk = turns_are_calls mid new turns plays in
-    let more : PerformsAll old.capacity mid.desk rest.calls new.desk =
-    subst (λ (n : ℕ). PerformsAll n mid.desk rest.calls new.desk) takes.capacity rest.performs in
-    record {
-      calls = one.calls ++ rest.calls;
-      performs = goes-on old.capacity old.desk mid.desk new.desk one.calls rest.calls one.performs more;
-      notices = ap (λ (l : List (List ℕ)). l ++ flat_map (λ (t : Turn). t.notices) turns) one.handed
-          ∙ ap (λ (l : List (List ℕ)). flat_map handed_by one.calls ++ l) rest.notices
-          ∙ sym (flat_map-append handed_by one.calls rest.calls);
-      replies =
-          ap (λ (l : List (List ℕ × List ℕ)). l ++ flat_map (λ (t : Turn). reply_in t.unit t.reply) turns) one.said
-          ∙ ap (λ (l : List (List ℕ × List ℕ)). flat_map reply_by one.calls ++ l) rest.replies
-          ∙ sym (flat_map-append reply_by one.calls rest.calls);
-    }
+    → PerformsAll old.capacity old.desk (all_calls turns) new.desk
+turns_are_calls old new turns plays =
+    all-performed old.capacity old.desk (all_calls turns) new.desk
+    (all_turned TakesIn Performs performed old new turns plays)

@@ -1,14 +1,14 @@
 -- A session names no version beyond what its desk has seen.
 use Rattle.std.proofs.Common.{◌≡◌, ◌≤◌, ◌+◌, ℕ, Bool, true, false, List, [], ◌∷◌, ◌++◌, Option, Some, None, refl, sym}
 use Rattle.std.proofs.Common.{ap, ◌∙◌, subst, map, codes, length, length-append, arith, inl, inr, ◌⊎◌}
-use Rattle.std.specs.Prelude.{All, Contains, MatchBool, if◌then◌else◌}
+use Rattle.std.specs.Prelude.{All, Contains, if◌then◌else◌}
 use Rattle.std.specs.List.{flat_map}
+use Rattle.std.specs.Option.{option_map_or}
 use Rattle.std.proofs.lemmas.List.{append-nil}
 use Rattle.std.proofs.lemmas.List.Concat.{flat_map-append}
 use Rattle.std.proofs.lemmas.List.Elements.{All-nil, All-cons, All-head, All-tail, All-append, All-weaker}
 use Rattle.mud_words.specs.Line.{Line}
 use Rattle.mud_words.specs.Parse.{parsed}
-use Rattle.mud_words.specs.Words.{is_blank}
 use Rattle.mud_nvt.specs.declared.codes.TheConstants.{IAC}
 use Rattle.mud_nvt.specs.declared.strokes.Stroke.{Stroke}
 use Rattle.mud_nvt.specs.declared.strokes.Stroke.TheVariants.{Character, EraseCharacter, EraseLine, EndLine}
@@ -21,7 +21,6 @@ use Rattle.mud_world.specs.State.{State as World}
 use Rattle.mud_world.specs.declared.change.Change.{Change}
 use Rattle.mud_rules.specs.declared.verdict.Verdict.{Verdict}
 use Rattle.mud_rules.specs.declared.verdict.Verdict.TheVariants as verdict
-use Rattle.mud_rules.specs.Table.{is_question}
 use Rattle.mud_rules.specs.Hearing.{heard_line}
 use Rattle.mud_rules.specs.Replies.{welcome_text, refusal_text}
 use Rattle.mud_chron.specs.Entry.{Entry}
@@ -32,48 +31,50 @@ use Rattle.mud_hall.specs.Desk.{DeskState, TakesIn}
 use Rattle.mud_hall.specs.Replies.{Reply, Accepted, Became, Refused, Question, Failed, Stores, Replies, verdict_on}
 use Rattle.mud_hall.proofs.Coming.{Plain as Comes, plainly}
 use Rattle.mud_session.specs.State.{State, DoorState, talk_of}
-use Rattle.mud_session.specs.Session.{Talk, Said, Turn, Takes, Plays, Does, Rests, IsActed, IsAsked, IsAnswered}
-use Rattle.mud_session.specs.Session.{numbered, reply_line, sent, answer_to, text_of_turn, text_of}
+use Rattle.mud_session.specs.Session.{Talk, Case, Rests, Looks, Fails, Asks, Acts, Turn, Does, Takes, Plays}
+use Rattle.mud_session.specs.Session.{unit_of, numbered, reply_line, sent, answer_to, text_of}
 use Rattle.mud_session.specs.inner.Parts.{greeting}
 use Rattle.mud_session.specs.Feeding.{Feeds, Nudges}
-use Rattle.mud_session.specs.Naming.{Piece, Numbered, Notice, Plain, Signal, plain_lines, IsSaidOf, IsNotice, bytes_of}
-use Rattle.mud_session.specs.Naming.{IsUpTo, NamesUpTo}
+use Rattle.mud_session.specs.Naming.{plain_lines, IsSaidOf, IsNotice, IsPiece, NamesUpTo}
 use Rattle.mud_session.specs.Laws.{IsToldOnce, NamesSeen}
+use Rattle.mud_session.proofs.Playing.{unit_in, text_in}
 use Rattle.mud_session.proofs.Telling.{told_once}
 
 -- ---- texts that name no version above a number
 
-pub names-nil : (n : ℕ) → NamesUpTo n []
-names-nil n = record { pieces = []; each = All-nil (IsUpTo n); is = refl }
+abbrev piece : List ℕ → List ℕ
+piece bytes = bytes
 
-names-one : (n : ℕ) (piece : Piece) → IsUpTo n piece → NamesUpTo n (bytes_of piece)
-names-one n piece h = record {
-  pieces = piece ∷ [];
-  each = All-cons (IsUpTo n) piece [] h (All-nil (IsUpTo n));
-  is = sym (append-nil (bytes_of piece));
+pub names-nil : (n : ℕ) → NamesUpTo n []
+names-nil n = record { pieces = []; each = All-nil (IsPiece n); is = refl }
+
+names-one : (n : ℕ) (bytes : List ℕ) → IsPiece n bytes → NamesUpTo n bytes
+names-one n bytes h = record {
+  pieces = bytes ∷ [];
+  each = All-cons (IsPiece n) bytes [] h (All-nil (IsPiece n));
+  is = sym (append-nil bytes);
 }
 
 pub names-append : (n : ℕ) (a b : List ℕ) → NamesUpTo n a → NamesUpTo n b → NamesUpTo n (a ++ b)
 names-append n a b x y = record {
   pieces = x.pieces ++ y.pieces;
-  each = All-append (IsUpTo n) x.pieces y.pieces x.each y.each;
-  is = ap (λ (l : List ℕ). l ++ b) x.is ∙ ap (λ (l : List ℕ). flat_map bytes_of x.pieces ++ l) y.is
-      ∙ sym (flat_map-append bytes_of x.pieces y.pieces);
+  each = All-append (IsPiece n) x.pieces y.pieces x.each y.each;
+  is = ap (λ (l : List ℕ). l ++ b) x.is ∙ ap (λ (l : List ℕ). flat_map piece x.pieces ++ l) y.is
+      ∙ sym (flat_map-append piece x.pieces y.pieces);
 }
 
 notice-more : (n m : ℕ) → n ≤ m → (text : List ℕ) → IsNotice n text → IsNotice m text
 notice-more n m le text (v, w, e, p, line, few, heard, is) = (v, w, e, p, line, omega arith, heard, is)
 
-up-to-more : (n m : ℕ) → n ≤ m → (piece : Piece) → IsUpTo n piece → IsUpTo m piece
-up-to-more n m le (Numbered v text) h = (omega (arith, h.0), h.1)
-up-to-more n m le (Notice text) h = notice-more n m le text h
-up-to-more n m le (Plain line) h = h
-up-to-more n m le (Signal verb option) h = tt
+piece-more : (n m : ℕ) → n ≤ m → (bytes : List ℕ) → IsPiece n bytes → IsPiece m bytes
+piece-more n m le bytes (inl (v, text, few, said, is)) = inl (v, text, omega arith, said, is)
+piece-more n m le bytes (inr (inl (text, notice, is))) = inr (inl (text, notice-more n m le text notice, is))
+piece-more n m le bytes (inr (inr other)) = inr (inr other)
 
 pub names-more : (n m : ℕ) (text : List ℕ) → n ≤ m → NamesUpTo n text → NamesUpTo m text
 names-more n m text le x = record {
   pieces = x.pieces;
-  each = All-weaker (IsUpTo n) (IsUpTo m) (up-to-more n m le) x.pieces x.each;
+  each = All-weaker (IsPiece n) (IsPiece m) (piece-more n m le) x.pieces x.each;
   is = x.is;
 }
 
@@ -81,18 +82,18 @@ names-is : (n : ℕ) (a b : List ℕ) → b ≡ a → NamesUpTo n a → NamesUpT
 names-is n a b is x = subst (NamesUpTo n) (sym is) x
 
 names-plain : (n : ℕ) (text : List ℕ) → Contains plain_lines text → NamesUpTo n (sent text)
-names-plain n text h = names-one n (Plain text) h
+names-plain n text h = names-one n (sent text) (inr (inr (inl (text, h, refl))))
 
 names-numbered : (n v : ℕ) (text said : List ℕ) → said ≡ numbered v text → v ≤ n → IsSaidOf v text
     → NamesUpTo n (sent said)
 names-numbered n v text said is le h =
-    names-is n (sent (numbered v text)) (sent said) (ap sent is) (names-one n (Numbered v text) (le, h))
+    names-one n (sent said) (inl (v, text, le, h, ap sent is))
 
 names-notices : (n : ℕ) (lines : List (List ℕ)) → All (IsNotice n) lines → NamesUpTo n (flat_map sent lines)
 names-notices n [] all = names-nil n
 names-notices n (text ∷ lines) all =
     names-append n (sent text) (flat_map sent lines)
-    (names-one n (Notice text) (All-head (IsNotice n) text lines all))
+    (names-one n (sent text) (inr (inl (text, All-head (IsNotice n) text lines all, refl))))
     (names-notices n lines (All-tail (IsNotice n) text lines all))
 
 -- ---- both parts of a list
@@ -204,21 +205,10 @@ replied capacity ready line reply new h =
         (inr (inr (inl (f, refl)))))
     go (verdict.Ask q) (inr c) = by (Question (length ready.seen)) c.0 tt
 
-acted : (old new : Talk) (line : Line) (lines : List (List ℕ)) (said : Said) → IsActed TakesIn old line lines said new
-    → NamesUpTo (length new.desk.seen) (sent said.text)
-acted old new line lines said acts =
-    let names : NamesSaid (length acts.acted.seen) (reply_line acts.reply) =
-    replied old.capacity acts.ready line acts.reply acts.acted acts.replies in
-    let here : NamesUpTo (length acts.acted.seen) (sent said.text) =
-    subst (NamesSaid (length acts.acted.seen)) acts.text names in
-    subst (λ (n : ℕ). NamesUpTo n (sent said.text)) (sym (ap (λ (d : DeskState). length d.seen) acts.tells.is)) here
-
-asked : (old new : Talk) (line : Line) (lines : List (List ℕ)) (said : Said) → IsAsked TakesIn old line lines said new
-    → NamesUpTo (length new.desk.seen) (sent said.text)
-asked old new line lines said asks =
-    names-numbered (length new.desk.seen) asks.answer.version asks.answer.text said.text asks.text
-    (omega (arith, asks.answers.version))
-    (inr (inr (inr (new.desk, line, asks.answer, asks.answers, refl, refl))))
+-- what is sent for the reply, too
+said-or-none : (n : ℕ) (reply : Option (List ℕ)) → NamesSaid n reply → NamesUpTo n (option_map_or sent reply [])
+said-or-none n None names = names-nil n
+said-or-none n (Some text) names = names
 
 -- ---- what the terminal answers
 
@@ -273,62 +263,42 @@ record Goes (old : DeskState) (text : List ℕ) (new : DeskState) : Type 0 where
   told : All (IsNotice (length new.seen)) new.told
 
 -- what is sent for a unit names nothing beyond
-abbrev Answers : Talk → Option Given → Option Said → Type 0
-Answers new unit reply = NamesUpTo (length new.desk.seen) (answer_to unit reply)
+rested : (n : ℕ) (unit : Given) → Signals (Some unit) → NamesUpTo n (answer_to (Rests unit))
+rested n TooLong signals = names-plain n (codes "(line too long)") (4, omega arith, refl)
+rested n Ayt signals = names-plain n (codes "[Yes]") (5, omega arith, refl)
+rested n (Answer bytes) (verb, option, is) =
+    names-one n bytes (inr (inr (inr (verb, option, is))))
+rested n (Text line) signals = names-nil n
 
-rested : (old new : Talk) (turn : Turn) (unit : Option Given) → Answers new unit None → Rests old turn new
-    → Answers new unit turn.reply
-rested old new turn unit h rests = subst (Answers new unit) (sym rests.reply) h
+turned : (capacity : ℕ) (old : DeskState) (case : Case) (lines : List (List ℕ)) (new : DeskState)
+    → Signals (unit_of case) → Does TakesIn capacity old case lines new → NamesUpTo (length new.seen) (answer_to case)
+turned capacity old (Rests unit) lines new signals does = rested (length new.seen) unit signals
+turned capacity old Looks lines new signals does = names-nil (length new.seen)
+turned capacity old (Fails line) lines new signals does =
+    names-plain (length new.seen) (codes "(out of memory)") (1, omega arith, refl)
+turned capacity old (Asks line answer) lines new signals (heard, question, sees, all, answers) =
+    names-numbered (length new.seen) answer.version answer.text (numbered answer.version answer.text) refl
+    (omega (arith, answers.version)) (inr (inr (inr (new, parsed line, answer, answers, refl, refl))))
+turned capacity old (Acts line reply) lines new signals (heard, other, acts) =
+    subst (λ (n : ℕ). NamesUpTo n (answer_to (Acts line reply)))
+    (sym (ap (λ (d : DeskState). length d.seen) acts.tells.is))
+    (said-or-none (length acts.acted.seen) (reply_line reply)
+    (replied capacity acts.ready (parsed line) reply acts.acted acts.replies))
 
-silent : (new : Talk) (line : List ℕ) (blank : Bool)
-    → NamesUpTo (length new.desk.seen) (if blank then [] else sent (codes "(out of memory)"))
-silent new line true = names-nil (length new.desk.seen)
-silent new line false = names-plain (length new.desk.seen) (codes "(out of memory)") (1, omega arith, refl)
-
-answered : (old new : Talk) (line : List ℕ) (lines : List (List ℕ)) (reply : Option Said)
-    → IsAnswered TakesIn old (parsed line) lines reply new → Answers new (Some (Text line)) reply
-answered old new line lines None looks = silent new line (is_blank line)
-answered old new line lines (Some said) is = go (is_question (parsed line)) is
-  where
-    go : (b : Bool)
-        → MatchBool b (IsAsked TakesIn old (parsed line) lines said new)
-        (IsActed TakesIn old (parsed line) lines said new)
-        → NamesUpTo (length new.desk.seen) (sent said.text)
-    go true asks = asked old new (parsed line) lines said asks
-    go false acts = acted old new (parsed line) lines said acts
-
-turned : (old new : Talk) (turn : Turn) (unit : Option Given) → Signals unit → Does TakesIn old turn new unit
-    → Answers new unit turn.reply
-turned old new turn None signals does = names-nil (length new.desk.seen)
-turned old new turn (Some TooLong) signals does =
-    names-plain (length new.desk.seen) (codes "(line too long)") (4, omega arith, refl)
-turned old new turn (Some Ayt) signals does =
-    names-plain (length new.desk.seen) (codes "[Yes]") (5, omega arith, refl)
-turned old new turn (Some (Answer bytes)) (verb, option, is) does =
-    names-is (length new.desk.seen) (IAC ∷ verb ∷ option ∷ []) bytes is
-    (names-one (length new.desk.seen) (Signal verb option) tt)
-turned old new turn (Some (Text line)) signals does = go (is_blank line) does
-  where
-    go : (b : Bool)
-        → MatchBool b (Rests old turn new) (IsAnswered TakesIn old (parsed line) turn.notices turn.reply new)
-        → Answers new (Some (Text line)) turn.reply
-    go true rests = rested old new turn (Some (Text line)) (silent new line (is_blank line)) rests
-    go false is = answered old new line turn.notices turn.reply is
-
-takes-turn : (old new : Talk) (turn : Turn) → Signals turn.unit → Takes TakesIn old turn new
-    → All (IsNotice (length old.desk.seen)) old.desk.told → Goes old.desk (text_of_turn turn) new.desk
+takes-turn : (old new : Talk) (turn : Turn) → Signals (unit_of turn.case) → Takes TakesIn old turn new
+    → All (IsNotice (length old.desk.seen)) old.desk.told → Goes old.desk (text_in turn) new.desk
 takes-turn old new turn signals takes told =
     let t : Tells old.desk turn.notices new.desk =
     tells old.desk turn.notices new.desk (told_once old new turn takes) told in
     record {
       grows = t.grows;
-      names = names-append (length new.desk.seen) (flat_map sent turn.notices) (answer_to turn.unit turn.reply)
+      names = names-append (length new.desk.seen) (flat_map sent turn.notices) (answer_to turn.case)
           (names-notices (length new.desk.seen) turn.notices t.handed)
-          (turned old new turn turn.unit signals takes.does);
+          (turned old.capacity old.desk turn.case turn.notices new.desk signals takes.does);
       told = t.told;
     }
 
-plays-on : (old new : Talk) (turns : List Turn) → All Signals (map (λ (turn : Turn). turn.unit) turns)
+plays-on : (old new : Talk) (turns : List Turn) → All Signals (map unit_in turns)
     → Plays TakesIn old turns new → All (IsNotice (length old.desk.seen)) old.desk.told
     → Goes old.desk (text_of turns) new.desk
 plays-on old new [] signals same told =
@@ -339,15 +309,15 @@ plays-on old new [] signals same told =
       told = subst (λ (d : DeskState). All (IsNotice (length d.seen)) d.told) (sym is) told;
     }
 plays-on old new (turn ∷ turns) signals (goes, mid, takes, plays) told =
-    let units : List (Option Given) = map (λ (t : Turn). t.unit) turns in
-    let one : Goes old.desk (text_of_turn turn) mid.desk =
-    takes-turn old mid turn (All-head Signals turn.unit units signals) takes told in
+    let units : List (Option Given) = map unit_in turns in
+    let one : Goes old.desk (text_in turn) mid.desk =
+    takes-turn old mid turn (All-head Signals (unit_in turn) units signals) takes told in
     let rest : Goes mid.desk (text_of turns) new.desk =
-    plays-on mid new turns (All-tail Signals turn.unit units signals) plays one.told in
+    plays-on mid new turns (All-tail Signals (unit_in turn) units signals) plays one.told in
     record {
       grows = omega (arith, one.grows, rest.grows);
-      names = names-append (length new.desk.seen) (text_of_turn turn) (text_of turns)
-          (names-more (length mid.desk.seen) (length new.desk.seen) (text_of_turn turn) rest.grows one.names)
+      names = names-append (length new.desk.seen) (text_in turn) (text_of turns)
+          (names-more (length mid.desk.seen) (length new.desk.seen) (text_in turn) rest.grows one.names)
           rest.names;
       told = rest.told;
     }
@@ -370,18 +340,20 @@ feeds old new was is names bytes f =
     let turns : List Turn = f.play.turns in
     let fresh : AllSignal f.fresh = fresh-signals (units names.earlier) f.fresh (units (names.earlier ++ bytes)) f.units
     (after-signals [] (strokes (pieces (names.earlier ++ bytes)))) in
-    let signals : All Signals (map (λ (turn : Turn). turn.unit) turns) =
-    all-left Signals (map (λ (turn : Turn). turn.unit) turns) (map Some f.play.left)
+    let signals : All Signals (map unit_in turns) =
+    all-left Signals (map unit_in turns) (map Some f.play.left)
     (subst (All Signals) f.play.units_are fresh) in
     goes-on old new was.desk is.desk (names.earlier ++ bytes) (text_of turns) names
     (plays-on (talk_of old was) (talk_of new is) turns signals f.play.plays names.told) f.stands f.out
 
-nudges : (old new : State) (was is : DoorState) → NamesSeen old was.desk → Nudges TakesIn old new was is
+nudges : (old new : State) (was is : DoorState) (names : NamesSeen old was.desk) → Nudges TakesIn old new was is
     → NamesSeen new is.desk
 nudges old new was is names n =
-    goes-on old new was.desk is.desk names.earlier (text_of_turn n.turn) names
-    (takes-turn (talk_of old was) (talk_of new is) n.turn (subst Signals (sym n.none) tt) n.takes names.told)
-    (subst (λ t. StandsAfter t names.earlier) (sym n.terminal) names.stands) n.out
+    let turn : Turn = record { case = Looks; notices = n.lines } in
+    goes-on old new was.desk is.desk names.earlier (text_in turn) names
+    (takes-turn (talk_of old was) (talk_of new is) turn tt n.takes names.told)
+    (subst (λ t. StandsAfter t names.earlier) (sym (ap (λ (s : State). s.terminal) n.is)) names.stands)
+    (ap (λ (s : State). s.out) n.is ∙ ap (λ (l : List ℕ). old.out ++ l) (sym (append-nil (flat_map sent n.lines))))
 
 pub nothing_beyond : (old new : State) (was is : DoorState) (names : NamesSeen old was.desk)
     → ((bytes : List ℕ) → Feeds TakesIn names.earlier bytes old new was is → NamesSeen new is.desk)

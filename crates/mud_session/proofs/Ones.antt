@@ -1,10 +1,11 @@
 -- A script has one text.
 use Rattle.std.proofs.Common.{◌≡◌, ◌<◌, ◌≢◌, ◌+◌, ℕ, Bool, true, false, List, [], ◌∷◌, ◌++◌, Option, None, Some, length}
 use Rattle.std.proofs.Common.{map, codes, refl, sym, ◌∙◌, ap, subst, arith, ◌⊎◌, inl, inr}
-use Rattle.std.specs.Prelude.{is_some, MatchBool, nat_lt, if◌then◌else◌}
-use Rattle.std.specs.Option.{IsSomeAnd}
+use Rattle.std.specs.Prelude.{not, nat_lt, if◌then◌else◌}
+use Rattle.std.specs.Option.{IsSome, IsSomeAnd, option_map_or}
+use Rattle.std.specs.List.{flat_map}
 use Rattle.std.proofs.lemmas.Bool.Decides.{nat_tests}
-use Rattle.std.proofs.lemmas.Bool.{cond-true, cond-false}
+use Rattle.std.proofs.lemmas.Bool.{cond-true, cond-false, true≢false}
 use Rattle.std.proofs.lemmas.List.{append_cancel_right}
 use Rattle.mud_words.specs.Line.{Line}
 use Rattle.mud_words.specs.Parse.{parsed}
@@ -19,7 +20,7 @@ use Rattle.mud_rules.specs.declared.verdict.Query.TheVariants as query
 use Rattle.mud_rules.specs.declared.verdict.Verdict.{Verdict}
 use Rattle.mud_rules.specs.declared.verdict.Verdict.TheVariants as verdict
 use Rattle.mud_rules.specs.Replies.{reply_text, refusal_text, welcome_text}
-use Rattle.mud_rules.specs.Table.{is_question}
+use Rattle.mud_rules.specs.Table.{is_question, is_quit}
 use Rattle.mud_chron.specs.Entry.{Entry}
 use Rattle.mud_cert.specs.Certificate.{Certificate}
 use Rattle.mud_cert.specs.Text.{cert_text}
@@ -33,12 +34,12 @@ use Rattle.mud_hall.specs.Replies.{Reply, Accepted, Became, Refused, Question, F
 use Rattle.mud_hall.proofs.Coming.{Plain, plainly}
 use Rattle.mud_hall.specs.Answers.{Answered, Answers, IsGuided, IsShown, Shows}
 use Rattle.mud_hall.proofs.Worlds.{world-sound}
-use Rattle.mud_session.specs.Session.{Said, Talk, TakesNone, IsShared, Turn, Looks, IsActed, IsAsked, IsAnswered}
-use Rattle.mud_session.specs.Session.{Rests, Does, Takes, Plays, numbered, reply_line, text_of}
-use Rattle.mud_session.specs.inner.Parts.{is_last, replied}
+use Rattle.mud_session.specs.Session.{TakesNone, IsShared, Talk, Case, Rests, Looks, Fails, Asks, Acts, Turn, Sees}
+use Rattle.mud_session.specs.Session.{IsActed, Does, Takes, Plays, unit_of, is_heard, answer_to, is_last, numbered}
+use Rattle.mud_session.specs.Session.{reply_line, sent, text_of}
 use Rattle.mud_session.specs.Script.{begins}
-use Rattle.mud_session.specs.Laws.{ScriptTextIsOne}
-use Rattle.mud_session.proofs.Playing.{unit_of}
+use Rattle.mud_session.specs.Laws.{ScriptTextIsOne, fails}
+use Rattle.mud_session.proofs.Playing.{unit_in, text_in}
 
 -- ---- answers
 guided-one : (h : List Entry) (player : Option ℕ) (j : Journey) (a b : Answer)
@@ -191,180 +192,206 @@ tells-none old lines new none tells =
     let gone : (lines ≡ []) × (new.told ≡ []) = nothing lines new.told (sym tells.told ∙ none) in
     (gone.0, tells.is ∙ ap (with_told old) (gone.1 ∙ sym none))
 
-looks-none : (old : DeskState) (lines : List (List ℕ)) (new : DeskState) → old.told ≡ []
-    → Looks TakesNone old lines new → (lines ≡ []) × (new ≡ old)
-looks-none old lines new none looks =
-    let told : (lines ≡ []) × (new ≡ looks.ready) =
-    tells-none looks.ready lines new (ap (λ (s : DeskState). s.told) looks.takes ∙ none) looks.tells in
-    (told.0, told.1 ∙ looks.takes)
+sees-none : (old : DeskState) (lines : List (List ℕ)) (new : DeskState) → old.told ≡ []
+    → Sees TakesNone old lines new → (lines ≡ []) × (new ≡ old)
+sees-none old lines new none sees =
+    let told : (lines ≡ []) × (new ≡ sees.ready) =
+    tells-none sees.ready lines new (ap (λ (s : DeskState). s.told) sees.takes ∙ none) sees.tells in
+    (told.0, told.1 ∙ sees.takes)
 
 unshared : IsShared TakesNone → ⊥
 unshared shared = shared.3 shared.2
 
 -- ---- turns
--- two turns come to one
-record AreOne (xs ys : List (List ℕ)) (r s : Option Said) (a b : DeskState) : Type 0 where
-  pub notices : xs ≡ ys
-  pub reply : r ≡ s
-  pub desk : a ≡ b
-  pub untold : a.told ≡ []
 
--- a turn with this reply, which leaves this desk
-record Comes (lines : List (List ℕ)) (said : Said) (new : DeskState) (words : List ℕ) (ends : Bool)
-    (kept : DeskState) : Type 0 where
-  pub notices : lines ≡ []
-  pub text : said.text ≡ words
-  pub last : said.is_last ≡ ends
-  pub desk : new ≡ kept
+-- what is sent in a turn and whether it is the last, with the desk that it leaves
+record Comes (lines : List (List ℕ)) (case : Case) (new : DeskState) (words : List ℕ) (ends : Bool) (kept : DeskState)
+    : Type 0 where
+  notices : lines ≡ []
+  text : answer_to case ≡ words
+  last : is_last case ≡ ends
+  desk : new ≡ kept
 
-come-one : (xs ys : List (List ℕ)) (r s : Said) (a b : DeskState) (text other : List ℕ) (last : Bool) (desk : DeskState)
-    → desk.told ≡ [] → text ≡ other
-    → Comes xs r a text last desk → Comes ys s b other last desk → AreOne xs ys (Some r) (Some s) a b
-come-one xs ys r s a b text other last desk none same x y = record {
-  notices = x.notices ∙ sym y.notices;
-  reply = ap (λ (t : List ℕ). let p : Said = record { text = t; is_last = r.is_last } in
-      Some p) (x.text ∙ same ∙ sym y.text)
-      ∙ ap (λ (l : Bool). let p : Said = record { text = s.text; is_last = l } in Some p) (x.last ∙ sym y.last);
-  desk = x.desk ∙ sym y.desk;
-  untold = ap (λ (d : DeskState). d.told) x.desk ∙ none;
-}
+-- what comes of a line at such a desk: by whether it is blank, whether memory runs out for it, and whether it asks
+abbrev IsLine : ℕ → DeskState → List ℕ → Bool → Bool → Bool → List (List ℕ) → Case → DeskState → Type 0
+IsLine capacity s line true failed question lines case new = Comes lines case new [] false s
+IsLine capacity s line false true question lines case new =
+    Comes lines case new (sent (codes "(out of memory)")) false s
+IsLine capacity s line false false true lines case new =
+    (a : Answered) × Answers s (parsed line) a
+    × Comes lines case new (sent (numbered a.version a.text)) (is_quit (parsed line)) s
+IsLine capacity s line false false false lines case new =
+    let v = verdict_on s.seen s.player (parsed line) in
+    Comes lines case new (sent (text_then capacity s v)) false (desk_then capacity s v)
 
-acted-comes : (old : Talk) (line : Line) (lines : List (List ℕ)) (said : Said) (new : Talk) → old.desk.told ≡ []
-    → IsActed TakesNone old line lines said new
-    → let v = verdict_on old.desk.seen old.desk.player line in
-    Comes lines said new.desk (text_then old.capacity old.desk v) false (desk_then old.capacity old.desk v)
-acted-comes old line lines said new none x =
-    let v = verdict_on old.desk.seen old.desk.player line in
-    let replies : Replies old.capacity old.desk line x.reply x.acted =
-    subst (λ (d : DeskState). Replies old.capacity d line x.reply x.acted) x.takes x.replies in
-    let is : IsThen old.capacity old.desk v said.text x.acted =
-    reply-then old.capacity old.desk line said.text x.reply x.acted (λ e. unshared (x.stored e)) replies x.text in
-    let untold : x.acted.told ≡ [] = ap (λ (d : DeskState). d.told) is.1 ∙ told-then old.capacity old.desk v ∙ none in
-    let told : (lines ≡ []) × (new.desk ≡ x.acted) = tells-none x.acted lines new.desk untold x.tells in
-    record { notices = told.0; text = is.0; last = x.goes_on; desk = told.1 ∙ is.1 }
+-- what comes of a unit, or of none
+abbrev IsUnit : ℕ → DeskState → Option Given → Bool → List (List ℕ) → Case → DeskState → Type 0
+IsUnit capacity s None failed lines case new = Comes lines case new [] false s
+IsUnit capacity s (Some (Text line)) failed lines case new =
+    IsLine capacity s line (is_blank line) failed (is_question (parsed line)) lines case new
+IsUnit capacity s (Some unit) failed lines case new = Comes lines case new (answer_to (Rests unit)) false s
 
-rests-one : (old a b : Talk) (t u : Turn) → old.desk.told ≡ [] → Rests old t a → Rests old u b
-    → AreOne t.notices u.notices t.reply u.reply a.desk b.desk
-rests-one old a b t u none x y = record {
-  notices = x.notices ∙ sym y.notices;
-  reply = x.reply ∙ sym y.reply;
-  desk = x.desk ∙ sym y.desk;
-  untold = ap (λ (d : DeskState). d.told) x.desk ∙ none;
-}
+comes-none : (lines : List (List ℕ)) (case : Case) (s new : DeskState) → is_last case ≡ false
+    → (lines ≡ []) × (new ≡ s) → Comes lines case new (answer_to case) false s
+comes-none lines case s new last same = record { notices = same.0; text = refl; last = last; desk = same.1 }
 
-looks-one : (old : DeskState) (xs ys : List (List ℕ)) (r s : Option Said) (a b : DeskState) → old.told ≡ [] → r ≡ s
-    → Looks TakesNone old xs a → Looks TakesNone old ys b → AreOne xs ys r s a b
-looks-one old xs ys r s a b none same x y =
-    let one : (xs ≡ []) × (a ≡ old) = looks-none old xs a none x in
-    let other : (ys ≡ []) × (b ≡ old) = looks-none old ys b none y in
+blank-comes : (capacity : ℕ) (s : DeskState) (line : List ℕ) (blank failed question : Bool) (lines : List (List ℕ))
+    (new : DeskState) → not blank ≡ false → Comes lines (Rests (Text line)) new [] false s
+    → IsLine capacity s line blank failed question lines (Rests (Text line)) new
+blank-comes capacity s line true failed question lines new quiet comes = comes
+blank-comes capacity s line false failed question lines new quiet comes = absurd (true≢false quiet)
+
+rests-come : (capacity : ℕ) (s : DeskState) (unit : Given) (failed : Bool) (lines : List (List ℕ)) (new : DeskState)
+    → is_heard unit ≡ false → (lines ≡ []) × (new ≡ s) → IsUnit capacity s (Some unit) failed lines (Rests unit) new
+rests-come capacity s TooLong failed lines new quiet same = comes-none lines (Rests TooLong) s new refl same
+rests-come capacity s Ayt failed lines new quiet same = comes-none lines (Rests Ayt) s new refl same
+rests-come capacity s (Sent bytes) failed lines new quiet same = comes-none lines (Rests (Sent bytes)) s new refl same
+rests-come capacity s (Text line) failed lines new quiet same =
+    blank-comes capacity s line (is_blank line) failed (is_question (parsed line)) lines new quiet
+    (comes-none lines (Rests (Text line)) s new refl same)
+
+acted-comes : (capacity : ℕ) (s : DeskState) (line : List ℕ) (reply : Reply) (lines : List (List ℕ)) (new : DeskState)
+    → s.told ≡ [] → IsActed TakesNone capacity s line reply lines new
+    → let v = verdict_on s.seen s.player (parsed line) in
+    Comes lines (Acts line reply) new (sent (text_then capacity s v)) false (desk_then capacity s v)
+acted-comes capacity s line reply lines new none x =
+    let v = verdict_on s.seen s.player (parsed line) in
+    let replies : Replies capacity s (parsed line) reply x.acted =
+    subst (λ (d : DeskState). Replies capacity d (parsed line) reply x.acted) x.takes x.replies in
+    let some : (text : List ℕ) × (reply_line reply ≡ Some text) = said-so (reply_line reply) x.says in
+    let is : IsThen capacity s v some.0 x.acted =
+    reply-then capacity s (parsed line) some.0 reply x.acted (λ e. unshared (x.stored e)) replies some.1 in
+    let untold : x.acted.told ≡ [] = ap (λ (d : DeskState). d.told) is.1 ∙ told-then capacity s v ∙ none in
+    let told : (lines ≡ []) × (new ≡ x.acted) = tells-none x.acted lines new untold x.tells in
     record {
-      notices = one.0 ∙ sym other.0;
-      reply = same;
-      desk = one.1 ∙ sym other.1;
-      untold =
-          ap (λ (d : DeskState). d.told) one.1 ∙ none;
+      notices = told.0;
+      text = ap (λ (o : Option (List ℕ)). option_map_or sent o []) some.1 ∙ ap sent is.0;
+      last = refl;
+      desk = told.1 ∙ is.1;
     }
+  where
+    said-so : (o : Option (List ℕ)) → IsSome o → (text : List ℕ) × (o ≡ Some text)
+    said-so None h = absurd (true≢false (sym h))
+    said-so (Some text) h = (text, refl)
 
-asked-one : (old a b : Talk) (line : Line) (xs ys : List (List ℕ)) (r s : Said) → old.desk.told ≡ []
-    → IsAsked TakesNone old line xs r a → IsAsked TakesNone old line ys s b
-    → AreOne xs ys (Some r) (Some s) a.desk b.desk
-asked-one old a b line xs ys r s none x y =
-    let one : (xs ≡ []) × (a.desk ≡ old.desk) = looks-none old.desk xs a.desk none x.looks in
-    let other : (ys ≡ []) × (b.desk ≡ old.desk) = looks-none old.desk ys b.desk none y.looks in
-    let p : Answers old.desk line x.answer = subst (λ (d : DeskState). Answers d line x.answer) one.1 x.answers in
-    let q : Answers old.desk line y.answer = subst (λ (d : DeskState). Answers d line y.answer) other.1 y.answers in
-    come-one xs ys r s a.desk b.desk (numbered x.answer.version x.answer.text) (numbered y.answer.version y.answer.text)
-    _ old.desk none (answers-one old.desk line x.answer y.answer p q)
-    (record { notices = one.0; text = x.text; last = x.last; desk = one.1 })
-    (record { notices = other.0; text = y.text; last = y.last; desk = other.1 })
+-- each case of a turn is one of these
+does-come : (capacity : ℕ) (s : DeskState) (case : Case) (lines : List (List ℕ)) (new : DeskState) → s.told ≡ []
+    → Does TakesNone capacity s case lines new → IsUnit capacity s (unit_of case) (fails case) lines case new
+does-come capacity s (Rests unit) lines new none (quiet, unsent, same) =
+    rests-come capacity s unit false lines new quiet (unsent, same)
+does-come capacity s Looks lines new none sees = comes-none lines Looks s new refl (sees-none s lines new none sees)
+does-come capacity s (Fails line) lines new none (heard, sees) =
+    subst (λ (b : Bool). IsLine capacity s line b true (is_question (parsed line)) lines (Fails line) new) (sym heard)
+    (comes-none lines (Fails line) s new refl (sees-none s lines new none sees))
+does-come capacity s (Asks line answer) lines new none (heard, question, sees, all, answers) =
+    let same : (lines ≡ []) × (new ≡ s) = sees-none s lines new none sees in
+    subst (λ (b : Bool). IsLine capacity s line b false (is_question (parsed line)) lines (Asks line answer) new)
+    (sym heard)
+    (subst (λ (b : Bool). IsLine capacity s line false false b lines (Asks line answer) new) (sym question) (
+      answer,
+      subst (λ (d : DeskState). Answers d (parsed line) answer) same.1 answers,
+      record { notices = same.0; text = refl; last = refl; desk = same.1 },
+    ))
+does-come capacity s (Acts line reply) lines new none (heard, other, acts) =
+    subst (λ (b : Bool). IsLine capacity s line b false (is_question (parsed line)) lines (Acts line reply) new)
+    (sym heard)
+    (subst (λ (b : Bool). IsLine capacity s line false false b lines (Acts line reply) new) (sym other)
+    (acted-comes capacity s line reply lines new none acts))
 
-acted-one : (old a b : Talk) (line : Line) (xs ys : List (List ℕ)) (r s : Said) → old.desk.told ≡ []
-    → IsActed TakesNone old line xs r a → IsActed TakesNone old line ys s b
-    → AreOne xs ys (Some r) (Some s) a.desk b.desk
-acted-one old a b line xs ys r s none x y =
-    let v = verdict_on old.desk.seen old.desk.player line in
-    come-one xs ys r s a.desk b.desk (text_then old.capacity old.desk v) (text_then old.capacity old.desk v) false
-    (desk_then old.capacity old.desk v)
-    (told-then old.capacity old.desk v ∙ none) refl (acted-comes old line xs r a none x)
-    (acted-comes old line ys s b none y)
+-- two turns send one text, and leave one desk
+record AreOne (xs ys : List (List ℕ)) (t u : Case) (a b : DeskState) : Type 0 where
+  notices : xs ≡ ys
+  text : answer_to t ≡ answer_to u
+  last : is_last t ≡ is_last u
+  desk : a ≡ b
+  untold : a.told ≡ []
 
-said-one : (old a b : Talk) (line : Line) (question : Bool) (xs ys : List (List ℕ)) (r s : Said) → old.desk.told ≡ []
-    → MatchBool question (IsAsked TakesNone old line xs r a) (IsActed TakesNone old line xs r a)
-    → MatchBool question (IsAsked TakesNone old line ys s b) (IsActed TakesNone old line ys s b)
-    → AreOne xs ys (Some r) (Some s) a.desk b.desk
-said-one old a b line true xs ys r s none x y = asked-one old a b line xs ys r s none x y
-said-one old a b line false xs ys r s none x y = acted-one old a b line xs ys r s none x y
+come-one : (xs ys : List (List ℕ)) (t u : Case) (a b : DeskState) (text other : List ℕ) (last : Bool) (kept : DeskState)
+    → kept.told ≡ [] → text ≡ other → Comes xs t a text last kept → Comes ys u b other last kept
+    → AreOne xs ys t u a b
+come-one xs ys t u a b text other last kept none same x y = record {
+  notices = x.notices ∙ sym y.notices;
+  text = x.text ∙ same ∙ sym y.text;
+  last = x.last ∙ sym y.last;
+  desk = x.desk ∙ sym y.desk;
+  untold = ap (λ (d : DeskState). d.told) x.desk ∙ none;
+}
 
-answered-one : (old a b : Talk) (line : Line) (xs ys : List (List ℕ)) (r s : Option Said)
-    → old.desk.told ≡ [] → is_some r ≡ is_some s
-    → IsAnswered TakesNone old line xs r a → IsAnswered TakesNone old line ys s b → AreOne xs ys r s a.desk b.desk
-answered-one old a b line xs ys None None none e x y = looks-one old.desk xs ys None None a.desk b.desk none refl x y
-answered-one old a b line xs ys None (Some s) none e x y = absurd (cc)
-answered-one old a b line xs ys (Some r) None none e x y = absurd (cc)
-answered-one old a b line xs ys (Some r) (Some s) none e x y =
-    said-one old a b line (is_question line) xs ys r s none x y
+line-one : (capacity : ℕ) (s : DeskState) (line : List ℕ) (blank failed question : Bool) (xs ys : List (List ℕ))
+    (t u : Case) (a b : DeskState) → s.told ≡ [] → IsLine capacity s line blank failed question xs t a
+    → IsLine capacity s line blank failed question ys u b → AreOne xs ys t u a b
+line-one capacity s line true failed question xs ys t u a b none x y =
+    come-one xs ys t u a b [] [] false s none refl x y
+line-one capacity s line false true question xs ys t u a b none x y = come-one xs ys t u a b _ _ false s none refl x y
+line-one capacity s line false false true xs ys t u a b none x y =
+    come-one xs ys t u a b (sent (numbered x.0.version x.0.text)) (sent (numbered y.0.version y.0.text))
+    (is_quit (parsed line)) s none (ap sent (answers-one s (parsed line) x.0 y.0 x.1 y.1)) x.2 y.2
+line-one capacity s line false false false xs ys t u a b none x y =
+    let v = verdict_on s.seen s.player (parsed line) in
+    come-one xs ys t u a b (sent (text_then capacity s v)) (sent (text_then capacity s v)) false
+    (desk_then capacity s v) (told-then capacity s v ∙ none) refl x y
 
-line-one : (old a b : Talk) (line : List ℕ) (blank : Bool) (t u : Turn) → old.desk.told ≡ []
-    → is_some t.reply ≡ is_some u.reply
-    → MatchBool blank (Rests old t a) (IsAnswered TakesNone old (parsed line) t.notices t.reply a)
-    → MatchBool blank (Rests old u b) (IsAnswered TakesNone old (parsed line) u.notices u.reply b)
-    → AreOne t.notices u.notices t.reply u.reply a.desk b.desk
-line-one old a b line true t u none e x y = rests-one old a b t u none x y
-line-one old a b line false t u none e x y =
-    answered-one old a b (parsed line) t.notices u.notices t.reply u.reply none e x y
+unit-one : (capacity : ℕ) (s : DeskState) (unit : Option Given) (failed : Bool) (xs ys : List (List ℕ)) (t u : Case)
+    (a b : DeskState) → s.told ≡ [] → IsUnit capacity s unit failed xs t a → IsUnit capacity s unit failed ys u b
+    → AreOne xs ys t u a b
+unit-one capacity s None failed xs ys t u a b none x y = come-one xs ys t u a b [] [] false s none refl x y
+unit-one capacity s (Some TooLong) failed xs ys t u a b none x y =
+    come-one xs ys t u a b _ _ false s none refl x y
+unit-one capacity s (Some Ayt) failed xs ys t u a b none x y = come-one xs ys t u a b _ _ false s none refl x y
+unit-one capacity s (Some (Sent bytes)) failed xs ys t u a b none x y =
+    come-one xs ys t u a b bytes bytes false s none refl x y
+unit-one capacity s (Some (Text line)) failed xs ys t u a b none x y =
+    line-one capacity s line (is_blank line) failed (is_question (parsed line)) xs ys t u a b none x y
 
-does-one : (old a b : Talk) (unit : Option Given) (t u : Turn) → old.desk.told ≡ [] → is_some t.reply ≡ is_some u.reply
-    → Does TakesNone old t a unit → Does TakesNone old u b unit
-    → AreOne t.notices u.notices t.reply u.reply a.desk b.desk
-does-one old a b None t u none e x y =
-    looks-one old.desk t.notices u.notices t.reply u.reply a.desk b.desk none (x.1 ∙ sym y.1) x.0 y.0
-does-one old a b (Some TooLong) t u none e x y = rests-one old a b t u none x y
-does-one old a b (Some Ayt) t u none e x y = rests-one old a b t u none x y
-does-one old a b (Some (Sent bytes)) t u none e x y = rests-one old a b t u none x y
-does-one old a b (Some (Text line)) t u none e x y = line-one old a b line (is_blank line) t u none e x y
-
--- turns of one unit, with replies of one kind, are one, and leave one talk
-turn-one : (old a b : Talk) (t u : Turn) → old.desk.told ≡ [] → t.unit ≡ u.unit → is_some t.reply ≡ is_some u.reply
+-- turns of one unit, for which memory runs out or not, send one text, and leave one talk
+turn-one : (old a b : Talk) (t u : Turn) → old.desk.told ≡ [] → unit_in t ≡ unit_in u → fails t.case ≡ fails u.case
     → Takes TakesNone old t a → Takes TakesNone old u b
-    → (t ≡ u) × (b ≡ a) × (a.desk.told ≡ [])
-turn-one old a b t u none unit e x y =
-    let one : AreOne t.notices u.notices t.reply u.reply a.desk b.desk =
-    does-one old a b t.unit t u none e x.does
-    (subst (λ (g : Option Given). Does TakesNone old u b g) (sym unit) y.does) in (
-      ap (λ (g : Option Given). let z : Turn = record { unit = g; notices = t.notices; reply = t.reply } in z) unit
-          ∙ ap (λ (l : List (List ℕ)). let z : Turn =
-          record { unit = u.unit; notices = l; reply = t.reply } in z) one.notices
-          ∙ ap (λ (r : Option Said). let z : Turn =
-          record { unit = u.unit; notices = u.notices; reply = r } in z) one.reply,
+    → (text_in t ≡ text_in u) × (b ≡ a) × (a.desk.told ≡ [])
+turn-one old a b t u none unit failed x y =
+    let c : ℕ = old.capacity in
+    let other : IsUnit c old.desk (unit_in t) (fails t.case) u.notices u.case b.desk =
+    subst (λ (f : Bool). IsUnit c old.desk (unit_in t) f u.notices u.case b.desk) (sym failed)
+    (subst (λ (g : Option Given). IsUnit c old.desk g (fails u.case) u.notices u.case b.desk) (sym unit)
+    (does-come c old.desk u.case u.notices b.desk none y.does)) in
+    let one : AreOne t.notices u.notices t.case u.case a.desk b.desk =
+    unit-one c old.desk (unit_in t) (fails t.case) t.notices u.notices t.case u.case a.desk b.desk none
+    (does-come c old.desk t.case t.notices a.desk none x.does) other in (
+      ap (λ (l : List (List ℕ)). flat_map sent l ++ answer_to t.case) one.notices
+          ∙ ap (λ (l : List ℕ). flat_map sent u.notices ++ l) one.text,
       ap (λ (n : ℕ). let z : Talk = record { capacity = n; desk = b.desk; has_ended = b.has_ended } in z)
           (y.capacity ∙ sym x.capacity)
           ∙ ap (λ (d : DeskState). let z : Talk =
           record { capacity = a.capacity; desk = d; has_ended = b.has_ended } in z) (sym one.desk)
           ∙ ap (λ (l : Bool). let z : Talk = record { capacity = a.capacity; desk = a.desk; has_ended = l } in z)
-          (y.ended ∙ sym (ap is_last one.reply) ∙ sym x.ended),
+          (y.ended ∙ sym one.last ∙ sym x.ended),
       one.untold,
     )
 
 -- ---- texts
+
+abbrev failed : List Turn → List Bool
+failed turns = map (λ turn. fails turn.case) turns
+
 turns-one : (old : Talk) (xs ys : List Turn) (left right : List (Option Given)) (a b : Talk) → old.desk.told ≡ []
-    → map unit_of xs ++ left ≡ map unit_of ys ++ right → replied xs ≡ replied ys
-    → Plays TakesNone old xs a → Plays TakesNone old ys b → xs ≡ ys
+    → map unit_in xs ++ left ≡ map unit_in ys ++ right → failed xs ≡ failed ys
+    → Plays TakesNone old xs a → Plays TakesNone old ys b → text_of xs ≡ text_of ys
 turns-one old [] [] left right a b none q e x y = refl
 turns-one old [] (v ∷ ys) left right a b none q e x y = absurd (cc)
 turns-one old (u ∷ xs) [] left right a b none q e x y = absurd (cc)
 turns-one old (u ∷ xs) (v ∷ ys) left right a b none q e x y =
-    let both : u.unit ∷ (map unit_of xs ++ left) ≡ v.unit ∷ (map unit_of ys ++ right) = q in
-    let unit : u.unit ≡ v.unit = cc in
-    let units : map unit_of xs ++ left ≡ map unit_of ys ++ right = cc in
-    let heads : is_some u.reply ∷ replied xs ≡ is_some v.reply ∷ replied ys = e in
-    let head : is_some u.reply ≡ is_some v.reply = cc in
-    let tail : replied xs ≡ replied ys = cc in
-    let one : (u ≡ v) × (y.1 ≡ x.1) × (x.1.desk.told ≡ []) = turn-one old x.1 y.1 u v none unit head x.2 y.2 in
+    let both : unit_in u ∷ (map unit_in xs ++ left) ≡ unit_in v ∷ (map unit_in ys ++ right) = q in
+    let unit : unit_in u ≡ unit_in v = cc in
+    let units : map unit_in xs ++ left ≡ map unit_in ys ++ right = cc in
+    let heads : fails u.case ∷ failed xs ≡ fails v.case ∷ failed ys = e in
+    let head : fails u.case ≡ fails v.case = cc in
+    let tail : failed xs ≡ failed ys = cc in
+    let one : (text_in u ≡ text_in v) × (y.1 ≡ x.1) × (x.1.desk.told ≡ []) =
+    turn-one old x.1 y.1 u v none unit head x.2 y.2 in
     let moved : Plays TakesNone x.1 ys b = subst (λ (t : Talk). Plays TakesNone t ys b) one.1 y.3 in
-    ap (λ (t : Turn). t ∷ xs) one.0 ∙ ap (λ (l : List Turn). v ∷ l)
+    ap (λ (l : List ℕ). l ++ text_of xs) one.0 ∙ ap (λ (l : List ℕ). text_in v ++ l)
     (turns-one x.1 xs ys left right a b one.2 units tail x.3 moved)
 
 pub script_text_is_one : ScriptTextIsOne
 script_text_is_one capacity bytes one other p q e =
-    ap text_of (turns-one (begins capacity) p.turns q.turns (map Some p.left) (map Some q.left) one other refl
-    (sym p.units_are ∙ q.units_are) e p.plays q.plays)
+    turns-one (begins capacity) p.turns q.turns (map Some p.left) (map Some q.left) one other refl
+    (sym p.units_are ∙ q.units_are) e p.plays q.plays

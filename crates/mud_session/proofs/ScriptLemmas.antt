@@ -14,8 +14,7 @@ use Rattle.mud_ends.specs.Ends.{Reader, Writer, unread}
 use Rattle.mud_session.specs.Session.{TakingIn, Talk, Turn, Plays, Play, text_of}
 use Rattle.mud_session.specs.inner.Serving.{Serves, ServesInPart}
 use Rattle.mud_session.specs.Script.{Script, IsWhole, IsFront, IsOpen}
-use Rattle.mud_session.specs.inner.Parts.{heard}
-use Rattle.mud_session.proofs.Playing.{unit_of, retold, joined, text_of-append}
+use Rattle.mud_session.proofs.Playing.{unit_in, retold, joined, text_of-append}
 
 -- a read saw the end, or did not
 pub ends_here : (at_end : Bool) (n : ℕ) (buffer : List ℕ) → at_end ≡ (n == 0 && nat_lt 0 (length buffer)) → n ≡ 0
@@ -31,7 +30,7 @@ pub record Reached (takes_in : TakingIn) (start : Talk) (reader read : Reader) (
     (state : State) (door : DoorState) : Type 0 where
   pub bytes : List ℕ
   pub turns : List Turn
-  pub units_are : map Some (units bytes) ≡ map unit_of turns
+  pub units_are : map Some (units bytes) ≡ map unit_in turns
   pub plays : Plays takes_in start turns (talk_of state door)
   pub stands : StandsAfter state.terminal bytes
   pub goes_on : state.has_ended ≡ false
@@ -60,9 +59,9 @@ reached_none takes_in reader held state door fresh stands goes_on out = record {
 }
 
 -- ---- the script that was played
-heard_bytes : (r : Reader) (bytes : List ℕ) (ended : Bool) → r.at_end ≡ ended
-    → heard r bytes ≡ (if ended then bytes ++ 10 ∷ [] else bytes)
-heard_bytes r bytes ended e = ap (λ (b : Bool). if b then bytes ++ 10 ∷ [] else bytes) e
+heard_bytes : (bytes : List ℕ) (at_end ended : Bool) → at_end ≡ ended
+    → (if at_end then bytes ++ 10 ∷ [] else bytes) ≡ (if ended then bytes ++ 10 ∷ [] else bytes)
+heard_bytes bytes at_end ended e = ap (λ (b : Bool). if b then bytes ++ 10 ∷ [] else bytes) e
 
 -- before the end
 abbrev played : {takes_in : TakingIn} {start : Talk} {old new : Reader} {talk : Talk} (bytes : List ℕ)
@@ -73,7 +72,7 @@ played {new = new} {talk = talk} bytes consumed open_still play = record {
   read = consumed;
   end = λ e. absurd (true≢false (sym e ∙ open_still));
   talk = talk;
-  play = retold (ap units (heard_bytes new bytes false open_still)) play;
+  play = retold (ap units (heard_bytes bytes new.at_end false open_still)) play;
 }
 
 -- at the end
@@ -85,7 +84,7 @@ played_out {new = new} {talk = talk} bytes consumed ended end play = record {
   read = consumed;
   end = λ _. end;
   talk = talk;
-  play = retold (ap units (heard_bytes new bytes true ended)) play;
+  play = retold (ap units (heard_bytes bytes new.at_end true ended)) play;
 }
 
 -- what was played so far
@@ -97,7 +96,7 @@ so_far_play so_far = record {
   turns = so_far.turns;
   left = [];
   units_are =
-      so_far.units_are ∙ sym (append-nil (map unit_of so_far.turns));
+      so_far.units_are ∙ sym (append-nil (map unit_in so_far.turns));
   plays = so_far.plays;
 }
 
@@ -121,20 +120,20 @@ pub reached_more : {takes_in : TakingIn} {start : Talk} {reader read next : Read
     → new.has_ended ≡ false → Serves takes_in so_far.bytes more state new door new_door now later
     → Reached takes_in start reader next held later new new_door
 reached_more {more = more} so_far consumed no_end reads some goes_on serves =
-    let play = more_play so_far more serves.units serves.play in
+    let play = more_play so_far more serves.feeds.units serves.feeds.play in
     record {
       bytes = so_far.bytes ++ more;
       turns = play.turns;
-      units_are = play.units_are ∙ ap (λ l. map unit_of play.turns ++ map Some l) (serves.all goes_on)
-          ∙ append-nil (map unit_of play.turns);
+      units_are = play.units_are ∙ ap (λ l. map unit_in play.turns ++ map Some l) (serves.feeds.all goes_on)
+          ∙ append-nil (map unit_in play.turns);
       plays = play.plays;
-      stands = serves.stands;
+      stands = serves.feeds.stands;
       goes_on = goes_on;
       out = serves.out;
       consumed = Consumes-trans _ _ _ so_far.bytes more so_far.consumed consumed;
       no_end = no_end;
       many = let m = so_far.many in omega (arith, length-append so_far.bytes more);
-      written = more_written _ _ _ so_far.turns serves.play.turns so_far.written serves.written;
+      written = more_written _ _ _ so_far.turns serves.feeds.play.turns so_far.written serves.written;
     }
 
 -- an answered `quit`
@@ -146,8 +145,8 @@ pub whole_at_quit : {takes_in : TakingIn} {start : Talk} {reader read next : Rea
     → IsWhole takes_in start reader next writer written
 whole_at_quit {more = more} so_far consumed no_end over serves = record {
   script = played (so_far.bytes ++ more) (Consumes-trans _ _ _ so_far.bytes more so_far.consumed consumed) no_end
-      (more_play so_far more serves.units serves.play);
-  writes = more_written _ _ _ so_far.turns serves.play.turns so_far.written serves.written;
+      (more_play so_far more serves.feeds.units serves.feeds.play);
+  writes = more_written _ _ _ so_far.turns serves.feeds.play.turns so_far.written serves.written;
   done = inr over;
 }
 
@@ -160,11 +159,11 @@ pub whole_at_end : {takes_in : TakingIn} {start : Talk} {reader read next : Read
     → IsWhole takes_in start reader next writer written
 whole_at_end {new = new} so_far consumed ended end serves = record {
   script = played_out so_far.bytes (rw append-nil at (Consumes-trans _ _ _ so_far.bytes [] so_far.consumed consumed))
-      ended end (more_play so_far (10 ∷ []) serves.units serves.play);
-  writes = more_written _ _ _ so_far.turns serves.play.turns so_far.written serves.written;
+      ended end (more_play so_far (10 ∷ []) serves.feeds.units serves.feeds.play);
+  writes = more_written _ _ _ so_far.turns serves.feeds.play.turns so_far.written serves.written;
   done = elim (cases_Bool new.has_ended) [
     | inl e ↦ inr e
-    | inr e ↦ inl (ended, serves.all e)
+    | inr e ↦ inl (ended, serves.feeds.all e)
   ];
 }
 

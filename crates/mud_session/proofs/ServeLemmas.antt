@@ -29,11 +29,8 @@ pub all_served : (takes_in : TakingIn) (earlier bytes : List ℕ) (old mid new :
     → Serves takes_in earlier bytes old new old_door new_door held now_held
 all_served takes_in earlier bytes old mid new old_door new_door held now_held text none fed is after written =
     subst (λ (s : State). Serves takes_in earlier bytes old s old_door new_door held now_held) (sym after) (record {
-      stands = fed.stands;
-      fresh = fed.fresh;
-      units = fed.units;
-      play = fed.play;
-      all = fed.all;
+      said = mid.out;
+      feeds = fed;
       written = subst (λ (l : List ℕ). Appends held now_held l)
           (is ∙ fed.out ∙ ap (λ (l : List ℕ). l ++ text_of fed.play.turns) none) written;
       out = refl;

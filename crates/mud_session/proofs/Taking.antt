@@ -8,10 +8,10 @@ use Rattle.mud_nvt.specs.Units.{Given, units}
 use Rattle.mud_nvt.specs.History.{StandsAfter}
 use Rattle.mud_nvt.specs.Shown.{shown, all_shown}
 use Rattle.mud_session.specs.State.{State, DoorState, talk_of}
-use Rattle.mud_session.specs.Session.{TakingIn, Talk, Plays, Play, text_of, text_of_turn}
+use Rattle.mud_session.specs.Session.{TakingIn, Talk, Plays, Play, text_of}
 use Rattle.mud_session.specs.Feeding.{Feeds}
 use Rattle.mud_session.specs.inner.Turning.{HasTurn}
-use Rattle.mud_session.proofs.Playing.{unit_of, joined, text_of-append}
+use Rattle.mud_session.proofs.Playing.{unit_in, text_in, joined, text_of-append}
 
 -- each of these units had its turn, up to the last reply, and what is sent for them is to be taken out
 pub record SoFar (T : TakingIn) (units : List Given) (old new : State) (old_door new_door : DoorState) : Type 0 where
@@ -29,13 +29,13 @@ SoFar-none T s d = record {
 }
 
 turned : (T : TakingIn) (us : List Given) (u : Given) (a b c : State) (da db dc : DoorState)
-    → SoFar T us a b da db → b.has_ended ≡ false → HasTurn T (Some u) b c db dc → SoFar T (us ++ u ∷ []) a c da dc
+    → SoFar T us a b da db → b.has_ended ≡ false → HasTurn T u b c db dc → SoFar T (us ++ u ∷ []) a c da dc
 turned T us u a b c da db dc so_far goes has =
     let turns = so_far.play.turns in
     let turn = has.turn in
-    let is : map Some us ≡ map unit_of turns =
-    so_far.play.units_are ∙ ap (λ (l : List Given). map unit_of turns ++ map Some l) (so_far.all goes)
-    ∙ append-nil (map unit_of turns) in
+    let is : map Some us ≡ map unit_in turns =
+    so_far.play.units_are ∙ ap (λ (l : List Given). map unit_in turns ++ map Some l) (so_far.all goes)
+    ∙ append-nil (map unit_in turns) in
     record {
       play = joined us turns is so_far.play.plays
           (record {
@@ -47,9 +47,9 @@ turned T us u a b c da db dc so_far goes has =
           });
       all = λ _. refl;
       terminal = has.terminal ∙ so_far.terminal;
-      out = has.out ∙ ap (λ (l : List ℕ). l ++ text_of_turn turn) so_far.out
-          ∙ append_assoc a.out (text_of turns) (text_of_turn turn)
-          ∙ ap (λ (l : List ℕ). a.out ++ (text_of turns ++ l)) (sym (append-nil (text_of_turn turn)))
+      out = has.out ∙ ap (λ (l : List ℕ). l ++ text_in turn) so_far.out
+          ∙ append_assoc a.out (text_of turns) (text_in turn)
+          ∙ ap (λ (l : List ℕ). a.out ++ (text_of turns ++ l)) (sym (append-nil (text_in turn)))
           ∙ ap (λ (l : List ℕ). a.out ++ l) (sym (text_of-append turns (turn ∷ [])));
     }
 
@@ -63,8 +63,8 @@ passed_over T us u a b da db so_far over =
         turns = turns;
         left = left ++ u ∷ [];
         units_are = map-append Some us (u ∷ []) ∙ ap (λ l. l ++ Some u ∷ []) so_far.play.units_are
-            ∙ append_assoc (map unit_of turns) (map Some left) (Some u ∷ [])
-            ∙ ap (λ l. map unit_of turns ++ l) (sym (map-append Some left (u ∷ [])));
+            ∙ append_assoc (map unit_in turns) (map Some left) (Some u ∷ [])
+            ∙ ap (λ l. map unit_in turns ++ l) (sym (map-append Some left (u ∷ [])));
         plays = so_far.play.plays;
       };
       all = λ goes. absurd (true≢false (sym over ∙ goes));
@@ -83,7 +83,7 @@ shown_more units i unit lt here =
 pub SoFar-more : (T : TakingIn) (units : List (CodeUnit Global)) (i : ℕ) (unit : CodeUnit Global) (a b c : State)
     (da db dc : DoorState)
     → i < length units → unit ≡ get_or units i unit → SoFar T (all_shown (take i units)) a b da db
-    → (b.has_ended ≡ true → (c ≡ b) × (dc ≡ db)) → (b.has_ended ≡ false → HasTurn T (Some (shown unit)) b c db dc)
+    → (b.has_ended ≡ true → (c ≡ b) × (dc ≡ db)) → (b.has_ended ≡ false → HasTurn T (shown unit) b c db dc)
     → SoFar T (all_shown (take (i + 1) units)) a c da dc
 SoFar-more T units i unit a b c da db dc lt here so_far over turn =
     let us = all_shown (take i units) ++ shown unit ∷ [] in

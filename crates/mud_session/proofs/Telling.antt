@@ -1,22 +1,18 @@
 -- What others did is told once.
-use Rattle.std.proofs.Common.{◌≡◌, ℕ, Bool, true, false, List, [], ◌∷◌, ◌++◌, Option, Some, None, refl, sym, ap, ◌∙◌}
-use Rattle.std.proofs.Common.{append_assoc, inl, inr}
-use Rattle.std.specs.Prelude.{◌⊎◌, MatchBool}
+use Rattle.std.proofs.Common.{◌≡◌, ℕ, List, [], ◌∷◌, ◌++◌, refl, sym, ap, ◌∙◌, append_assoc, inl, inr}
+use Rattle.std.specs.Prelude.{◌⊎◌}
 use Rattle.std.proofs.lemmas.List.{append-nil}
 use Rattle.mud_words.specs.Line.{Line}
 use Rattle.mud_words.specs.Parse.{parsed}
-use Rattle.mud_words.specs.Words.{is_blank}
-use Rattle.mud_nvt.specs.Units.{Given, Text, TooLong, Ayt, Answer}
 use Rattle.mud_world.specs.declared.change.Change.{Change}
 use Rattle.mud_rules.specs.declared.verdict.Verdict.{Verdict}
 use Rattle.mud_rules.specs.declared.verdict.Verdict.TheVariants as verdict
-use Rattle.mud_rules.specs.Table.{is_question}
 use Rattle.mud_chron.specs.Entry.{Entry}
 use Rattle.mud_hall.specs.declared.fault.Fault.TheVariants.{OutOfMemory, HistoryFull, Unpublished, DesksFull}
 use Rattle.mud_hall.specs.Desk.{DeskState, TakesIn, HandsOut}
 use Rattle.mud_hall.specs.Replies.{Reply, Accepted, Became, Refused, Question, Failed, Stores, Replies, verdict_on}
 use Rattle.mud_hall.proofs.Coming.{Plain, plainly}
-use Rattle.mud_session.specs.Session.{Talk, Said, Turn, Does, Rests, Looks, IsActed, IsAsked, IsAnswered, Takes}
+use Rattle.mud_session.specs.Session.{Talk, Case, Turn, Rests, Looks, Fails, Asks, Acts, Sees, Does, Takes}
 use Rattle.mud_session.specs.Laws.{IsToldOnce}
 
 -- the desk made an entry itself, or none, and is told nothing of it
@@ -79,50 +75,27 @@ told old ready acted new lines takes adds tells = record {
   told = sym (ap (λ (d : DeskState). d.told) takes.is) ∙ sym adds.told ∙ tells.told;
 }
 
-looked : (old new : DeskState) (lines : List (List ℕ)) → Looks TakesIn old lines new → IsToldOnce old lines new
-looked old new lines looks = told old looks.ready looks.ready new lines looks.takes
-    (adds-same looks.ready looks.ready refl) looks.tells
+looked : (old new : DeskState) (lines : List (List ℕ)) → Sees TakesIn old lines new → IsToldOnce old lines new
+looked old new lines sees = told old sees.ready sees.ready new lines sees.takes
+    (adds-same sees.ready sees.ready refl) sees.tells
 
-acted : (old new : Talk) (line : Line) (lines : List (List ℕ)) (said : Said) → IsActed TakesIn old line lines said new
-    → IsToldOnce old.desk lines new.desk
-acted old new line lines said acts =
-    told old.desk acts.ready acts.acted new.desk lines acts.takes
-    (replies-add old.capacity acts.ready line acts.reply acts.acted acts.replies) acts.tells
-
-answered : (old new : Talk) (line : Line) (lines : List (List ℕ)) (said : Option Said)
-    → IsAnswered TakesIn old line lines said new → IsToldOnce old.desk lines new.desk
-answered old new line lines None looks = looked old.desk new.desk lines looks
-answered old new line lines (Some said) is = go (is_question line) is
-  where
-    go : (b : Bool) → MatchBool b (IsAsked TakesIn old line lines said new) (IsActed TakesIn old line lines said new)
-        → IsToldOnce old.desk lines new.desk
-    go true asks = looked old.desk new.desk lines asks.looks
-    go false acts = acted old new line lines said acts
-
-rested : (old new : Talk) (turn : Turn) → Rests old turn new → IsToldOnce old.desk turn.notices new.desk
-rested old new turn rests = record {
+turned : (capacity : ℕ) (old : DeskState) (case : Case) (lines : List (List ℕ)) (new : DeskState)
+    → Does TakesIn capacity old case lines new → IsToldOnce old lines new
+turned capacity old (Rests unit) lines new (quiet, none, same) = record {
   others = [];
   own = [];
-  seen = ap (λ (d : DeskState). d.seen) rests.desk ∙ sym (append-nil old.desk.seen);
+  seen = ap (λ (d : DeskState). d.seen) same ∙ sym (append-nil old.seen);
   mine = inl refl;
-  told = append-nil old.desk.told ∙ sym (ap (λ (d : DeskState). d.told) rests.desk)
-      ∙ ap (λ (l : List (List ℕ)). l ++ new.desk.told) (sym rests.notices);
+  told = append-nil old.told ∙ sym (ap (λ (d : DeskState). d.told) same)
+      ∙ ap (λ (l : List (List ℕ)). l ++ new.told) (sym none);
 }
-
-turned : (old new : Talk) (turn : Turn) (unit : Option Given) → Does TakesIn old turn new unit
-    → IsToldOnce old.desk turn.notices new.desk
-turned old new turn None does = looked old.desk new.desk turn.notices does.0
-turned old new turn (Some TooLong) does = rested old new turn does
-turned old new turn (Some Ayt) does = rested old new turn does
-turned old new turn (Some (Answer bytes)) does = rested old new turn does
-turned old new turn (Some (Text line)) does = go (is_blank line) does
-  where
-    go : (b : Bool)
-        → MatchBool b (Rests old turn new) (IsAnswered TakesIn old (parsed line) turn.notices turn.reply new)
-        → IsToldOnce old.desk turn.notices new.desk
-    go true rests = rested old new turn rests
-    go false is = answered old new (parsed line) turn.notices turn.reply is
+turned capacity old Looks lines new sees = looked old new lines sees
+turned capacity old (Fails line) lines new does = looked old new lines does.1
+turned capacity old (Asks line answer) lines new does = looked old new lines does.2
+turned capacity old (Acts line reply) lines new (heard, other, acts) =
+    told old acts.ready acts.acted new lines acts.takes
+    (replies-add capacity acts.ready (parsed line) reply acts.acted acts.replies) acts.tells
 
 pub told_once : (old new : Talk) (turn : Turn) → Takes TakesIn old turn new
     → IsToldOnce old.desk turn.notices new.desk
-told_once old new turn takes = turned old new turn turn.unit takes.does
+told_once old new turn takes = turned old.capacity old.desk turn.case turn.notices new.desk takes.does

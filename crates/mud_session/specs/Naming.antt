@@ -32,29 +32,17 @@ IsNotice most text =
     (v : ℕ) × (w : World) × (e : Change) × (p : ℕ) × (line : List ℕ)
     × (v ≤ most) × (heard_line w e p ≡ Some line) × (text ≡ notice_text v line)
 
--- what is sent is made of these: replies and answers, notices, lines that name no version, and answers to requests
-pub data Piece : Type 0 where
-  Numbered : (version : ℕ) → (text : List ℕ) → Piece
-  Notice : (text : List ℕ) → Piece
-  Plain : (line : List ℕ) → Piece
-  Signal : (verb : ℕ) → (option : ℕ) → Piece
-
--- the bytes of a piece; a reply and an answer have their version in front
-abbrev pub bytes_of : Piece → List ℕ
-bytes_of (Numbered v text) = sent (numbered v text)
-bytes_of (Notice text) = sent text
-bytes_of (Plain line) = sent line
-bytes_of (Signal verb option) = IAC ∷ verb ∷ option ∷ []
-
--- the piece names no version above `most`
-abbrev pub IsUpTo : ℕ → Piece → Type 0
-IsUpTo most (Numbered v text) = (v ≤ most) × IsSaidOf v text
-IsUpTo most (Notice text) = IsNotice most text
-IsUpTo most (Plain line) = Contains plain_lines line
-IsUpTo most (Signal verb option) = Unit {0}
+-- a piece of what is sent that names no version above `most`: a reply or an answer with its version in front, a notice,
+-- a line that names no version, or an answer to a request
+abbrev pub IsPiece : ℕ → List ℕ → Type 0
+IsPiece most bytes =
+    ((v : ℕ) × (text : List ℕ) × (v ≤ most) × IsSaidOf v text × (bytes ≡ sent (numbered v text)))
+    ⊎ ((text : List ℕ) × IsNotice most text × (bytes ≡ sent text))
+    ⊎ ((line : List ℕ) × Contains plain_lines line × (bytes ≡ sent line))
+    ⊎ ((verb : ℕ) × (option : ℕ) × (bytes ≡ IAC ∷ verb ∷ option ∷ []))
 
 -- the text is made of such pieces
 pub record NamesUpTo (most : ℕ) (text : List ℕ) : Type 0 where
-  pub pieces : List Piece
-  pub each : All (IsUpTo most) pieces
-  pub is : text ≡ flat_map bytes_of pieces
+  pub pieces : List (List ℕ)
+  pub each : All (IsPiece most) pieces
+  pub is : text ≡ flat_map (λ piece. piece) pieces

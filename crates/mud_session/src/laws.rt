@@ -1,8 +1,9 @@
 //! Laws of the definitions: each contract is a law, and its function does nothing.
 
-ghost use Rattle.mud_session.specs.Laws.{ScriptTextIsOne, IsToldOnce, AreCalls, AreScript, NamesSeen};
+ghost use Rattle.mud_session.specs.Laws.{ScriptTextIsOne, IsToldOnce, all_calls, AreScript, NamesSeen};
 ghost use Rattle.mud_session.specs.Session.{Takes, Talk, Turn, Plays, TakesNone};
 ghost use Rattle.mud_hall.specs.Desk.{TakesIn};
+ghost use Rattle.mud_hall.specs.Steps.{PerformsAll};
 ghost use Rattle.std.specs.Prelude.{List, ℕ};
 ghost use Rattle.mud_session.specs.Script.{begins};
 ghost use Rattle.mud_session.specs.State.{DoorState, State};
@@ -33,7 +34,7 @@ pub fn one_script_text()
 /// `mud_hall::laws::guide` speaks of all sessions. What a session sends is what its calls hand out and answer.
 pub fn turns()
     ensures { (old new : Talk) (turns : List Turn) → Plays TakesIn old turns new
-        → AreCalls old.capacity old.desk turns new.desk }
+        → PerformsAll old.capacity old.desk (all_calls turns) new.desk }
 {}
 
 /// The turns of a script are a run of the hall of one caller: so `mud_hall::laws::guide` speaks of every script.

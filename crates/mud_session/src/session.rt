@@ -1,6 +1,6 @@
 //! A session: bytes in, bytes out.
 
-ghost use Rattle.std.specs.Prelude.{◌≡◌, ℕ, List, ◌++◌, [], false, true, if◌then◌else◌, Some, Err, codes};
+ghost use Rattle.std.specs.Prelude.{◌≡◌, ℕ, List, ◌++◌, [], false, true, if◌then◌else◌, Err, codes};
 ghost use Rattle.std.specs.Prelude.{OnOk, OnErr, IfOk, string_bytes};
 ghost use Rattle.mud_nvt.specs.History.{StandsAfter};
 ghost use Rattle.mud_nvt.specs.Units.{Text};
@@ -44,13 +44,14 @@ impl Model for Session {
 }
 
 impl Session {
-    ghost use Rattle.mud_words.specs.Line.{Line, line_of};
+    ghost use Rattle.mud_words.specs.Line.{line_of};
+    ghost use Rattle.mud_words.specs.Words.{is_blank as blank};
     ghost use Rattle.mud_words.specs.Parse.{parsed};
     ghost use Rattle.mud_rules.specs.Table.{is_question, is_quit};
     ghost use Rattle.mud_hall.specs.Desk.{with_told};
     ghost use Rattle.mud_hall.specs.Replies.{shown as replied};
-    ghost use Rattle.mud_session.specs.Session.{sent, numbered, reply_line};
-    ghost use Rattle.mud_session.specs.inner.Turning.{sends, sent_for, Told, Looked, IsSaid, Replied, HasTurn};
+    ghost use Rattle.mud_session.specs.Session.{sent, numbered};
+    ghost use Rattle.mud_session.specs.inner.Turning.{sends, sent_for, Told, IsSaid, HasTurn};
     ghost use Rattle.mud_session.specs.Feeding.{Feeds, Nudges};
 
     /// A session to which nothing came, and which sent nothing, or only the greeting. The only error
@@ -173,7 +174,7 @@ impl Session {
     ) -> Result<(), AllocError>
         ensures over { self.old.has_ended ≡ true → (self.new ≡ self.old) × (D.state door.new ≡ D.state door.old) }
         ensures turn { OnOk result (self.old.has_ended ≡ false
-            → HasTurn D.takes_in (Some (shown unit.now)) self.old self.new (D.state door.old) (D.state door.new)) }
+            → HasTurn D.takes_in (shown unit.now) self.old self.new (D.state door.old) (D.state door.new)) }
         ensures capacity { (D.state door.new).capacity ≡ (D.state door.old).capacity }
     {
         if self.has_ended {
@@ -195,28 +196,13 @@ impl Session {
         line: &str,
     ) -> Result<(), AllocError>
         requires { self.old.has_ended ≡ false }
-        ensures turn { OnOk result (HasTurn D.takes_in (Some (Text line.now))
+        ensures turn { OnOk result (HasTurn D.takes_in (Text line.now)
             self.old self.new (D.state door.old) (D.state door.new)) }
         ensures capacity { (D.state door.new).capacity ≡ (D.state door.old).capacity }
     {
         if is_blank(line) {
             return Ok(());
         }
-        self.reply(rt, door, line)
-    }
-
-    // Answers a line that is not blank.
-    fn reply<X: Threads + Wait + Sync, D: Door>(
-        &mut self,
-        rt: &X,
-        door: &mut D,
-        line: &str,
-    ) -> Result<(), AllocError>
-        requires { self.old.has_ended ≡ false }
-        ensures replied { OnOk result (Replied D.takes_in (parsed line.now)
-            self.old self.new (D.state door.old) (D.state door.new)) }
-        ensures capacity { (D.state door.new).capacity ≡ (D.state door.old).capacity }
-    {
         match parse(self.alloc, line) {
             Err(_) => self.refuse(door),
             Ok(parsed) => {
@@ -232,8 +218,8 @@ impl Session {
     // A line for which memory was refused before it came to the desk.
     fn refuse<D: Door>(&mut self, door: &mut D) -> Result<(), AllocError>
         requires { self.old.has_ended ≡ false }
-        ensures replied { OnOk result ((line : Line)
-            → Replied D.takes_in line self.old self.new (D.state door.old) (D.state door.new)) }
+        ensures turn { OnOk result ((line : List ℕ) → blank line ≡ false
+            → HasTurn D.takes_in (Text line) self.old self.new (D.state door.old) (D.state door.new)) }
         ensures capacity { (D.state door.new).capacity ≡ (D.state door.old).capacity }
     {
         let _ = self.look(door)?;
@@ -249,8 +235,8 @@ impl Session {
     ) -> Result<(), AllocError>
         requires goes_on { self.old.has_ended ≡ false }
         requires question { is_question (line_of line.now) ≡ true }
-        ensures replied { OnOk result (Replied D.takes_in (line_of line.now)
-            self.old self.new (D.state door.old) (D.state door.new)) }
+        ensures turn { OnOk result ((text : List ℕ) → blank text ≡ false → parsed text ≡ line_of line.now
+            → HasTurn D.takes_in (Text text) self.old self.new (D.state door.old) (D.state door.new)) }
         ensures capacity { (D.state door.new).capacity ≡ (D.state door.old).capacity }
     {
         if !self.look(door)? {
@@ -275,8 +261,8 @@ impl Session {
     ) -> Result<(), AllocError>
         requires goes_on { self.old.has_ended ≡ false }
         requires acts { is_question (line_of line.now) ≡ false }
-        ensures replied { OnOk result (Replied D.takes_in (line_of line.now)
-            self.old self.new (D.state door.old) (D.state door.new)) }
+        ensures turn { OnOk result ((text : List ℕ) → blank text ≡ false → parsed text ≡ line_of line.now
+            → HasTurn D.takes_in (Text text) self.old self.new (D.state door.old) (D.state door.new)) }
         ensures capacity { (D.state door.new).capacity ≡ (D.state door.old).capacity }
     {
         // for the prover: the law that what a line asks is asked by the verb of a question
@@ -289,7 +275,7 @@ impl Session {
     // Sends the reply to a line that acts.
     fn say(&mut self, reply: &Result<Reply, Fault>) -> Result<(), AllocError>
         requires { IsSaid (replied reply.now) }
-        ensures { OnOk result (self.new ≡ sends self.old (sent_for (reply_line (replied reply.now)))) }
+        ensures { OnOk result (self.new ≡ sends self.old (sent_for (replied reply.now))) }
     {
         match reply {
             Ok(Reply::Accepted { version, text }) => self.send_numbered(*version, text.as_str()),
@@ -305,8 +291,8 @@ impl Session {
 
     // Has the desk take entries in, and sends what it was told; whether it was told all.
     fn look<D: Door>(&mut self, door: &mut D) -> Result<bool, AllocError>
-        ensures looked { OnOk result (Looked D.takes_in self.old self.new
-            (D.state door.old).desk (D.state door.new).desk) }
+        ensures looked { OnOk result (self.old.has_ended ≡ false
+            → Nudges D.takes_in self.old self.new (D.state door.old) (D.state door.new)) }
         ensures all { IfOk result (λ all. all ≡ true → (D.state door.new).desk.told ≡ []) }
         ensures capacity { (D.state door.new).capacity ≡ (D.state door.old).capacity }
     {

@@ -1,6 +1,6 @@
 //! The bytes of a file, or of standard input.
 
-use crate::note::Unkept;
+use crate::unkept::Unkept;
 use std::fs;
 use std::io::{self, ErrorKind, Read};
 

@@ -6,17 +6,15 @@
 //! error, and the status says whether the file could be read (0) or not (2). docs/KEEPING.md has the lines.
 #![tactic(auto)]
 
-mod answer;
 mod input;
-mod mapping;
-mod note;
+mod unkept;
 
-use crate::answer::answer;
 use crate::input::read_input;
-use crate::mapping::{mapped, mapped_with};
-use crate::note::{Note, Unkept};
+use crate::unkept::Unkept;
 use mud_command::{CommandFault, Keeping, Wish, keeping_of, show, words_of};
 use mud_ends::Sink;
+use mud_keeping::{Note, answer_wish};
+use mud_map::{mapped, mapped_with};
 use std::io;
 use std::process::ExitCode;
 
@@ -42,7 +40,7 @@ fn text(rt: &HostRuntime, wish: Wish, file: &str) -> ExitCode {
         Ok(bytes) => bytes,
         Err(unkept) => return unread(rt, unkept),
     };
-    match answer(rt.alloc(), wish, &bytes) {
+    match answer_wish(rt.alloc(), wish, &bytes) {
         Ok(answer) => ended(rt, answer.text.as_bytes(), answer.note),
         Err(fault) => unread(rt, Unkept::of_text(fault)),
     }

@@ -2,3 +2,4 @@ pub mod Reading
 pub mod Shorter
 pub mod Shown
 pub mod Laws
+pub mod Answer

@@ -1,3 +1,4 @@
 pub mod Quoted
 pub mod Map
 pub mod Laws
+pub mod Mapped

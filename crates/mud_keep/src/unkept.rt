@@ -1,35 +1,12 @@
-//! What is answered, and why nothing is.
+//! Why there is no answer.
 
-use crate::mapping::NoMap;
 use mud_cert::CertFault;
 use mud_chron::ChronFault;
+use mud_map::NoMap;
 use thiserror::Error;
 
-/// What is told beside a text.
-#[derive(Clone, Copy, Debug, PartialEq, Eq, Error)]
-pub enum Note {
-    /// Nothing.
-    #[error("")]
-    Nothing,
-    /// So many bytes of a journal were torn off.
-    #[error("torn off: {0} bytes")]
-    Torn(usize),
-    /// A history of so many changes has so many left.
-    #[error("changes: {0} before, {1} after\nversions begin anew: check older certificates with the older history")]
-    Shortened(usize, usize),
-}
-
-/// A text, and what is told beside it.
-#[derive(Drop)]
-pub struct Answer {
-    /// The text.
-    pub text: String,
-    /// What is told beside it.
-    pub note: Note,
-}
-
 /// Why there is no answer. The words are those of `mud_check` (docs/CHECKER.md, "Lines").
-#[derive(Clone, Copy, Debug, PartialEq, Eq, Error)]
+#[derive(Clone, Copy, Debug, Error)]
 pub enum Unkept<'a> {
     /// Memory ran out.
     #[error("out of memory")]

@@ -1,13 +1,38 @@
 //! What is answered to a wish.
 
 ghost use Rattle.std.specs.Prelude.{◌≢◌, IfOk, IfErr, string_bytes};
-ghost use Rattle.mud_keep.specs.Answer.{IsAnswer, HasNoAnswer};
+ghost use Rattle.mud_keeping.specs.Answer.{IsAnswer, HasNoAnswer};
 
-use crate::note::{Answer, Note};
+use crate::reading::{read_kept, recover};
+use crate::shortening::shorten;
+use crate::showing::show;
 use mud_chron::{ChronFault, replay, write_history};
 use mud_command::Wish;
-use mud_keeping::{read_kept, recover, shorten, show};
 use std::alloc::Global;
+use thiserror::Error;
+
+/// What is told beside a text.
+#[derive(Clone, Copy, Debug, PartialEq, Eq, Error)]
+pub enum Note {
+    /// Nothing.
+    #[error("")]
+    Nothing,
+    /// So many bytes of a journal were torn off.
+    #[error("torn off: {0} bytes")]
+    Torn(usize),
+    /// A history of so many changes has so many left.
+    #[error("changes: {0} before, {1} after\nversions begin anew: check older certificates with the older history")]
+    Shortened(usize, usize),
+}
+
+/// A text, and what is told beside it.
+#[derive(Drop)]
+pub struct Answer {
+    /// The text.
+    pub text: String,
+    /// What is told beside it.
+    pub note: Note,
+}
 
 // The history that a journal holds.
 fn recovered(alloc: Global, bytes: &[u8]) -> Result<Answer, ChronFault>
@@ -50,7 +75,7 @@ fn shown(alloc: Global, bytes: &[u8]) -> Result<Answer, ChronFault>
 
 /// What is answered to a wish, over the bytes of a history or a journal. Bytes that are neither, and changes that
 /// aren't legal, have a fault. Else the only error is out of memory.
-pub fn answer(alloc: Global, wish: Wish, bytes: &[u8]) -> Result<Answer, ChronFault>
+pub fn answer_wish(alloc: Global, wish: Wish, bytes: &[u8]) -> Result<Answer, ChronFault>
     ensures ok { IfOk result (λ a. IsAnswer wish bytes.now (string_bytes a.text) a.note) }
     ensures err { IfErr result (λ fault. fault ≢ ChronFault.OutOfMemory → HasNoAnswer wish bytes.now fault) }
 {

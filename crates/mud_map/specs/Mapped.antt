@@ -12,9 +12,9 @@ use Rattle.mud_cert.specs.Text.{cert_text}
 use Rattle.mud_cert.specs.Faults.{IsBadLine}
 use Rattle.mud_keeping.specs.Reading.{KeepsEntries, HasKeptFault}
 use Rattle.mud_map.specs.Map.{map_text, drawing_of, blank}
-use Rattle.mud_keep.specs.Answer.{KeepsIllegal}
-use Rattle.mud_keep.specs.declared.mapping.NoMap.{NoMap}
-use Rattle.mud_keep.specs.declared.mapping.NoMap.TheVariants.{History, Proof, Version}
+use Rattle.mud_keeping.specs.Answer.{KeepsIllegal}
+use Rattle.mud_map.specs.declared.mapping.NoMap.{NoMap}
+use Rattle.mud_map.specs.declared.mapping.NoMap.TheVariants.{History, Proof, Version}
 
 -- the text is the map of the world of the entries that the bytes keep, all of which are legal
 pub record IsMap (bytes text : List ℕ) : Type 0 where

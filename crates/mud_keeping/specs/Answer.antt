@@ -12,8 +12,8 @@ use Rattle.mud_command.specs.declared.keeping.Wish.TheVariants.{Recover, Shorten
 use Rattle.mud_keeping.specs.Reading.{KeepsEntries, HasKeptFault, IsRecovered}
 use Rattle.mud_keeping.specs.Shorter.{IsShortened}
 use Rattle.mud_keeping.specs.Shown.{shown_text}
-use Rattle.mud_keep.specs.declared.note.Note.{Note}
-use Rattle.mud_keep.specs.declared.note.Note.TheVariants.{Nothing, Torn, Shortened}
+use Rattle.mud_keeping.specs.declared.answering.Note.{Note}
+use Rattle.mud_keeping.specs.declared.answering.Note.TheVariants.{Nothing, Torn, Shortened}
 
 -- the text is that of a shorter history of the same world as that of the entries that the bytes keep
 pub record IsShorterText (bytes text : List ℕ) (before after : ℕ) : Type 0 where

@@ -4,13 +4,13 @@ ghost use Rattle.std.specs.Prelude.{◌≡◌, ◌≢◌, ◌⊎◌, IfOk, IfErr
 ghost use Rattle.mud_world.specs.History.{world_of};
 ghost use Rattle.mud_chron.specs.Replay.{changes_of, AreLegal};
 ghost use Rattle.mud_keeping.specs.Reading.{KeepsEntries, HasKeptFault};
-ghost use Rattle.mud_keep.specs.Answer.{KeepsIllegal};
-ghost use Rattle.mud_keep.specs.Mapped.{IsMap, IsMapWith, HasNoMap};
+ghost use Rattle.mud_keeping.specs.Answer.{KeepsIllegal};
+ghost use Rattle.mud_map.specs.Mapped.{IsMap, IsMapWith, HasNoMap};
 
+use crate::drawing::{map, map_with};
 use mud_cert::{CertFault, read};
 use mud_chron::{ChronFault, Entry, replay};
 use mud_keeping::read_kept;
-use mud_map::{map, map_with};
 use std::alloc::{AllocError, Global};
 
 /// Why there is no map.
@@ -27,7 +27,7 @@ pub enum NoMap {
 impl From<AllocError> for NoMap {
     ghost use Rattle.std.specs.Prelude.{◌≡◌};
     ghost use Rattle.mud_chron.specs.declared.fault.ChronFault.TheVariants.{OutOfMemory};
-    ghost use Rattle.mud_keep.specs.declared.mapping.NoMap.TheVariants.{History};
+    ghost use Rattle.mud_map.specs.declared.mapping.NoMap.TheVariants.{History};
 
     ghost from_gives = { λ _ e. e ≡ History OutOfMemory };
 

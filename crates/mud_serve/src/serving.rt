@@ -1,6 +1,6 @@
 //! The services of the program.
 
-ghost use Rattle.std.specs.Prelude.{◌≡◌, ◌≤◌, IfOk, length};
+ghost use Rattle.std.specs.Prelude.{◌≤◌};
 ghost use Rattle.mud_command.specs.Service.{AreWithin};
 
 use crate::stop::Stop;
@@ -58,23 +58,6 @@ fn begun<R: Runtime + AllocGlobal>(rt: &R, load: Option<&str>) -> Result<Vec<Ent
     }
 }
 
-// The entries that a world with a journal goes on from: those of the journal, or of the file where it has none.
-fn begun_after<R: Runtime + AllocGlobal>(
-    rt: &R,
-    load: Option<&str>,
-    had: Vec<Entry>,
-) -> Result<Vec<Entry>, Stop>
-    ensures { IfOk result (λ entries. length had.items ≤ length entries.items) }
-{
-    if load.is_none() {
-        return Ok(had);
-    }
-    if !had.is_empty() {
-        return Err(Stop::NotEmpty);
-    }
-    begun(rt, load)
-}
-
 // Says how much of the journal's end is no whole line.
 fn tell_torn<R: Eprint>(rt: &R, torn: usize) {
     let _ = match torn {
@@ -123,26 +106,6 @@ fn doors<R: AllocGlobal + Net<Listener = TcpListener, Stream = TcpStream>>(
     Ok(Doors { telnet, web })
 }
 
-// What the server keeps to.
-fn limits_of(listening: Listening<'_>) -> mud_listen::Limits
-    requires { AreWithin listening.limits }
-    ensures sessions { result.sessions ≤ 64 }
-    ensures workers { result.workers ≤ 8 }
-    ensures from { 1 ≤ result.capacity }
-    ensures to { result.capacity ≤ 65536 }
-{
-    mud_listen::Limits {
-        sessions: SESSIONS,
-        per_address: listening.per_address,
-        total: listening.total,
-        counts_players: listening.count_players,
-        workers: listening.limits.workers,
-        capacity: listening.limits.capacity,
-        idle: listening.idle,
-        unnamed: listening.unnamed,
-    }
-}
-
 /// Serves connections. The files of the journal and of the history are read before the port is taken.
 pub(crate) fn listen<
     R: Runtime
@@ -157,9 +120,19 @@ pub(crate) fn listen<
 >(rt: &R, listening: Listening<'_>, sign: Option<&StopSign>) -> Result<(), Stop>
     requires { AreWithin listening.limits }
 {
+    let limits = mud_listen::Limits {
+        sessions: SESSIONS,
+        per_address: listening.per_address,
+        total: listening.total,
+        counts_players: listening.count_players,
+        workers: listening.limits.workers,
+        capacity: listening.limits.capacity,
+        idle: listening.idle,
+        unnamed: listening.unnamed,
+    };
     match listening.journal {
-        None => keep_nothing(rt, listening, sign),
-        Some(name) => keep_journal(rt, listening, sign, name),
+        None => keep_nothing(rt, listening, limits, sign),
+        Some(name) => keep_journal(rt, listening, limits, sign, name),
     }
 }
 
@@ -173,21 +146,21 @@ fn keep_nothing<
         + Clock
         + Sync
         + Net<Listener = TcpListener, Stream = TcpStream>,
->(rt: &R, listening: Listening<'_>, sign: Option<&StopSign>) -> Result<(), Stop>
-    requires { AreWithin listening.limits }
+>(
+    rt: &R,
+    listening: Listening<'_>,
+    limits: mud_listen::Limits,
+    sign: Option<&StopSign>,
+) -> Result<(), Stop>
+    requires sessions { limits.sessions ≤ 64 }
+    requires workers { limits.workers ≤ 8 }
+    requires from { 1 ≤ limits.capacity }
+    requires to { limits.capacity ≤ 65536 }
 {
     let entries = begun(rt, listening.load)?;
     let doors = doors(rt, listening)?;
     let mut sink = Sink::new(io::writer(rt));
-    match listen_on(
-        rt,
-        rt.alloc(),
-        doors,
-        limits_of(listening),
-        entries,
-        sign,
-        &mut sink,
-    ) {
+    match listen_on(rt, rt.alloc(), doors, limits, entries, sign, &mut sink) {
         Ok(()) => Ok(()),
         Err(fault) => Err(Stop::of_listening(&fault)),
     }
@@ -204,22 +177,35 @@ fn keep_journal<
         + Clock
         + Sync
         + Net<Listener = TcpListener, Stream = TcpStream>,
->(rt: &R, listening: Listening<'_>, sign: Option<&StopSign>, name: &str) -> Result<(), Stop>
-    requires { AreWithin listening.limits }
+>(
+    rt: &R,
+    listening: Listening<'_>,
+    limits: mud_listen::Limits,
+    sign: Option<&StopSign>,
+    name: &str,
+) -> Result<(), Stop>
+    requires sessions { limits.sessions ≤ 64 }
+    requires workers { limits.workers ≤ 8 }
+    requires from { 1 ≤ limits.capacity }
+    requires to { limits.capacity ≤ 65536 }
 {
     let (found, had, torn) = match found(rt, name) {
         Ok(found) => found,
         Err(fault) => return Err(Stop::of_opening(fault)),
     };
     tell_torn(rt, torn);
-    let entries = begun_after(rt, listening.load, had)?;
+    let entries = match listening.load {
+        None => had,
+        Some(_) if !had.is_empty() => return Err(Stop::NotEmpty),
+        Some(_) => begun(rt, listening.load)?,
+    };
     let doors = doors(rt, listening)?;
     let mut sink = Sink::new(io::writer(rt));
     match listen_journaled(
         rt,
         rt.alloc(),
         doors,
-        limits_of(listening),
+        limits,
         entries,
         found,
         sign,

@@ -7,7 +7,7 @@ use mud_session::ScriptFault;
 use thiserror::Error;
 
 /// Why the program stopped.
-#[derive(Clone, Copy, Debug, PartialEq, Eq, Error)]
+#[derive(Clone, Copy, Debug, Error)]
 pub(crate) enum Stop {
     /// Memory ran out.
     #[error("out of memory")]

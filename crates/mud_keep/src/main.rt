@@ -11,10 +11,12 @@ mod unkept;
 
 use crate::input::read_input;
 use crate::unkept::Unkept;
+use mud_chron::ChronFault;
 use mud_command::{CommandFault, Keeping, Wish, keeping_of, show, words_of};
 use mud_ends::Sink;
-use mud_keeping::{Note, answer_wish};
+use mud_keeping::{Answer, Note, recovered_text, shorter_text, world_table};
 use mud_map::{mapped, mapped_with};
+use std::alloc::Global;
 use std::io;
 use std::process::ExitCode;
 
@@ -34,13 +36,22 @@ fn run(rt: &HostRuntime, words: &[String]) -> ExitCode {
     }
 }
 
+// What is answered to a wish.
+fn answer_to(alloc: Global, wish: Wish, bytes: &[u8]) -> Result<Answer, ChronFault> {
+    match wish {
+        Wish::Recover => recovered_text(alloc, bytes),
+        Wish::Shorten => shorter_text(alloc, bytes),
+        Wish::Show => world_table(alloc, bytes),
+    }
+}
+
 // Answers a wish.
 fn text(rt: &HostRuntime, wish: Wish, file: &str) -> ExitCode {
     let bytes = match read_input(rt, file) {
         Ok(bytes) => bytes,
         Err(unkept) => return unread(rt, unkept),
     };
-    match answer_wish(rt.alloc(), wish, &bytes) {
+    match answer_to(rt.alloc(), wish, &bytes) {
         Ok(answer) => ended(rt, answer.text.as_bytes(), answer.note),
         Err(fault) => unread(rt, Unkept::of_text(fault)),
     }

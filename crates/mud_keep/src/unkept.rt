@@ -52,6 +52,7 @@ impl Unkept<'_> {
             ChronFault::NoEnd => Unkept::NoEnd,
         }
     }
+
     /// Why there is no map.
     pub fn of_map(fault: NoMap) -> Unkept<'static> {
         match fault {

@@ -1,4 +1,4 @@
--- What is answered to the wishes of a world's keeper.
+-- What a world's keeper is answered.
 use Rattle.std.specs.Prelude.{◌≡◌, ◌⊎◌, ℕ, List, length}
 use Rattle.mud_world.specs.History.{world_of}
 use Rattle.mud_chron.specs.declared.fault.ChronFault.{ChronFault}
@@ -7,8 +7,6 @@ use Rattle.mud_chron.specs.Text.{history_text}
 use Rattle.mud_chron.specs.declared.format.Format.TheVariants.{Two}
 use Rattle.mud_chron.specs.Fronts.{HasFrontFault}
 use Rattle.mud_chron.specs.Replay.{changes_of, AreLegal, HasIllegal}
-use Rattle.mud_command.specs.declared.keeping.Wish.{Wish}
-use Rattle.mud_command.specs.declared.keeping.Wish.TheVariants.{Recover, Shorten, Show}
 use Rattle.mud_keeping.specs.Reading.{KeepsEntries, HasKeptFault, IsRecovered}
 use Rattle.mud_keeping.specs.Shorter.{IsShortened}
 use Rattle.mud_keeping.specs.Shown.{shown_text}
@@ -32,12 +30,20 @@ pub record IsShownText (bytes text : List ℕ) : Type 0 where
   pub legal : AreLegal (changes_of entries)
   pub text_is : text ≡ shown_text (world_of (changes_of entries))
 
--- what each wish is answered
-abbrev pub IsAnswer : Wish → List ℕ → List ℕ → Note → Type 0
-IsAnswer Recover bytes text (Torn torn) = IsRecovered bytes text torn
-IsAnswer Shorten bytes text (Shortened before after) = IsShorterText bytes text before after
-IsAnswer Show bytes text Nothing = IsShownText bytes text
-IsAnswer wish bytes text note = ⊥
+-- the text is the history that the bytes hold, and the note says how many of them were torn off
+abbrev pub IsRecovery : List ℕ → List ℕ → Note → Type 0
+IsRecovery bytes text (Torn torn) = IsRecovered bytes text torn
+IsRecovery bytes text note = ⊥
+
+-- the text is that of a shorter history, and the note says how many changes there were and are
+abbrev pub IsShorterAnswer : List ℕ → List ℕ → Note → Type 0
+IsShorterAnswer bytes text (Shortened before after) = IsShorterText bytes text before after
+IsShorterAnswer bytes text note = ⊥
+
+-- the text is the table of the world, and there is nothing to be told
+abbrev pub IsTable : List ℕ → List ℕ → Note → Type 0
+IsTable bytes text Nothing = IsShownText bytes text
+IsTable bytes text note = ⊥
 
 -- the bytes keep entries that aren't all legal
 pub record KeepsIllegal (bytes : List ℕ) (fault : ChronFault) : Type 0 where
@@ -45,7 +51,6 @@ pub record KeepsIllegal (bytes : List ℕ) (fault : ChronFault) : Type 0 where
   pub kept : KeepsEntries bytes entries
   pub illegal : HasIllegal entries fault
 
--- why a wish has no answer
-abbrev pub HasNoAnswer : Wish → List ℕ → ChronFault → Type 0
-HasNoAnswer Recover bytes fault = HasFrontFault bytes fault
-HasNoAnswer wish bytes fault = HasKeptFault bytes fault ⊎ KeepsIllegal bytes fault
+-- the bytes keep no world
+abbrev pub KeepsNoWorld : List ℕ → ChronFault → Type 0
+KeepsNoWorld bytes fault = HasKeptFault bytes fault ⊎ KeepsIllegal bytes fault

@@ -1,13 +1,13 @@
-//! What is answered to a wish.
+//! What a world's keeper is answered.
 
 ghost use Rattle.std.specs.Prelude.{◌≢◌, IfOk, IfErr, string_bytes};
-ghost use Rattle.mud_keeping.specs.Answer.{IsAnswer, HasNoAnswer};
+ghost use Rattle.mud_chron.specs.Fronts.{HasFrontFault};
+ghost use Rattle.mud_keeping.specs.Answer.{IsRecovery, IsShorterAnswer, IsTable, KeepsNoWorld};
 
 use crate::reading::{read_kept, recover};
 use crate::shortening::shorten;
 use crate::showing::show;
 use mud_chron::{ChronFault, replay, write_history};
-use mud_command::Wish;
 use std::alloc::Global;
 use thiserror::Error;
 
@@ -34,10 +34,11 @@ pub struct Answer {
     pub note: Note,
 }
 
-// The history that a journal holds.
-fn recovered(alloc: Global, bytes: &[u8]) -> Result<Answer, ChronFault>
-    ensures ok { IfOk result (λ a. IsAnswer Wish.Recover bytes.now (string_bytes a.text) a.note) }
-    ensures err { IfErr result (λ fault. fault ≢ ChronFault.OutOfMemory → HasNoAnswer Wish.Recover bytes.now fault) }
+/// The text of the history that the bytes of a journal hold; bytes that are none have a fault. Else the only error is
+/// out of memory (docs/KEEPING.md).
+pub fn recovered_text(alloc: Global, bytes: &[u8]) -> Result<Answer, ChronFault>
+    ensures ok { IfOk result (λ a. IsRecovery bytes.now (string_bytes a.text) a.note) }
+    ensures err { IfErr result (λ fault. fault ≢ ChronFault.OutOfMemory → HasFrontFault bytes.now fault) }
 {
     let recovered = recover(alloc, bytes)?;
     Ok(Answer {
@@ -46,10 +47,11 @@ fn recovered(alloc: Global, bytes: &[u8]) -> Result<Answer, ChronFault>
     })
 }
 
-// A shorter history.
-fn shortened(alloc: Global, bytes: &[u8]) -> Result<Answer, ChronFault>
-    ensures ok { IfOk result (λ a. IsAnswer Wish.Shorten bytes.now (string_bytes a.text) a.note) }
-    ensures err { IfErr result (λ fault. fault ≢ ChronFault.OutOfMemory → HasNoAnswer Wish.Shorten bytes.now fault) }
+/// The text of a shorter history of the same world as that of the bytes of a history or a journal; bytes that are
+/// neither, and changes that aren't legal, have a fault. Else the only error is out of memory.
+pub fn shorter_text(alloc: Global, bytes: &[u8]) -> Result<Answer, ChronFault>
+    ensures ok { IfOk result (λ a. IsShorterAnswer bytes.now (string_bytes a.text) a.note) }
+    ensures err { IfErr result (λ fault. fault ≢ ChronFault.OutOfMemory → KeepsNoWorld bytes.now fault) }
 {
     let entries = read_kept(alloc, bytes)?;
     let shorter = shorten(alloc, &entries)?;
@@ -59,10 +61,10 @@ fn shortened(alloc: Global, bytes: &[u8]) -> Result<Answer, ChronFault>
     Ok(Answer { text, note })
 }
 
-// The world as a table.
-fn shown(alloc: Global, bytes: &[u8]) -> Result<Answer, ChronFault>
-    ensures ok { IfOk result (λ a. IsAnswer Wish.Show bytes.now (string_bytes a.text) a.note) }
-    ensures err { IfErr result (λ fault. fault ≢ ChronFault.OutOfMemory → HasNoAnswer Wish.Show bytes.now fault) }
+/// The world of the bytes of a history or a journal as a table; its faults are those of a shorter history.
+pub fn world_table(alloc: Global, bytes: &[u8]) -> Result<Answer, ChronFault>
+    ensures ok { IfOk result (λ a. IsTable bytes.now (string_bytes a.text) a.note) }
+    ensures err { IfErr result (λ fault. fault ≢ ChronFault.OutOfMemory → KeepsNoWorld bytes.now fault) }
 {
     let entries = read_kept(alloc, bytes)?;
     let world = replay(alloc, &entries)?;
@@ -71,17 +73,4 @@ fn shown(alloc: Global, bytes: &[u8]) -> Result<Answer, ChronFault>
         text,
         note: Note::Nothing,
     })
-}
-
-/// What is answered to a wish, over the bytes of a history or a journal. Bytes that are neither, and changes that
-/// aren't legal, have a fault. Else the only error is out of memory.
-pub fn answer_wish(alloc: Global, wish: Wish, bytes: &[u8]) -> Result<Answer, ChronFault>
-    ensures ok { IfOk result (λ a. IsAnswer wish bytes.now (string_bytes a.text) a.note) }
-    ensures err { IfErr result (λ fault. fault ≢ ChronFault.OutOfMemory → HasNoAnswer wish bytes.now fault) }
-{
-    match wish {
-        Wish::Recover => recovered(alloc, bytes),
-        Wish::Shorten => shortened(alloc, bytes),
-        Wish::Show => shown(alloc, bytes),
-    }
 }

@@ -6,7 +6,7 @@ ghost use Rattle.std.specs.Prelude.{◌≤◌};
 use crate::delivering::{Step, steps_of};
 use crate::routing::way;
 use crate::stop::Stop;
-use crate::survey::survey_of;
+use crate::survey::{Survey, survey_of};
 use mud_chron::Entry;
 use mud_key::{Name, Names};
 use mud_world::{Change, Deed, Doors, Record, Target, World};
@@ -46,7 +46,12 @@ impl Site<'_> {
         // for the prover: `next_number` says that the world is sound
         let _ = self.world.next_number();
         self.world.apply(&change)?;
-        self.entries.push(Entry::new(desk, change))?;
+        self.add(Entry::new(desk, change))
+    }
+
+    // Adds an entry, whose change is made.
+    fn add(&mut self, entry: Entry) -> Result<(), Stop> {
+        self.entries.push(entry)?;
         Ok(())
     }
 
@@ -75,11 +80,8 @@ impl Site<'_> {
                 self.walk_to(step.to, room)?;
             }
         }
-        let deed = Deed::Move {
-            thing: step.thing,
-            to: step.to,
-        };
-        self.act(DESK, step.actor, deed)
+        let Step { thing, to, .. } = step;
+        self.act(DESK, step.actor, Deed::Move { thing, to })
     }
 
     // The names that the object has in the end; these, where it is gone.
@@ -243,31 +245,52 @@ impl Site<'_> {
         }
         Ok(steps.len())
     }
+
+    // Makes what the entries make, their actors in these rooms, each entry after the steps before it.
+    fn make_all(&mut self, entries: &[Entry], places: &[u32], steps: &[Step]) -> Result<(), Stop> {
+        let mut next = 0;
+        for (time, entry) in entries.iter().enumerate() {
+            next = self.deliver_at(steps, next, time)?;
+            let here = places.get(time).copied().unwrap_or(0);
+            self.make(entry, here)?;
+        }
+        self.deliver_at(steps, next, entries.len())?;
+        Ok(())
+    }
+
+    // Makes what the entries make, and moves each thing by the way that the survey of the entries shows.
+    fn furnish_by(&mut self, entries: &[Entry], survey: &Survey) -> Result<(), Stop> {
+        let steps = steps_of(self.alloc, self.goal, survey, entries.len())?;
+        self.make_all(entries, survey.places.as_slice(), steps.as_slice())
+    }
+
+    // Makes what the entries make, and brings each thing to where it is in the end.
+    fn furnish(&mut self, entries: &[Entry]) -> Result<(), Stop> {
+        let survey = survey_of(self.alloc, entries)?;
+        self.furnish_by(entries, &survey)
+    }
+
+    // Builds the goal, to which the entries lead.
+    fn build(&mut self, entries: &[Entry]) -> Result<(), Stop> {
+        self.rename(0)?;
+        self.rename(1)?;
+        self.furnish(entries)?;
+        self.settle_all()?;
+        self.lock_all()?;
+        self.clear(false)?;
+        self.clear(true)
+    }
 }
 
 // Builds the world of the entries, which are legal, again.
 fn built(alloc: Global, entries: &[Entry], goal: &World) -> Result<Vec<Entry>, Stop> {
-    let survey = survey_of(alloc, entries)?;
-    let steps = steps_of(alloc, goal, &survey, entries.len())?;
     let mut site = Site {
         alloc,
         goal,
         world: World::opening(alloc)?,
         entries: Vec::new(alloc),
     };
-    site.rename(0)?;
-    site.rename(1)?;
-    let mut next = 0;
-    for (time, entry) in entries.iter().enumerate() {
-        next = site.deliver_at(steps.as_slice(), next, time)?;
-        let here = survey.places.get(time).copied().unwrap_or(0);
-        site.make(entry, here)?;
-    }
-    site.deliver_at(steps.as_slice(), next, entries.len())?;
-    site.settle_all()?;
-    site.lock_all()?;
-    site.clear(false)?;
-    site.clear(true)?;
+    site.build(entries)?;
     let Site { entries, .. } = site;
     Ok(entries)
 }

@@ -1,5 +1,6 @@
 //! How each thing comes to where it is in the last world.
 
+use crate::paths::Path;
 use crate::stop::Stop;
 use crate::survey::Survey;
 use mud_world::World;
@@ -31,6 +32,18 @@ struct Freight {
     carrier: u32,
     // whether other things may go in it
     takes: bool,
+}
+
+// A room in which a maker can leave a thing to another player.
+#[derive(Clone, Copy)]
+struct Meeting {
+    room: u32,
+    // when the maker is there with the thing
+    first: usize,
+    // when the other is there, then or later
+    last: usize,
+    // whether the maker is still there by then
+    is_together: bool,
 }
 
 // The steps, as far as they are planned.
@@ -93,24 +106,33 @@ impl Plan<'_> {
         }
     }
 
-    // The thing in which the thing lies, if they have one maker.
-    fn bag(&self, thing: u32) -> Result<Option<u32>, Stop> {
+    // The step that puts the thing in the thing in which it lies, if they have one maker.
+    fn bag(&self, thing: u32) -> Result<Option<Step>, Stop> {
         let Some(bag) = self.world.place(thing) else {
             return Err(Stop::GivenUp);
         };
         if !self.world.is_thing(bag) {
             return Ok(None);
         }
-        let (_, maker) = self.origin(thing)?;
-        let (_, other) = self.origin(bag)?;
-        Ok(if maker == other { Some(bag) } else { None })
+        let (born, maker) = self.origin(thing)?;
+        let (bag_born, bag_maker) = self.origin(bag)?;
+        if maker != bag_maker {
+            return Ok(None);
+        }
+        Ok(Some(Step {
+            time: born.max(bag_born),
+            actor: maker,
+            room: None,
+            thing,
+            to: bag,
+        }))
     }
 
     // A thing that goes in another can go only when both can.
     fn wait(&mut self, thing: u32) -> Result<(), Stop> {
         let ready = self.freight(thing)?.ready;
-        if let Some(bag) = self.bag(thing)? {
-            if let Some(freight) = self.freights.get_mut(bag as usize) {
+        if let Some(step) = self.bag(thing)? {
+            if let Some(freight) = self.freights.get_mut(step.to as usize) {
                 freight.ready = freight.ready.max(ready);
             }
         }
@@ -127,22 +149,14 @@ impl Plan<'_> {
 
     // The thing goes in the thing where it lies, if that takes it.
     fn pack(&mut self, thing: u32) -> Result<bool, Stop> {
-        let Some(bag) = self.bag(thing)? else {
+        let Some(step) = self.bag(thing)? else {
             return Ok(false);
         };
-        let freight = self.freight(bag)?;
+        let freight = self.freight(step.to)?;
         if !freight.takes {
             return Ok(false);
         }
-        let (born, maker) = self.origin(thing)?;
-        let (other, _) = self.origin(bag)?;
-        self.packing.push(Step {
-            time: born.max(other),
-            actor: maker,
-            room: None,
-            thing,
-            to: bag,
-        })?;
+        self.packing.push(step)?;
         self.arrive(thing, freight.arrival, freight.carrier, true);
         Ok(true)
     }
@@ -178,39 +192,49 @@ impl Plan<'_> {
     }
 
     // When the maker can be in the room with the thing, and the other with him or after him.
-    fn meeting(&self, maker: u32, other: u32, room: u32, ready: usize) -> Option<(usize, usize)> {
+    fn meeting_in(&self, room: u32, maker: u32, other: u32, ready: usize) -> Option<Meeting> {
         let stay = self.survey.stays.get(maker, room)?;
         let next = self.survey.stays.get(other, room)?;
         let first = stay.since.max(ready);
         let last = next.since.max(first);
-        if first <= stay.until && last <= next.until {
-            Some((first, last))
-        } else {
-            None
+        if stay.until < first || next.until < last {
+            return None;
         }
+        let is_together = last <= stay.until;
+        Some(Meeting {
+            room,
+            first,
+            last,
+            is_together,
+        })
+    }
+
+    // The first meeting in which both are there; if there is none, the last of all.
+    fn meeting(&self, maker: u32, other: u32, ready: usize) -> Option<Meeting> {
+        let mut found = None;
+        for room in self.survey.rooms.iter() {
+            if let Some(meeting) = self.meeting_in(*room, maker, other, ready) {
+                found = Some(meeting);
+                if meeting.is_together {
+                    break;
+                }
+            }
+        }
+        found
     }
 
     // The maker gives the thing to the other player, or leaves it where he takes it.
     fn give(&mut self, thing: u32, maker: u32, other: u32, ready: usize) -> Result<bool, Stop> {
-        let mut later = None;
-        for room in self.survey.rooms.iter() {
-            let Some((first, last)) = self.meeting(maker, other, *room, ready) else {
-                continue;
-            };
-            let Some(stay) = self.survey.stays.get(maker, *room) else {
-                continue;
-            };
-            if last <= stay.until {
-                self.step(last, maker, *room, thing, other)?;
-                return Ok(true);
-            }
-            later = Some((first, last, *room));
-        }
-        let Some((first, last, room)) = later else {
+        let Some(meeting) = self.meeting(maker, other, ready) else {
             return Ok(false);
         };
-        self.step(first, maker, room, thing, room)?;
-        self.step(last, other, room, thing, other)?;
+        let room = meeting.room;
+        if meeting.is_together {
+            self.step(meeting.last, maker, room, thing, other)?;
+            return Ok(true);
+        }
+        self.step(meeting.first, maker, room, thing, room)?;
+        self.step(meeting.last, other, room, thing, other)?;
         Ok(true)
     }
 
@@ -228,28 +252,34 @@ impl Plan<'_> {
     }
 
     // The thing goes the path that it went.
-    fn follow(&mut self, thing: u32) -> Result<(), Stop> {
-        let Some(path) = self.survey.paths.get(&thing) else {
-            return Err(Stop::GivenUp);
-        };
+    fn follow(&mut self, thing: u32, path: &Path) -> Result<(), Stop> {
         for hop in path.hops.iter() {
             self.step(hop.time, hop.actor, hop.room, thing, hop.to)?;
         }
         Ok(())
     }
 
+    // Has the last step bring the thing right into the other, if it brings it to its actor or to a room.
+    fn redirect(&mut self, thing: u32, bag: u32) -> bool {
+        let Some(last) = self.steps.last_mut() else {
+            return false;
+        };
+        if last.thing != thing {
+            return false;
+        }
+        let is_near = last.to == last.actor || self.world.is_room(last.to);
+        if is_near {
+            last.to = bag;
+        }
+        is_near
+    }
+
     // The thing, which has come to its holder, goes into the thing where it lies.
     fn put_in(&mut self, thing: u32, holder: u32, bag: u32) -> Result<(), Stop> {
         let freight = self.freight(thing)?;
         let other = self.freight(bag)?;
-        let is_there = other.arrival <= freight.arrival;
-        if let Some(last) = self.steps.last_mut() {
-            let is_last = last.thing == thing
-                && (last.to == last.actor || self.world.is_room(last.to));
-            if is_there && is_last {
-                last.to = bag;
-                return Ok(());
-            }
+        if other.arrival <= freight.arrival && self.redirect(thing, bag) {
+            return Ok(());
         }
         if !self.world.is_room(holder) {
             self.steps.push(Step {
@@ -270,6 +300,25 @@ impl Plan<'_> {
         )
     }
 
+    // When the thing comes to its holder by the steps so far, and who brings it.
+    fn arrival(&self, thing: u32, path: &Path) -> (usize, u32) {
+        match self.steps.as_slice() {
+            [.., last] if last.thing == thing => (last.time, last.actor),
+            _ => (path.born, path.maker),
+        }
+    }
+
+    // The thing comes to the holder to which its path leads.
+    fn send(&mut self, thing: u32, path: &Path) -> Result<(), Stop> {
+        let takes = self.bring(thing, path.holder())?;
+        if !takes {
+            self.follow(thing, path)?;
+        }
+        let (time, carrier) = self.arrival(thing, path);
+        self.arrive(thing, time, carrier, takes);
+        Ok(())
+    }
+
     // Plans the steps of a thing, after those of the thing where it lies.
     fn plan(&mut self, thing: u32) -> Result<(), Stop> {
         if self.pack(thing)? {
@@ -278,22 +327,20 @@ impl Plan<'_> {
         let Some(path) = self.survey.paths.get(&thing) else {
             return Err(Stop::GivenUp);
         };
+        self.send(thing, path)?;
         let holder = path.holder();
-        let takes = self.bring(thing, holder)?;
-        if !takes {
-            self.follow(thing)?;
-        }
-        match self.steps.as_slice() {
-            [.., last] if last.thing == thing => {
-                let (time, actor) = (last.time, last.actor);
-                self.arrive(thing, time, actor, takes);
-            }
-            _ => self.arrive(thing, path.born, path.maker, takes),
-        }
         match self.world.place(thing) {
             Some(place) if place != holder => self.put_in(thing, holder, place),
             _ => Ok(()),
         }
+    }
+
+    // Puts all steps in one list, by rising time, those into things first.
+    fn sort(&mut self) -> Result<(), Stop> {
+        self.packing.extend_from_slice(self.steps.as_slice())?;
+        self.packing
+            .sort_by_key(|step: &Step| -> usize { step.time })?;
+        Ok(())
     }
 }
 
@@ -322,12 +369,19 @@ fn wait_for_all(plan: &mut Plan<'_>, things: &[u32]) -> Result<(), Stop> {
     Ok(())
 }
 
-// Plans the steps of all things, from those in no things inwards.
-fn plan_all(plan: &mut Plan<'_>, things: &[u32]) -> Result<(), Stop> {
+// Plans the steps of these things, from those in no things inwards.
+fn plan_these(plan: &mut Plan<'_>, things: &[u32]) -> Result<(), Stop> {
     for thing in things {
         plan.plan(*thing)?;
     }
     Ok(())
+}
+
+// Plans the steps of all things.
+fn plan_all(alloc: Global, plan: &mut Plan<'_>) -> Result<(), Stop> {
+    let things = things_by_depth(alloc, plan.world)?;
+    wait_for_all(plan, things.as_slice())?;
+    plan_these(plan, things.as_slice())
 }
 
 /// The steps that bring each thing of the last world to where it is, by rising time.
@@ -337,7 +391,6 @@ pub(crate) fn steps_of<'a>(
     survey: &'a Survey,
     end: usize,
 ) -> Result<Vec<Step>, Stop> {
-    let things = things_by_depth(alloc, world)?;
     let mut plan = Plan {
         world,
         survey,
@@ -346,14 +399,8 @@ pub(crate) fn steps_of<'a>(
         packing: Vec::new(alloc),
         steps: Vec::new(alloc),
     };
-    wait_for_all(&mut plan, things.as_slice())?;
-    plan_all(&mut plan, things.as_slice())?;
-    let Plan {
-        mut packing,
-        steps,
-        ..
-    } = plan;
-    packing.extend_from_slice(steps.as_slice())?;
-    packing.sort_by_key(|step: &Step| -> usize { step.time })?;
+    plan_all(alloc, &mut plan)?;
+    plan.sort()?;
+    let Plan { packing, .. } = plan;
     Ok(packing)
 }

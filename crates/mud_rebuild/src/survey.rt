@@ -27,19 +27,22 @@ pub(crate) struct Survey {
 }
 
 impl Survey {
-    fn new(alloc: Global) -> Result<Survey, Stop> {
-        let mut stays = Stays::new(alloc);
-        stays.enter(1, 0, 0)?;
-        let mut rooms = Vec::new(alloc);
-        rooms.push(0)?;
-        Ok(Survey {
+    fn new(alloc: Global) -> Survey {
+        Survey {
             alloc,
-            stays,
+            stays: Stays::new(alloc),
             paths: IndexMap::new(alloc),
-            rooms,
+            rooms: Vec::new(alloc),
             places: Vec::new(alloc),
             hops: 0,
-        })
+        }
+    }
+
+    // Takes down the opening world: the player #1 in the room #0.
+    fn open(&mut self) -> Result<(), Stop> {
+        self.stays.enter(1, 0, 0)?;
+        self.rooms.push(0)?;
+        Ok(())
     }
 
     // The room or the player where the object is.
@@ -76,6 +79,14 @@ impl Survey {
         Ok(())
     }
 
+    // The thing goes to a holder, maybe to the one that it has.
+    fn shift(&mut self, world: &World, thing: u32, hop: Hop) -> Result<(), Stop> {
+        if hop.to == self.holder(thing) {
+            return Ok(());
+        }
+        self.carry(world, thing, hop)
+    }
+
     // The actor walks to another room.
     fn walk(&mut self, actor: u32, here: u32, there: u32, time: usize) -> Result<(), Stop> {
         self.stays.stay(actor, here, time);
@@ -98,16 +109,13 @@ impl Survey {
                 }
             }
             Deed::Move { thing, to } => {
-                let to = self.holder(*to);
                 let hop = Hop {
                     time,
                     actor,
                     room: here,
-                    to,
+                    to: self.holder(*to),
                 };
-                if to != self.holder(*thing) {
-                    self.carry(world, *thing, hop)?;
-                }
+                self.shift(world, *thing, hop)?;
             }
             _ => {}
         }
@@ -129,30 +137,32 @@ impl Survey {
             }
         }
     }
-}
 
-// Takes down a change, which is entry `time`, and makes it.
-fn take_in(
-    survey: &mut Survey,
-    world: &mut World,
-    time: usize,
-    change: &Change,
-) -> Result<(), Stop> {
-    survey.note(world, time, change)?;
-    if world.legal(change).is_err() {
-        return Err(Stop::GivenUp);
+    // Takes down a change, which is entry `time`, and makes it.
+    fn take_in(&mut self, world: &mut World, time: usize, change: &Change) -> Result<(), Stop> {
+        self.note(world, time, change)?;
+        if world.legal(change).is_err() {
+            return Err(Stop::GivenUp);
+        }
+        world.apply(change)?;
+        Ok(())
     }
-    world.apply(change)?;
-    Ok(())
+
+    // Takes down what the entries tell.
+    fn take_in_all(&mut self, entries: &[Entry]) -> Result<(), Stop> {
+        self.open()?;
+        let mut world = World::opening(self.alloc)?;
+        for (time, entry) in entries.iter().enumerate() {
+            self.take_in(&mut world, time, entry.change())?;
+        }
+        self.end(&world, entries.len());
+        Ok(())
+    }
 }
 
 /// What the entries, which are legal, tell.
 pub(crate) fn survey_of(alloc: Global, entries: &[Entry]) -> Result<Survey, Stop> {
-    let mut survey = Survey::new(alloc)?;
-    let mut world = World::opening(alloc)?;
-    for (time, entry) in entries.iter().enumerate() {
-        take_in(&mut survey, &mut world, time, entry.change())?;
-    }
-    survey.end(&world, entries.len());
+    let mut survey = Survey::new(alloc);
+    survey.take_in_all(entries)?;
     Ok(survey)
 }

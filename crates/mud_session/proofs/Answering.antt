@@ -63,14 +63,11 @@ sayable law capacity ready line reply new other h =
 -- ---- a look
 
 pub looked : (T : TakingIn) (s0 s1 : State) (d0 d1 d2 : DoorState) → s0.has_ended ≡ false → T d0.desk d1.desk
-    → d2.capacity ≡ d0.capacity → Told s0 s1 d1.desk d2.desk → Nudges T s0 s1 d0 d2
-looked T s0 s1 d0 d1 d2 goes takes capacity told = record {
+    → Told s0 s1 d1.desk d2.desk → Nudges T s0 s1 d0 d2
+looked T s0 s1 d0 d1 d2 goes takes told = record {
   lines = told.lines;
-  takes = record {
-    does = record { ready = d1.desk; takes = takes; tells = told.tells };
-    capacity = capacity;
-    ended = ap (λ (s : State). s.has_ended) told.is ∙ goes;
-  };
+  sees = record { ready = d1.desk; takes = takes; tells = told.tells };
+  goes_on = goes;
   is = told.is;
 }
 
@@ -78,16 +75,13 @@ looked T s0 s1 d0 d1 d2 goes takes capacity told = record {
 
 -- memory was refused before the line came to anything
 pub unanswered : (T : TakingIn) (line : List ℕ) (s0 s1 s2 : State) (d0 d1 d2 : DoorState) → is_blank line ≡ false
-    → Nudges T s0 s1 d0 d1 → d2.desk ≡ d1.desk → d2.capacity ≡ d1.capacity
-    → s2 ≡ sends s1 (sent (codes "(out of memory)")) → HasTurn T (Text line) s0 s2 d0 d2
-unanswered T line s0 s1 s2 d0 d1 d2 heard nudged same capacity said = record {
+    → Nudges T s0 s1 d0 d1 → d2.desk ≡ d1.desk → s2 ≡ sends s1 (sent (codes "(out of memory)"))
+    → HasTurn T (Text line) s0 s2 d0 d2
+unanswered T line s0 s1 s2 d0 d1 d2 heard nudged same said = record {
   turn = record { case = Fails line; notices = nudged.lines };
   of = refl;
-  takes = record {
-    does = (heard, subst (λ (d : DeskState). Sees T d0.desk nudged.lines d) (sym same) nudged.takes.does);
-    capacity = capacity ∙ nudged.takes.capacity;
-    ended = ap (λ (s : State). s.has_ended) said ∙ nudged.takes.ended;
-  };
+  does = (heard, subst (λ (d : DeskState). Sees T d0.desk nudged.lines d) (sym same) nudged.sees);
+  ended = ap (λ (s : State). s.has_ended) said ∙ ap (λ (s : State). s.has_ended) nudged.is ∙ nudged.goes_on;
   terminal = ap (λ (s : State). s.terminal) said ∙ ap (λ (s : State). s.terminal) nudged.is;
   out = ap (λ (s : State). s.out) said ∙ ap (λ (s : State). s.out ++ answer_to (Fails line)) nudged.is
       ∙ append_assoc s0.out (flat_map sent nudged.lines) (answer_to (Fails line));
@@ -96,27 +90,23 @@ unanswered T line s0 s1 s2 d0 d1 d2 heard nudged same capacity said = record {
 -- a question was answered
 pub asked : (T : TakingIn) (text : List ℕ) (line : Line) (s0 s1 s2 : State) (d0 d1 d2 : DoorState) (last : Bool)
     (answer : Answered) → is_blank text ≡ false → parsed text ≡ line → is_question line ≡ true → last ≡ is_quit line
-    → Nudges T s0 s1 d0 d1 → d1.desk.told ≡ [] → d2.desk ≡ d1.desk → d2.capacity ≡ d1.capacity
-    → Answers d1.desk line answer
+    → Nudges T s0 s1 d0 d1 → d1.desk.told ≡ [] → d2.desk ≡ d1.desk → Answers d1.desk line answer
     → s2 ≡ record (sends s1 (sent (numbered answer.version answer.text))) { has_ended = last }
     → HasTurn T (Text text) s0 s2 d0 d2
-asked T text line s0 s1 s2 d0 d1 d2 last answer heard read question quits nudged all same capacity answers said =
+asked T text line s0 s1 s2 d0 d1 d2 last answer heard read question quits nudged all same answers said =
     let reply : List ℕ = sent (numbered answer.version answer.text) in
     record {
       turn = record { case = Asks text answer; notices = nudged.lines };
       of = refl;
-      takes = record {
-        does = (
-          heard,
-          ap is_question read ∙ question,
-          subst (λ (d : DeskState). Sees T d0.desk nudged.lines d) (sym same) nudged.takes.does,
-          ap (λ (d : DeskState). d.told) same ∙ all,
-          subst (λ (l : Line). Answers d2.desk l answer) (sym read)
-              (subst (λ (d : DeskState). Answers d line answer) (sym same) answers),
-        );
-        capacity = capacity ∙ nudged.takes.capacity;
-        ended = ap (λ (s : State). s.has_ended) said ∙ quits ∙ ap is_quit (sym read);
-      };
+      does = (
+        heard,
+        ap is_question read ∙ question,
+        subst (λ (d : DeskState). Sees T d0.desk nudged.lines d) (sym same) nudged.sees,
+        ap (λ (d : DeskState). d.told) same ∙ all,
+        subst (λ (l : Line). Answers d2.desk l answer) (sym read)
+            (subst (λ (d : DeskState). Answers d line answer) (sym same) answers),
+      );
+      ended = ap (λ (s : State). s.has_ended) said ∙ quits ∙ ap is_quit (sym read);
       terminal = ap (λ (s : State). s.terminal) said ∙ ap (λ (s : State). s.terminal) nudged.is;
       out = ap (λ (s : State). s.out) said ∙ ap (λ (s : State). s.out ++ reply) nudged.is
           ∙ append_assoc s0.out (flat_map sent nudged.lines) reply;
@@ -127,9 +117,9 @@ pub acted : (T : TakingIn) (text : List ℕ) (line : Line) (s0 s1 s2 : State) (d
     → s0.has_ended ≡ false → is_blank text ≡ false → parsed text ≡ line → is_question line ≡ false
     → ((ready : DeskState) × T d0.desk ready × Replies d0.capacity ready line reply d1.desk)
     → (reply ≡ Failed Unpublished → IsShared T) → (reply ≢ Failed OutOfMemory → d1.untold ≡ [])
-    → d2.desk ≡ with_told d1.desk d1.untold → d2.capacity ≡ d0.capacity
-    → Told s0 s1 d1.desk d2.desk → IsSaid reply → s2 ≡ sends s1 (sent_for reply) → HasTurn T (Text text) s0 s2 d0 d2
-acted T text line s0 s1 s2 d0 d1 d2 reply goes heard read other (ready, takes, replies) stored told rest capacity tells
+    → d2.desk ≡ with_told d1.desk d1.untold → Told s0 s1 d1.desk d2.desk → IsSaid reply
+    → s2 ≡ sends s1 (sent_for reply) → HasTurn T (Text text) s0 s2 d0 d2
+acted T text line s0 s1 s2 d0 d1 d2 reply goes heard read other (ready, takes, replies) stored told rest tells
     is_said said = go reply replies stored told is_said said
   where
     texted : (r : Reply) (words : List ℕ) → reply_line r ≡ Some words → r ≢ Failed OutOfMemory
@@ -139,24 +129,21 @@ acted T text line s0 s1 s2 d0 d1 d2 reply goes heard read other (ready, takes, r
     texted r words has sure rs kept all is = record {
       turn = record { case = Acts text r; notices = tells.lines };
       of = refl;
-      takes = record {
-        does = (
-          heard,
-          ap is_question read ∙ other,
-          record {
-            ready = ready;
-            takes = takes;
-            acted = d1.desk;
-            replies = subst (λ (l : Line). Replies d0.capacity ready l r d1.desk) (sym read) rs;
-            stored = kept;
-            tells = tells.tells;
-            all = ap (λ (d : DeskState). d.told) rest ∙ all sure;
-            says = ap is_some has;
-          },
-        );
-        capacity = capacity;
-        ended = ap (λ (s : State). s.has_ended) is ∙ ap (λ (s : State). s.has_ended) tells.is ∙ goes;
-      };
+      does = (
+        heard,
+        ap is_question read ∙ other,
+        record {
+          ready = ready;
+          takes = takes;
+          acted = d1.desk;
+          replies = subst (λ (l : Line). Replies d0.capacity ready l r d1.desk) (sym read) rs;
+          stored = kept;
+          tells = tells.tells;
+          all = ap (λ (d : DeskState). d.told) rest ∙ all sure;
+          says = ap is_some has;
+        },
+      );
+      ended = ap (λ (s : State). s.has_ended) is ∙ ap (λ (s : State). s.has_ended) tells.is ∙ goes;
       terminal = ap (λ (s : State). s.terminal) is ∙ ap (λ (s : State). s.terminal) tells.is;
       out = ap (λ (s : State). s.out) is ∙ ap (λ (s : State). s.out ++ answer_to (Acts text r)) tells.is
           ∙ append_assoc s0.out (flat_map sent tells.lines) (answer_to (Acts text r));
@@ -179,8 +166,7 @@ acted T text line s0 s1 s2 d0 d1 d2 reply goes heard read other (ready, takes, r
         let same : d1.desk ≡ ready =
         stays_in_memory d0.capacity ready (verdict_on ready.seen ready.player line) d1.desk rs in
         unanswered T text s0 s1 s2 d0 d2 d2 heard
-        (looked T s0 s1 d0 d1 d2 goes (subst (T d0.desk) (sym same) takes) capacity tells)
-        refl refl is
+        (looked T s0 s1 d0 d1 d2 goes (subst (T d0.desk) (sym same) takes) tells) refl is
     go (Failed HistoryFull) rs kept all can is =
         texted (Failed HistoryFull) (codes "(history full)") refl
         (λ e. let bad : ◌≡◌ {A = Reply} (Failed HistoryFull) (Failed OutOfMemory) = e in cc) rs kept all is
@@ -197,11 +183,8 @@ pub rested : (T : TakingIn) (u : Given) (old new : State) (old_door new_door : D
 rested T u old new old_door new_door goes quiet is same = record {
   turn = record { case = Rests u; notices = [] };
   of = refl;
-  takes = record {
-    does = (quiet, refl, ap (λ (d : DoorState). d.desk) same);
-    capacity = ap (λ (d : DoorState). d.capacity) same;
-    ended = ap (λ (s : State). s.has_ended) is ∙ goes;
-  };
+  does = (quiet, refl, ap (λ (d : DoorState). d.desk) same);
+  ended = ap (λ (s : State). s.has_ended) is ∙ goes;
   terminal = ap (λ (s : State). s.terminal) is;
   out = ap (λ (s : State). s.out) is;
 }

@@ -1,11 +1,11 @@
 -- The turns of a session are calls of its desk.
-use Rattle.std.proofs.Common.{◌≡◌, ℕ, List, [], ◌∷◌, ◌++◌, Some, refl, ap, subst}
+use Rattle.std.proofs.Common.{◌≡◌, ℕ, List, [], ◌∷◌, ◌++◌, Some, refl, subst}
 use Rattle.mud_words.specs.Parse.{parsed}
 use Rattle.mud_hall.specs.Desk.{DeskState, TakesIn, HandsOut}
 use Rattle.mud_hall.specs.Replies.{Reply, Replies}
 use Rattle.mud_hall.specs.Answers.{Answered, Answers}
 use Rattle.mud_hall.specs.Steps.{Call, See, Act, Ask, Told, Performs, PerformsAll}
-use Rattle.mud_session.specs.Session.{TakingIn, Talk, Case, Rests, Looks, Fails, Asks, Acts, Turn, Sees, Does, Plays}
+use Rattle.mud_session.specs.Session.{TakingIn, Case, Rests, Looks, Fails, Asks, Acts, Turn, Sees, Does, Plays}
 use Rattle.mud_session.specs.Laws.{calls_of, all_calls}
 
 -- what holds of each call that a turn makes
@@ -53,14 +53,14 @@ turned T P holds capacity old (Acts line reply) lines new (heard, other, acts) =
 )
 
 -- what holds of each call holds of all calls of some turns
-pub all_turned : (T : TakingIn) (P : ℕ → DeskState → Call → DeskState → Type 0) → HoldsOfCalls T P → (old new : Talk)
-    (turns : List Turn) → Plays T old turns new → HoldsOfAll (P old.capacity) old.desk (all_calls turns) new.desk
-all_turned T P holds old new [] same = ap (λ (t : Talk). t.desk) same
-all_turned T P holds old new (turn ∷ turns) (goes, mid, takes, plays) =
-    goes-on (P old.capacity) old.desk mid.desk new.desk (calls_of turn.notices turn.case) (all_calls turns)
-    (turned T P holds old.capacity old.desk turn.case turn.notices mid.desk takes.does)
-    (subst (λ (n : ℕ). HoldsOfAll (P n) mid.desk (all_calls turns) new.desk) takes.capacity
-    (all_turned T P holds mid new turns plays))
+pub all_turned : (T : TakingIn) (P : ℕ → DeskState → Call → DeskState → Type 0) → HoldsOfCalls T P → (capacity : ℕ)
+    (old new : DeskState) (turns : List Turn) → Plays T capacity old turns new
+    → HoldsOfAll (P capacity) old (all_calls turns) new
+all_turned T P holds capacity old new [] same = same
+all_turned T P holds capacity old new (turn ∷ turns) (mid, does, last, plays) =
+    goes-on (P capacity) old mid new (calls_of turn.notices turn.case) (all_calls turns)
+    (turned T P holds capacity old turn.case turn.notices mid does)
+    (all_turned T P holds capacity mid new turns plays)
 
 -- ---- at a desk of a hall
 
@@ -78,8 +78,8 @@ all-performed : (capacity : ℕ) (old : DeskState) (calls : List Call) (new : De
 all-performed capacity old [] new same = same
 all-performed capacity old (call ∷ calls) new (now, does, rest) = (now, does, all-performed capacity now calls new rest)
 
-pub turns_are_calls : (old new : Talk) (turns : List Turn) → Plays TakesIn old turns new
-    → PerformsAll old.capacity old.desk (all_calls turns) new.desk
-turns_are_calls old new turns plays =
-    all-performed old.capacity old.desk (all_calls turns) new.desk
-    (all_turned TakesIn Performs performed old new turns plays)
+pub turns_are_calls : (capacity : ℕ) (old new : DeskState) (turns : List Turn) → Plays TakesIn capacity old turns new
+    → PerformsAll capacity old (all_calls turns) new
+turns_are_calls capacity old new turns plays =
+    all-performed capacity old (all_calls turns) new
+    (all_turned TakesIn Performs performed capacity old new turns plays)

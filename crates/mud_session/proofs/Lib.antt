@@ -10,6 +10,5 @@ pub mod Running
 pub mod Fresh
 pub mod ServeLemmas
 pub mod ScriptLemmas
-pub mod Begun
 pub mod Ones
 pub mod Widening

@@ -30,8 +30,8 @@ use Rattle.mud_hall.specs.inner.Desks.{notice_of, notice_in}
 use Rattle.mud_hall.specs.Desk.{DeskState, TakesIn}
 use Rattle.mud_hall.specs.Replies.{Reply, Accepted, Became, Refused, Question, Failed, Stores, Replies, verdict_on}
 use Rattle.mud_hall.proofs.Coming.{Plain as Comes, plainly}
-use Rattle.mud_session.specs.State.{State, DoorState, talk_of}
-use Rattle.mud_session.specs.Session.{Talk, Case, Rests, Looks, Fails, Asks, Acts, Turn, Does, Takes, Plays}
+use Rattle.mud_session.specs.State.{State, DoorState}
+use Rattle.mud_session.specs.Session.{Case, Rests, Looks, Fails, Asks, Acts, Turn, Does, Plays}
 use Rattle.mud_session.specs.Session.{unit_of, numbered, reply_line, sent, answer_to, text_of}
 use Rattle.mud_session.specs.inner.Parts.{greeting}
 use Rattle.mud_session.specs.Feeding.{Feeds, Nudges}
@@ -285,39 +285,37 @@ turned capacity old (Acts line reply) lines new signals (heard, other, acts) =
     (said-or-none (length acts.acted.seen) (reply_line reply)
     (replied capacity acts.ready (parsed line) reply acts.acted acts.replies))
 
-takes-turn : (old new : Talk) (turn : Turn) → Signals (unit_of turn.case) → Takes TakesIn old turn new
-    → All (IsNotice (length old.desk.seen)) old.desk.told → Goes old.desk (text_in turn) new.desk
-takes-turn old new turn signals takes told =
-    let t : Tells old.desk turn.notices new.desk =
-    tells old.desk turn.notices new.desk (told_once old new turn takes) told in
+takes-turn : (capacity : ℕ) (old new : DeskState) (turn : Turn) → Signals (unit_of turn.case)
+    → Does TakesIn capacity old turn.case turn.notices new → All (IsNotice (length old.seen)) old.told
+    → Goes old (text_in turn) new
+takes-turn capacity old new turn signals does told =
+    let t : Tells old turn.notices new =
+    tells old turn.notices new (told_once capacity old turn.case turn.notices new does) told in
     record {
       grows = t.grows;
-      names = names-append (length new.desk.seen) (flat_map sent turn.notices) (answer_to turn.case)
-          (names-notices (length new.desk.seen) turn.notices t.handed)
-          (turned old.capacity old.desk turn.case turn.notices new.desk signals takes.does);
+      names = names-append (length new.seen) (flat_map sent turn.notices) (answer_to turn.case)
+          (names-notices (length new.seen) turn.notices t.handed)
+          (turned capacity old turn.case turn.notices new signals does);
       told = t.told;
     }
 
-plays-on : (old new : Talk) (turns : List Turn) → All Signals (map unit_in turns)
-    → Plays TakesIn old turns new → All (IsNotice (length old.desk.seen)) old.desk.told
-    → Goes old.desk (text_of turns) new.desk
-plays-on old new [] signals same told =
-    let is : new.desk ≡ old.desk = ap (λ (t : Talk). t.desk) same in
-    record {
-      grows = omega (arith, ap (λ (d : DeskState). length d.seen) is);
-      names = names-nil (length new.desk.seen);
-      told = subst (λ (d : DeskState). All (IsNotice (length d.seen)) d.told) (sym is) told;
-    }
-plays-on old new (turn ∷ turns) signals (goes, mid, takes, plays) told =
+plays-on : (capacity : ℕ) (old new : DeskState) (turns : List Turn) → All Signals (map unit_in turns)
+    → Plays TakesIn capacity old turns new → All (IsNotice (length old.seen)) old.told → Goes old (text_of turns) new
+plays-on capacity old new [] signals same told = record {
+  grows = omega (arith, ap (λ (d : DeskState). length d.seen) same);
+  names = names-nil (length new.seen);
+  told = subst (λ (d : DeskState). All (IsNotice (length d.seen)) d.told) (sym same) told;
+}
+plays-on capacity old new (turn ∷ turns) signals (mid, does, last, plays) told =
     let units : List (Option Given) = map unit_in turns in
-    let one : Goes old.desk (text_in turn) mid.desk =
-    takes-turn old mid turn (All-head Signals (unit_in turn) units signals) takes told in
-    let rest : Goes mid.desk (text_of turns) new.desk =
-    plays-on mid new turns (All-tail Signals (unit_in turn) units signals) plays one.told in
+    let one : Goes old (text_in turn) mid =
+    takes-turn capacity old mid turn (All-head Signals (unit_in turn) units signals) does told in
+    let rest : Goes mid (text_of turns) new =
+    plays-on capacity mid new turns (All-tail Signals (unit_in turn) units signals) plays one.told in
     record {
       grows = omega (arith, one.grows, rest.grows);
-      names = names-append (length new.desk.seen) (text_in turn) (text_of turns)
-          (names-more (length mid.desk.seen) (length new.desk.seen) (text_in turn) rest.grows one.names)
+      names = names-append (length new.seen) (text_in turn) (text_of turns)
+          (names-more (length mid.seen) (length new.seen) (text_in turn) rest.grows one.names)
           rest.names;
       told = rest.told;
     }
@@ -344,14 +342,14 @@ feeds old new was is names bytes f =
     all-left Signals (map unit_in turns) (map Some f.play.left)
     (subst (All Signals) f.play.units_are fresh) in
     goes-on old new was.desk is.desk (names.earlier ++ bytes) (text_of turns) names
-    (plays-on (talk_of old was) (talk_of new is) turns signals f.play.plays names.told) f.stands f.out
+    (plays-on was.capacity was.desk is.desk turns signals f.play.plays names.told) f.stands f.out
 
 nudges : (old new : State) (was is : DoorState) (names : NamesSeen old was.desk) → Nudges TakesIn old new was is
     → NamesSeen new is.desk
 nudges old new was is names n =
     let turn : Turn = record { case = Looks; notices = n.lines } in
     goes-on old new was.desk is.desk names.earlier (text_in turn) names
-    (takes-turn (talk_of old was) (talk_of new is) turn tt n.takes names.told)
+    (takes-turn was.capacity was.desk is.desk turn tt n.sees names.told)
     (subst (λ t. StandsAfter t names.earlier) (sym (ap (λ (s : State). s.terminal) n.is)) names.stands)
     (ap (λ (s : State). s.out) n.is ∙ ap (λ (l : List ℕ). old.out ++ l) (sym (append-nil (flat_map sent n.lines))))
 

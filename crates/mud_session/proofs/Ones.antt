@@ -34,10 +34,10 @@ use Rattle.mud_hall.specs.Replies.{Reply, Accepted, Became, Refused, Question, F
 use Rattle.mud_hall.proofs.Coming.{Plain, plainly}
 use Rattle.mud_hall.specs.Answers.{Answered, Answers, IsGuided, IsShown, Shows}
 use Rattle.mud_hall.proofs.Worlds.{world-sound}
-use Rattle.mud_session.specs.Session.{TakesNone, IsShared, Talk, Case, Rests, Looks, Fails, Asks, Acts, Turn, Sees}
-use Rattle.mud_session.specs.Session.{IsActed, Does, Takes, Plays, unit_of, is_heard, answer_to, is_last, numbered}
+use Rattle.mud_session.specs.Session.{TakesNone, IsShared, Case, Rests, Looks, Fails, Asks, Acts, Turn, Sees}
+use Rattle.mud_session.specs.Session.{IsActed, Does, Plays, unit_of, is_heard, answer_to, is_last, numbered}
 use Rattle.mud_session.specs.Session.{reply_line, sent, text_of}
-use Rattle.mud_session.specs.Script.{begins}
+use Rattle.mud_hall.specs.Steps.{lone_desk}
 use Rattle.mud_session.specs.Laws.{ScriptTextIsOne, fails}
 use Rattle.mud_session.proofs.Playing.{unit_in, text_in}
 
@@ -302,7 +302,6 @@ does-come capacity s (Acts line reply) lines new none (heard, other, acts) =
 record AreOne (xs ys : List (List ℕ)) (t u : Case) (a b : DeskState) : Type 0 where
   notices : xs ≡ ys
   text : answer_to t ≡ answer_to u
-  last : is_last t ≡ is_last u
   desk : a ≡ b
   untold : a.told ≡ []
 
@@ -312,7 +311,6 @@ come-one : (xs ys : List (List ℕ)) (t u : Case) (a b : DeskState) (text other 
 come-one xs ys t u a b text other last kept none same x y = record {
   notices = x.notices ∙ sym y.notices;
   text = x.text ∙ same ∙ sym y.text;
-  last = x.last ∙ sym y.last;
   desk = x.desk ∙ sym y.desk;
   untold = ap (λ (d : DeskState). d.told) x.desk ∙ none;
 }
@@ -343,55 +341,45 @@ unit-one capacity s (Some (Sent bytes)) failed xs ys t u a b none x y =
 unit-one capacity s (Some (Text line)) failed xs ys t u a b none x y =
     line-one capacity s line (is_blank line) failed (is_question (parsed line)) xs ys t u a b none x y
 
--- turns of one unit, for which memory runs out or not, send one text, and leave one talk
-turn-one : (old a b : Talk) (t u : Turn) → old.desk.told ≡ [] → unit_in t ≡ unit_in u → fails t.case ≡ fails u.case
-    → Takes TakesNone old t a → Takes TakesNone old u b
-    → (text_in t ≡ text_in u) × (b ≡ a) × (a.desk.told ≡ [])
-turn-one old a b t u none unit failed x y =
-    let c : ℕ = old.capacity in
-    let other : IsUnit c old.desk (unit_in t) (fails t.case) u.notices u.case b.desk =
-    subst (λ (f : Bool). IsUnit c old.desk (unit_in t) f u.notices u.case b.desk) (sym failed)
-    (subst (λ (g : Option Given). IsUnit c old.desk g (fails u.case) u.notices u.case b.desk) (sym unit)
-    (does-come c old.desk u.case u.notices b.desk none y.does)) in
-    let one : AreOne t.notices u.notices t.case u.case a.desk b.desk =
-    unit-one c old.desk (unit_in t) (fails t.case) t.notices u.notices t.case u.case a.desk b.desk none
-    (does-come c old.desk t.case t.notices a.desk none x.does) other in (
-      ap (λ (l : List (List ℕ)). flat_map sent l ++ answer_to t.case) one.notices
-          ∙ ap (λ (l : List ℕ). flat_map sent u.notices ++ l) one.text,
-      ap (λ (n : ℕ). let z : Talk = record { capacity = n; desk = b.desk; has_ended = b.has_ended } in z)
-          (y.capacity ∙ sym x.capacity)
-          ∙ ap (λ (d : DeskState). let z : Talk =
-          record { capacity = a.capacity; desk = d; has_ended = b.has_ended } in z) (sym one.desk)
-          ∙ ap (λ (l : Bool). let z : Talk = record { capacity = a.capacity; desk = a.desk; has_ended = l } in z)
-          (y.ended ∙ sym one.last ∙ sym x.ended),
-      one.untold,
-    )
+-- turns of one unit, for which memory runs out or not, send one text, and leave one desk
+turn-one : (capacity : ℕ) (old a b : DeskState) (t u : Turn) → old.told ≡ [] → unit_in t ≡ unit_in u
+    → fails t.case ≡ fails u.case → Does TakesNone capacity old t.case t.notices a
+    → Does TakesNone capacity old u.case u.notices b → AreOne t.notices u.notices t.case u.case a b
+turn-one capacity old a b t u none unit failed x y =
+    unit-one capacity old (unit_in t) (fails t.case) t.notices u.notices t.case u.case a b none
+    (does-come capacity old t.case t.notices a none x)
+    (subst (λ (f : Bool). IsUnit capacity old (unit_in t) f u.notices u.case b) (sym failed)
+    (subst (λ (g : Option Given). IsUnit capacity old g (fails u.case) u.notices u.case b) (sym unit)
+    (does-come capacity old u.case u.notices b none y)))
 
 -- ---- texts
 
 abbrev failed : List Turn → List Bool
 failed turns = map (λ turn. fails turn.case) turns
 
-turns-one : (old : Talk) (xs ys : List Turn) (left right : List (Option Given)) (a b : Talk) → old.desk.told ≡ []
-    → map unit_in xs ++ left ≡ map unit_in ys ++ right → failed xs ≡ failed ys
-    → Plays TakesNone old xs a → Plays TakesNone old ys b → text_of xs ≡ text_of ys
-turns-one old [] [] left right a b none q e x y = refl
-turns-one old [] (v ∷ ys) left right a b none q e x y = absurd (cc)
-turns-one old (u ∷ xs) [] left right a b none q e x y = absurd (cc)
-turns-one old (u ∷ xs) (v ∷ ys) left right a b none q e x y =
+turns-one : (capacity : ℕ) (old : DeskState) (xs ys : List Turn) (left right : List (Option Given)) (a b : DeskState)
+    → old.told ≡ [] → map unit_in xs ++ left ≡ map unit_in ys ++ right → failed xs ≡ failed ys
+    → Plays TakesNone capacity old xs a → Plays TakesNone capacity old ys b → text_of xs ≡ text_of ys
+turns-one capacity old [] [] left right a b none q e x y = refl
+turns-one capacity old [] (v ∷ ys) left right a b none q e x y = absurd (cc)
+turns-one capacity old (u ∷ xs) [] left right a b none q e x y = absurd (cc)
+turns-one capacity old (u ∷ xs) (v ∷ ys) left right a b none q e x y =
     let both : unit_in u ∷ (map unit_in xs ++ left) ≡ unit_in v ∷ (map unit_in ys ++ right) = q in
     let unit : unit_in u ≡ unit_in v = cc in
     let units : map unit_in xs ++ left ≡ map unit_in ys ++ right = cc in
     let heads : fails u.case ∷ failed xs ≡ fails v.case ∷ failed ys = e in
     let head : fails u.case ≡ fails v.case = cc in
     let tail : failed xs ≡ failed ys = cc in
-    let one : (text_in u ≡ text_in v) × (y.1 ≡ x.1) × (x.1.desk.told ≡ []) =
-    turn-one old x.1 y.1 u v none unit head x.2 y.2 in
-    let moved : Plays TakesNone x.1 ys b = subst (λ (t : Talk). Plays TakesNone t ys b) one.1 y.3 in
-    ap (λ (l : List ℕ). l ++ text_of xs) one.0 ∙ ap (λ (l : List ℕ). text_in v ++ l)
-    (turns-one x.1 xs ys left right a b one.2 units tail x.3 moved)
+    let one : AreOne u.notices v.notices u.case v.case x.0 y.0 =
+    turn-one capacity old x.0 y.0 u v none unit head x.1 y.1 in
+    let moved : Plays TakesNone capacity x.0 ys b =
+    subst (λ (d : DeskState). Plays TakesNone capacity d ys b) (sym one.desk) y.3 in
+    ap (λ (l : List (List ℕ)). (flat_map sent l ++ answer_to u.case) ++ text_of xs) one.notices
+    ∙ ap (λ (l : List ℕ). (flat_map sent v.notices ++ l) ++ text_of xs) one.text
+    ∙ ap (λ (l : List ℕ). text_in v ++ l)
+    (turns-one capacity x.0 xs ys left right a b one.untold units tail x.3 moved)
 
 pub script_text_is_one : ScriptTextIsOne
 script_text_is_one capacity bytes one other p q e =
-    turns-one (begins capacity) p.turns q.turns (map Some p.left) (map Some q.left) one other refl
+    turns-one capacity lone_desk p.turns q.turns (map Some p.left) (map Some q.left) one other refl
     (sym p.units_are ∙ q.units_are) e p.plays q.plays

@@ -12,8 +12,7 @@ use Rattle.mud_hall.specs.inner.Desks.{took_in}
 use Rattle.mud_hall.specs.Replies.{Reply, Accepted, Became, Refused, Question, Failed, Stores, Replies, verdict_on}
 use Rattle.mud_hall.specs.Steps.{Call, Act, Performs, Hall, seats, lone_desk, opened_alone, At, Makes, Grows, IsRun}
 use Rattle.mud_hall.proofs.Coming.{Plain, plainly}
-use Rattle.mud_session.specs.Session.{Talk, TakesNone, Turn, Plays}
-use Rattle.mud_session.specs.Script.{begins}
+use Rattle.mud_session.specs.Session.{TakesNone, Turn, Plays}
 use Rattle.mud_session.specs.Laws.{all_calls, AreScript}
 use Rattle.mud_session.proofs.Calling.{HoldsOfCalls, HoldsOfAll, all_turned}
 
@@ -123,10 +122,10 @@ runs capacity hall old (call ∷ calls) new stands (now, one, ones) =
       stands = rest.stands;
     }
 
-pub script_is_run : (capacity : ℕ) (turns : List Turn) (new : Talk) → Plays TakesNone (begins capacity) turns new
-    → AreScript capacity turns new.desk
+pub script_is_run : (capacity : ℕ) (turns : List Turn) (new : DeskState) → Plays TakesNone capacity lone_desk turns new
+    → AreScript capacity turns new
 script_is_run capacity turns new plays =
-    let ran : Runs capacity opened_alone (all_calls turns) new.desk =
-    runs capacity opened_alone lone_desk (all_calls turns) new.desk (record { at = refl; whole = refl })
-    (all_turned TakesNone IsOne ones (begins capacity) new turns plays) in
+    let ran : Runs capacity opened_alone (all_calls turns) new =
+    runs capacity opened_alone lone_desk (all_calls turns) new (record { at = refl; whole = refl })
+    (all_turned TakesNone IsOne ones capacity lone_desk new turns plays) in
     record { hall = ran.later; run = ran.run; desk = ran.stands.at }

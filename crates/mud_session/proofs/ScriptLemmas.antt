@@ -9,12 +9,13 @@ use Rattle.std.proofs.lemmas.Bool.{cases_Bool, true≢false}
 use Rattle.std.proofs.Math.Seq.{take-append-add, take-length}
 use Rattle.mud_nvt.specs.Units.{Given, units}
 use Rattle.mud_nvt.specs.History.{StandsAfter}
-use Rattle.mud_session.specs.State.{State, DoorState, talk_of}
+use Rattle.mud_hall.specs.Desk.{DeskState}
+use Rattle.mud_session.specs.State.{State, DoorState}
 use Rattle.mud_ends.specs.Ends.{Reader, Writer, unread}
-use Rattle.mud_session.specs.Session.{TakingIn, Talk, Turn, Plays, Play, text_of}
+use Rattle.mud_session.specs.Session.{TakingIn, Turn, Plays, Play, is_over, text_of}
 use Rattle.mud_session.specs.inner.Serving.{Serves, ServesInPart}
 use Rattle.mud_session.specs.Script.{Script, IsWhole, IsFront, IsOpen}
-use Rattle.mud_session.proofs.Playing.{unit_in, retold, joined, text_of-append}
+use Rattle.mud_session.proofs.Playing.{unit_in, retold, joined, over-by, text_of-append}
 
 -- a read saw the end, or did not
 pub ends_here : (at_end : Bool) (n : ℕ) (buffer : List ℕ) → at_end ≡ (n == 0 && nat_lt 0 (length buffer)) → n ≡ 0
@@ -26,14 +27,15 @@ pub goes_on_here : (at_end : Bool) (n : ℕ) (buffer : List ℕ)
 goes_on_here at_end n buffer is some = is ∙ grind (arith, nat_tests)
 
 -- where the script stands after some reads
-pub record Reached (takes_in : TakingIn) (start : Talk) (reader read : Reader) (held now : Option (List ℕ))
-    (state : State) (door : DoorState) : Type 0 where
+pub record Reached (takes_in : TakingIn) (capacity : ℕ) (start : DeskState) (reader read : Reader)
+    (held now : Option (List ℕ)) (state : State) (door : DoorState) : Type 0 where
   pub bytes : List ℕ
   pub turns : List Turn
   pub units_are : map Some (units bytes) ≡ map unit_in turns
-  pub plays : Plays takes_in start turns (talk_of state door)
+  pub plays : Plays takes_in capacity start turns door.desk
+  pub same : door.capacity ≡ capacity
   pub stands : StandsAfter state.terminal bytes
-  pub goes_on : state.has_ended ≡ false
+  pub goes_on : is_over turns ≡ false
   pub out : state.out ≡ []
   pub consumed : Consumes reader.left read.left bytes
   pub no_end : read.at_end ≡ false
@@ -42,15 +44,16 @@ pub record Reached (takes_in : TakingIn) (start : Talk) (reader read : Reader) (
 
 pub reached_none : (takes_in : TakingIn) (reader : Reader) (held : Option (List ℕ)) (state : State) (door : DoorState)
     → reader ≡ unread reader.left
-    → StandsAfter state.terminal [] → state.has_ended ≡ false → state.out ≡ []
-    → Reached takes_in (talk_of state door) reader reader held held state door
-reached_none takes_in reader held state door fresh stands goes_on out = record {
+    → StandsAfter state.terminal [] → state.out ≡ []
+    → Reached takes_in door.capacity door.desk reader reader held held state door
+reached_none takes_in reader held state door fresh stands out = record {
   bytes = [];
   turns = [];
   units_are = refl;
   plays = refl;
+  same = refl;
   stands = stands;
-  goes_on = goes_on;
+  goes_on = refl;
   out = out;
   consumed = Consumes-nil reader.left;
   no_end = ap (λ (r : Reader). r.at_end) fresh;
@@ -64,34 +67,37 @@ heard_bytes : (bytes : List ℕ) (at_end ended : Bool) → at_end ≡ ended
 heard_bytes bytes at_end ended e = ap (λ (b : Bool). if b then bytes ++ 10 ∷ [] else bytes) e
 
 -- before the end
-abbrev played : {takes_in : TakingIn} {start : Talk} {old new : Reader} {talk : Talk} (bytes : List ℕ)
+abbrev played : {takes_in : TakingIn} {capacity : ℕ} {start : DeskState}
+    {old new : Reader} {desk : DeskState} (bytes : List ℕ)
     → Consumes old.left new.left bytes → new.at_end ≡ false
-    → Play takes_in start (units bytes) talk → Script takes_in start old new
-played {new = new} {talk = talk} bytes consumed open_still play = record {
+    → Play takes_in capacity start (units bytes) desk → Script takes_in capacity start old new
+played {new = new} {desk = desk} bytes consumed open_still play = record {
   bytes = bytes;
   read = consumed;
   end = λ e. absurd (true≢false (sym e ∙ open_still));
-  talk = talk;
+  desk = desk;
   play = retold (ap units (heard_bytes bytes new.at_end false open_still)) play;
 }
 
 -- at the end
-abbrev played_out : {takes_in : TakingIn} {start : Talk} {old new : Reader} {talk : Talk} (bytes : List ℕ)
+abbrev played_out : {takes_in : TakingIn} {capacity : ℕ} {start : DeskState}
+    {old new : Reader} {desk : DeskState} (bytes : List ℕ)
     → Consumes old.left new.left bytes → new.at_end ≡ true → IsAtEnd new.left
-    → Play takes_in start (units (bytes ++ 10 ∷ [])) talk → Script takes_in start old new
-played_out {new = new} {talk = talk} bytes consumed ended end play = record {
+    → Play takes_in capacity start (units (bytes ++ 10 ∷ [])) desk → Script takes_in capacity start old new
+played_out {new = new} {desk = desk} bytes consumed ended end play = record {
   bytes = bytes;
   read = consumed;
   end = λ _. end;
-  talk = talk;
+  desk = desk;
   play = retold (ap units (heard_bytes bytes new.at_end true ended)) play;
 }
 
 -- what was played so far
-abbrev so_far_play : {takes_in : TakingIn} {start : Talk} {reader read : Reader} {held now : Option (List ℕ)}
+abbrev so_far_play : {takes_in : TakingIn} {capacity : ℕ} {start : DeskState}
+    {reader read : Reader} {held now : Option (List ℕ)}
     {state : State} {door : DoorState}
-    → (so_far : Reached takes_in start reader read held now state door)
-    → Play takes_in start (units so_far.bytes) (talk_of state door)
+    → (so_far : Reached takes_in capacity start reader read held now state door)
+    → Play takes_in capacity start (units so_far.bytes) door.desk
 so_far_play so_far = record {
   turns = so_far.turns;
   left = [];
@@ -101,24 +107,32 @@ so_far_play so_far = record {
 }
 
 -- and for more bytes
-abbrev more_play : {takes_in : TakingIn} {start : Talk} {reader read : Reader} {held now : Option (List ℕ)}
-    {state : State} {door : DoorState} {fresh : List Given} {talk : Talk}
-    → (so_far : Reached takes_in start reader read held now state door) (more : List ℕ)
-    → units (so_far.bytes ++ more) ≡ units so_far.bytes ++ fresh → Play takes_in (talk_of state door) fresh talk
-    → Play takes_in start (units (so_far.bytes ++ more)) talk
-more_play so_far more is play = retold is (joined _ so_far.turns so_far.units_are so_far.plays play)
+abbrev more_play : {takes_in : TakingIn} {capacity : ℕ} {start : DeskState}
+    {reader read : Reader}
+    {held now : Option (List ℕ)} {state : State} {door : DoorState} {fresh : List Given} {desk : DeskState}
+    → (so_far : Reached takes_in capacity start reader read held now state door) (more : List ℕ)
+    → units (so_far.bytes ++ more) ≡ units so_far.bytes ++ fresh → Play takes_in door.capacity door.desk fresh desk
+    → Play takes_in capacity start (units (so_far.bytes ++ more)) desk
+more_play {takes_in = takes_in} {door = door} {desk = desk} so_far more is play =
+    retold is (joined _ so_far.turns so_far.units_are so_far.goes_on so_far.plays (record {
+      turns = play.turns;
+      left = play.left;
+      units_are = play.units_are;
+      plays = subst (λ (n : ℕ). Plays takes_in n door.desk play.turns desk) so_far.same play.plays;
+    }))
 
 more_written : (held now later : Option (List ℕ)) (xs ys : List Turn) → Appends held now (text_of xs)
     → Appends now later (text_of ys) → Appends held later (text_of (xs ++ ys))
 more_written held now later xs ys p q = subst (Appends held later) (sym (text_of-append xs ys))
     (Appends-trans held now later (text_of xs) (text_of ys) p q)
 
-pub reached_more : {takes_in : TakingIn} {start : Talk} {reader read next : Reader} {held now later : Option (List ℕ)}
+pub reached_more : {takes_in : TakingIn} {capacity : ℕ} {start : DeskState}
+    {reader read next : Reader} {held now later : Option (List ℕ)}
     {state new : State} {door new_door : DoorState} {more : List ℕ}
-    → (so_far : Reached takes_in start reader read held now state door) → Consumes read.left next.left more
+    → (so_far : Reached takes_in capacity start reader read held now state door) → Consumes read.left next.left more
     → next.at_end ≡ false → next.reads ≡ read.reads + 1 → 0 < length more
     → new.has_ended ≡ false → Serves takes_in so_far.bytes more state new door new_door now later
-    → Reached takes_in start reader next held later new new_door
+    → Reached takes_in capacity start reader next held later new new_door
 reached_more {more = more} so_far consumed no_end reads some goes_on serves =
     let play = more_play so_far more serves.feeds.units serves.feeds.play in
     record {
@@ -127,8 +141,9 @@ reached_more {more = more} so_far consumed no_end reads some goes_on serves =
       units_are = play.units_are ∙ ap (λ l. map unit_in play.turns ++ map Some l) (serves.feeds.all goes_on)
           ∙ append-nil (map unit_in play.turns);
       plays = play.plays;
+      same = serves.capacity ∙ so_far.same;
       stands = serves.feeds.stands;
-      goes_on = goes_on;
+      goes_on = over-by so_far.turns serves.feeds.play.turns _ so_far.goes_on serves.feeds.ended ∙ goes_on;
       out = serves.out;
       consumed = Consumes-trans _ _ _ so_far.bytes more so_far.consumed consumed;
       no_end = no_end;
@@ -137,32 +152,36 @@ reached_more {more = more} so_far consumed no_end reads some goes_on serves =
     }
 
 -- an answered `quit`
-pub whole_at_quit : {takes_in : TakingIn} {start : Talk} {reader read next : Reader} {writer written : Writer}
+pub whole_at_quit : {takes_in : TakingIn} {capacity : ℕ} {start : DeskState}
+    {reader read next : Reader} {writer written : Writer}
     {now : Option (List ℕ)} {state new : State} {door new_door : DoorState} {more : List ℕ}
-    → (so_far : Reached takes_in start reader read writer.holds now state door) → Consumes read.left next.left more
+    → (so_far : Reached takes_in capacity start reader read writer.holds now state door)
+    → Consumes read.left next.left more
     → next.at_end ≡ false → new.has_ended ≡ true
     → Serves takes_in so_far.bytes more state new door new_door now written.holds
-    → IsWhole takes_in start reader next writer written
+    → IsWhole takes_in capacity start reader next writer written
 whole_at_quit {more = more} so_far consumed no_end over serves = record {
   script = played (so_far.bytes ++ more) (Consumes-trans _ _ _ so_far.bytes more so_far.consumed consumed) no_end
       (more_play so_far more serves.feeds.units serves.feeds.play);
   writes = more_written _ _ _ so_far.turns serves.feeds.play.turns so_far.written serves.written;
-  done = inr over;
+  done = inr (over-by so_far.turns serves.feeds.play.turns _ so_far.goes_on serves.feeds.ended ∙ over);
 }
 
 -- the end of the input, and the last line
-pub whole_at_end : {takes_in : TakingIn} {start : Talk} {reader read next : Reader} {writer written : Writer}
+pub whole_at_end : {takes_in : TakingIn} {capacity : ℕ} {start : DeskState}
+    {reader read next : Reader} {writer written : Writer}
     {now : Option (List ℕ)} {state new : State} {door new_door : DoorState}
-    → (so_far : Reached takes_in start reader read writer.holds now state door) → Consumes read.left next.left []
+    → (so_far : Reached takes_in capacity start reader read writer.holds now state door)
+    → Consumes read.left next.left []
     → next.at_end ≡ true → IsAtEnd next.left
     → Serves takes_in so_far.bytes (10 ∷ []) state new door new_door now written.holds
-    → IsWhole takes_in start reader next writer written
+    → IsWhole takes_in capacity start reader next writer written
 whole_at_end {new = new} so_far consumed ended end serves = record {
   script = played_out so_far.bytes (rw append-nil at (Consumes-trans _ _ _ so_far.bytes [] so_far.consumed consumed))
       ended end (more_play so_far (10 ∷ []) serves.feeds.units serves.feeds.play);
   writes = more_written _ _ _ so_far.turns serves.feeds.play.turns so_far.written serves.written;
   done = elim (cases_Bool new.has_ended) [
-    | inl e ↦ inr e
+    | inl e ↦ inr (over-by so_far.turns serves.feeds.play.turns _ so_far.goes_on serves.feeds.ended ∙ e)
     | inr e ↦ inl (ended, serves.feeds.all e)
   ];
 }
@@ -177,9 +196,9 @@ more_front held now later xs ys n p q =
     (Appends-trans held now later (text_of xs) (take n (text_of ys)) p q)
 
 -- where no door could be opened
-pub front_at_start : (takes_in : TakingIn) (start : Talk) (reader : Reader) (writer : Writer)
-    → reader ≡ unread reader.left → IsFront takes_in start reader reader writer writer
-front_at_start takes_in start reader writer fresh = record {
+pub front_at_start : (takes_in : TakingIn) (capacity : ℕ) (start : DeskState) (reader : Reader) (writer : Writer)
+    → reader ≡ unread reader.left → IsFront takes_in capacity start reader reader writer writer
+front_at_start takes_in capacity start reader writer fresh = record {
   script = played [] (Consumes-nil reader.left) (ap (λ (r : Reader). r.at_end) fresh)
       (record { turns = []; left = units []; units_are = refl; plays = refl });
   count = 0;
@@ -187,10 +206,11 @@ front_at_start takes_in start reader writer fresh = record {
 }
 
 -- where a read fails, or too many came
-pub front_so_far : {takes_in : TakingIn} {start : Talk} {reader read next : Reader} {writer written : Writer}
+pub front_so_far : {takes_in : TakingIn} {capacity : ℕ} {start : DeskState}
+    {reader read next : Reader} {writer written : Writer}
     {state : State} {door : DoorState}
-    → Reached takes_in start reader read writer.holds written.holds state door → Keeps read.left next.left
-    → next.at_end ≡ false → IsFront takes_in start reader next writer written
+    → Reached takes_in capacity start reader read writer.holds written.holds state door → Keeps read.left next.left
+    → next.at_end ≡ false → IsFront takes_in capacity start reader next writer written
 front_so_far {writer = writer} {written = written} so_far kept no_end = record {
   script = played so_far.bytes (Consumes-kept _ _ _ so_far.bytes so_far.consumed kept) no_end (so_far_play so_far);
   count = length (text_of so_far.turns);
@@ -198,12 +218,13 @@ front_so_far {writer = writer} {written = written} so_far kept no_end = record {
 }
 
 -- where the session fails, or a write
-pub front_served : {takes_in : TakingIn} {start : Talk} {reader read next : Reader} {writer written : Writer}
+pub front_served : {takes_in : TakingIn} {capacity : ℕ} {start : DeskState}
+    {reader read next : Reader} {writer written : Writer}
     {now : Option (List ℕ)} {state : State} {door : DoorState} {more : List ℕ}
-    → (so_far : Reached takes_in start reader read writer.holds now state door)
+    → (so_far : Reached takes_in capacity start reader read writer.holds now state door)
     → Consumes read.left next.left more → next.at_end ≡ false
-    → ServesInPart takes_in so_far.bytes more state door now written.holds
-    → IsFront takes_in start reader next writer written
+    → ServesInPart takes_in so_far.bytes more door now written.holds
+    → IsFront takes_in capacity start reader next writer written
 front_served {more = more} so_far consumed no_end part = record {
   script = played (so_far.bytes ++ more) (Consumes-trans _ _ _ so_far.bytes more so_far.consumed consumed) no_end
       (more_play so_far more part.units part.play);
@@ -212,12 +233,14 @@ front_served {more = more} so_far consumed no_end part = record {
 }
 
 -- the same at the end of the input, in the last line
-pub front_at_end : {takes_in : TakingIn} {start : Talk} {reader read next : Reader} {writer written : Writer}
+pub front_at_end : {takes_in : TakingIn} {capacity : ℕ} {start : DeskState}
+    {reader read next : Reader} {writer written : Writer}
     {now : Option (List ℕ)} {state : State} {door : DoorState}
-    → (so_far : Reached takes_in start reader read writer.holds now state door) → Consumes read.left next.left []
+    → (so_far : Reached takes_in capacity start reader read writer.holds now state door)
+    → Consumes read.left next.left []
     → next.at_end ≡ true → IsAtEnd next.left
-    → ServesInPart takes_in so_far.bytes (10 ∷ []) state door now written.holds
-    → IsFront takes_in start reader next writer written
+    → ServesInPart takes_in so_far.bytes (10 ∷ []) door now written.holds
+    → IsFront takes_in capacity start reader next writer written
 front_at_end so_far consumed ended end part = record {
   script = played_out so_far.bytes (rw append-nil at (Consumes-trans _ _ _ so_far.bytes [] so_far.consumed consumed))
       ended end (more_play so_far (10 ∷ []) part.units part.play);
@@ -226,10 +249,11 @@ front_at_end so_far consumed ended end part = record {
 }
 
 -- it goes on
-pub is_open : {takes_in : TakingIn} {start : Talk} {reader read : Reader} {writer written : Writer}
+pub is_open : {takes_in : TakingIn} {capacity : ℕ} {start : DeskState}
+    {reader read : Reader} {writer written : Writer}
     {state : State} {door : DoorState}
-    → Reached takes_in start reader read writer.holds written.holds state door
-    → IsOpen takes_in start reader read writer written
+    → Reached takes_in capacity start reader read writer.holds written.holds state door
+    → IsOpen takes_in capacity start reader read writer written
 is_open so_far = record {
   script = played so_far.bytes so_far.consumed so_far.no_end (so_far_play so_far);
   writes = so_far.written;

@@ -12,7 +12,7 @@ use Rattle.mud_hall.specs.declared.fault.Fault.TheVariants.{OutOfMemory, History
 use Rattle.mud_hall.specs.Desk.{DeskState, TakesIn, HandsOut}
 use Rattle.mud_hall.specs.Replies.{Reply, Accepted, Became, Refused, Question, Failed, Stores, Replies, verdict_on}
 use Rattle.mud_hall.proofs.Coming.{Plain, plainly}
-use Rattle.mud_session.specs.Session.{Talk, Case, Turn, Rests, Looks, Fails, Asks, Acts, Sees, Does, Takes}
+use Rattle.mud_session.specs.Session.{Case, Rests, Looks, Fails, Asks, Acts, Sees, Does}
 use Rattle.mud_session.specs.Laws.{IsToldOnce}
 
 -- the desk made an entry itself, or none, and is told nothing of it
@@ -79,9 +79,9 @@ looked : (old new : DeskState) (lines : List (List ℕ)) → Sees TakesIn old li
 looked old new lines sees = told old sees.ready sees.ready new lines sees.takes
     (adds-same sees.ready sees.ready refl) sees.tells
 
-turned : (capacity : ℕ) (old : DeskState) (case : Case) (lines : List (List ℕ)) (new : DeskState)
+pub told_once : (capacity : ℕ) (old : DeskState) (case : Case) (lines : List (List ℕ)) (new : DeskState)
     → Does TakesIn capacity old case lines new → IsToldOnce old lines new
-turned capacity old (Rests unit) lines new (quiet, none, same) = record {
+told_once capacity old (Rests unit) lines new (quiet, none, same) = record {
   others = [];
   own = [];
   seen = ap (λ (d : DeskState). d.seen) same ∙ sym (append-nil old.seen);
@@ -89,13 +89,9 @@ turned capacity old (Rests unit) lines new (quiet, none, same) = record {
   told = append-nil old.told ∙ sym (ap (λ (d : DeskState). d.told) same)
       ∙ ap (λ (l : List (List ℕ)). l ++ new.told) (sym none);
 }
-turned capacity old Looks lines new sees = looked old new lines sees
-turned capacity old (Fails line) lines new does = looked old new lines does.1
-turned capacity old (Asks line answer) lines new does = looked old new lines does.2
-turned capacity old (Acts line reply) lines new (heard, other, acts) =
+told_once capacity old Looks lines new sees = looked old new lines sees
+told_once capacity old (Fails line) lines new does = looked old new lines does.1
+told_once capacity old (Asks line answer) lines new does = looked old new lines does.2
+told_once capacity old (Acts line reply) lines new (heard, other, acts) =
     told old acts.ready acts.acted new lines acts.takes
     (replies-add capacity acts.ready (parsed line) reply acts.acted acts.replies) acts.tells
-
-pub told_once : (old new : Talk) (turn : Turn) → Takes TakesIn old turn new
-    → IsToldOnce old.desk turn.notices new.desk
-told_once old new turn takes = turned old.capacity old.desk turn.case turn.notices new.desk takes.does

@@ -3,8 +3,8 @@ use Rattle.std.specs.Prelude.{◌≡◌, ℕ, false, List, [], ◌++◌}
 use Rattle.std.specs.List.{flat_map}
 use Rattle.mud_nvt.specs.Units.{Given, units}
 use Rattle.mud_nvt.specs.History.{StandsAfter}
-use Rattle.mud_session.specs.State.{State, DoorState, talk_of}
-use Rattle.mud_session.specs.Session.{TakingIn, Looks, Takes, Play, sent, text_of}
+use Rattle.mud_session.specs.State.{State, DoorState}
+use Rattle.mud_session.specs.Session.{TakingIn, Sees, Play, is_over, sent, text_of}
 
 -- after the earlier bytes it takes these: the units that they add have their turns, up to the last reply
 pub record Feeds (takes_in : TakingIn) (earlier bytes : List ℕ) (old new : State)
@@ -12,12 +12,15 @@ pub record Feeds (takes_in : TakingIn) (earlier bytes : List ℕ) (old new : Sta
   pub stands : StandsAfter new.terminal (earlier ++ bytes)
   pub fresh : List Given
   pub units : units (earlier ++ bytes) ≡ units earlier ++ fresh
-  pub play : Play takes_in (talk_of old old_door) fresh (talk_of new new_door)
+  pub play : Play takes_in old_door.capacity old_door.desk fresh new_door.desk
+  pub goes_on : old.has_ended ≡ false
+  pub ended : new.has_ended ≡ is_over play.turns
   pub all : new.has_ended ≡ false → play.left ≡ []
   pub out : new.out ≡ old.out ++ text_of play.turns
 
 -- it looks for what others did, and the notices are to be taken out
 pub record Nudges (takes_in : TakingIn) (old new : State) (old_door new_door : DoorState) : Type 0 where
   pub lines : List (List ℕ)
-  pub takes : Takes takes_in (talk_of old old_door) (record { case = Looks; notices = lines }) (talk_of new new_door)
+  pub sees : Sees takes_in old_door.desk lines new_door.desk
+  pub goes_on : old.has_ended ≡ false
   pub is : new ≡ record old { out = old.out ++ flat_map sent lines }

@@ -6,9 +6,8 @@ use Rattle.mud_nvt.specs.History.{StandsAfter}
 use Rattle.mud_chron.specs.Entry.{Entry}
 use Rattle.mud_hall.specs.Told.{notices}
 use Rattle.mud_hall.specs.Desk.{DeskState}
-use Rattle.mud_hall.specs.Steps.{Call, See, Act, Ask, Told, Hall, opened_alone, At, IsRun}
-use Rattle.mud_session.specs.Session.{Talk, TakesNone, Case, Rests, Looks, Fails, Asks, Acts, Turn, Play, text_of}
-use Rattle.mud_session.specs.Script.{begins}
+use Rattle.mud_hall.specs.Steps.{Call, See, Act, Ask, Told, Hall, lone_desk, opened_alone, At, IsRun}
+use Rattle.mud_session.specs.Session.{TakesNone, Case, Rests, Looks, Fails, Asks, Acts, Turn, Play, text_of}
 use Rattle.mud_session.specs.State.{State}
 use Rattle.mud_session.specs.Naming.{NamesUpTo, IsNotice}
 
@@ -20,8 +19,9 @@ fails other = false
 -- two plays of the same bytes at a desk that nobody shares, in which memory ran out for the same lines, send one text
 abbrev pub ScriptTextIsOne : Type 0
 ScriptTextIsOne =
-    (capacity : ℕ) (bytes : List ℕ) (one other : Talk)
-    (p : Play TakesNone (begins capacity) (units bytes) one) (q : Play TakesNone (begins capacity) (units bytes) other)
+    (capacity : ℕ) (bytes : List ℕ) (one other : DeskState)
+    (p : Play TakesNone capacity lone_desk (units bytes) one)
+    (q : Play TakesNone capacity lone_desk (units bytes) other)
     → map (λ turn. fails turn.case) p.turns ≡ map (λ turn. fails turn.case) q.turns
     → text_of p.turns ≡ text_of q.turns
 

@@ -1,7 +1,7 @@
 -- A session at any door: the turns that its units have, and what is sent for them.
 use Rattle.std.specs.Prelude.{◌≡◌, ◌≢◌, ℕ, Bool, true, false, not, ◌==◌, if◌then◌else◌, Option, None, Some}
 use Rattle.std.specs.Prelude.{List, [], ◌∷◌, ◌++◌, codes, decimal, map}
-use Rattle.std.specs.List.{flat_map}
+use Rattle.std.specs.List.{flat_map, list_any}
 use Rattle.std.specs.Option.{option_map_or, IsSome}
 use Rattle.mud_words.specs.Parse.{parsed}
 use Rattle.mud_words.specs.Words.{is_blank}
@@ -24,12 +24,6 @@ TakesNone old new = new ≡ old
 -- a desk is shared where entries of others can be taken in
 abbrev pub IsShared : TakingIn → Type 0
 IsShared takes_in = (old : DeskState) × (new : DeskState) × takes_in old new × (new ≢ old)
-
--- where a session stands: how many entries the history can have, its desk, and whether it has ended
-pub record Talk : Type 0 where
-  pub capacity : ℕ
-  pub desk : DeskState
-  pub has_ended : Bool
 
 -- ---- what is said
 
@@ -128,25 +122,25 @@ pub record Turn : Type 0 where
   pub case : Case
   pub notices : List (List ℕ)
 
--- one turn; how many entries the history can have stays
-pub record Takes (takes_in : TakingIn) (old : Talk) (turn : Turn) (new : Talk) : Type 0 where
-  pub does : Does takes_in old.capacity old.desk turn.case turn.notices new.desk
-  pub capacity : new.capacity ≡ old.capacity
-  pub ended : new.has_ended ≡ is_last turn.case
+-- turns one after the other, none after the last; the history can have `capacity` entries
+abbrev pub Plays : TakingIn → ℕ → DeskState → List Turn → DeskState → Type 0
+Plays takes_in capacity old [] new = new ≡ old
+Plays takes_in capacity old (turn ∷ turns) new =
+    (mid : DeskState) × Does takes_in capacity old turn.case turn.notices mid × (is_last turn.case ≡ true → turns ≡ [])
+    × Plays takes_in capacity mid turns new
 
--- turns one after the other, none after the last reply
-abbrev pub Plays : TakingIn → Talk → List Turn → Talk → Type 0
-Plays takes_in old [] new = new ≡ old
-Plays takes_in old (turn ∷ turns) new =
-    (old.has_ended ≡ false) × (mid : Talk) × Takes takes_in old turn mid × Plays takes_in mid turns new
+-- one of these turns was the last
+abbrev pub is_over : List Turn → Bool
+is_over turns = list_any (λ turn. is_last turn.case) turns
 
 -- what is sent for these turns
 abbrev pub text_of : List Turn → List ℕ
 text_of turns = flat_map (λ turn. flat_map sent turn.notices ++ answer_to turn.case) turns
 
 -- what was played: the first of these units had their turns, and no other had one
-pub record Play (takes_in : TakingIn) (old : Talk) (units : List Given) (new : Talk) : Type 0 where
+pub record Play (takes_in : TakingIn) (capacity : ℕ) (old : DeskState) (units : List Given) (new : DeskState)
+    : Type 0 where
   pub turns : List Turn
   pub left : List Given
   pub units_are : map Some units ≡ map (λ turn. unit_of turn.case) turns ++ map Some left
-  pub plays : Plays takes_in old turns new
+  pub plays : Plays takes_in capacity old turns new

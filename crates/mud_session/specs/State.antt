@@ -2,7 +2,6 @@
 use Rattle.std.specs.Prelude.{ℕ, Bool, List}
 use Rattle.mud_nvt.specs.Machine.{Held}
 use Rattle.mud_hall.specs.Desk.{DeskState}
-use Rattle.mud_session.specs.Session.{Talk}
 
 -- its terminal, whether it has ended, and what is to be sent
 pub record State : Type 0 where
@@ -15,7 +14,3 @@ pub record DoorState : Type 0 where
   pub capacity : ℕ
   pub desk : DeskState
   pub untold : List (List ℕ)
-
--- where a session stands at this door
-abbrev pub talk_of : State → DoorState → Talk
-talk_of state door = record { capacity = door.capacity; desk = door.desk; has_ended = state.has_ended }

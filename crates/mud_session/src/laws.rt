@@ -1,18 +1,18 @@
 //! Laws of the definitions: each contract is a law, and its function does nothing.
 
 ghost use Rattle.mud_session.specs.Laws.{ScriptTextIsOne, IsToldOnce, all_calls, AreScript, NamesSeen};
-ghost use Rattle.mud_session.specs.Session.{Takes, Talk, Turn, Plays, TakesNone};
-ghost use Rattle.mud_hall.specs.Desk.{TakesIn};
-ghost use Rattle.mud_hall.specs.Steps.{PerformsAll};
+ghost use Rattle.mud_session.specs.Session.{Does, Turn, Plays, TakesNone};
+ghost use Rattle.mud_hall.specs.Desk.{DeskState, TakesIn};
+ghost use Rattle.mud_hall.specs.Steps.{PerformsAll, lone_desk};
 ghost use Rattle.std.specs.Prelude.{List, ℕ};
-ghost use Rattle.mud_session.specs.Script.{begins};
 ghost use Rattle.mud_session.specs.State.{DoorState, State};
 ghost use Rattle.mud_session.specs.Feeding.{Nudges, Feeds};
 
 /// In each turn at a desk of a hall what the desk had been told, and the notices of the others' entries that it came
 /// to see, are what was sent and what is left to be told, each once and in order.
 pub fn notices()
-    ensures { (old new : Talk) (turn : Turn) → Takes TakesIn old turn new → IsToldOnce old.desk turn.notices new.desk }
+    ensures { (capacity : ℕ) (old new : DeskState) (turn : Turn) → Does TakesIn capacity old turn.case turn.notices new
+        → IsToldOnce old turn.notices new }
 {}
 
 /// What a session at a desk of a hall sends names no version above the number of entries that the desk has seen by
@@ -33,12 +33,12 @@ pub fn one_script_text()
 /// The turns of a session at a desk of a hall are calls of that desk, of which the steps of the hall are made: so
 /// `mud_hall::laws::guide` speaks of all sessions. What a session sends is what its calls hand out and answer.
 pub fn turns()
-    ensures { (old new : Talk) (turns : List Turn) → Plays TakesIn old turns new
-        → PerformsAll old.capacity old.desk (all_calls turns) new.desk }
+    ensures { (capacity : ℕ) (old new : DeskState) (turns : List Turn) → Plays TakesIn capacity old turns new
+        → PerformsAll capacity old (all_calls turns) new }
 {}
 
 /// The turns of a script are a run of the hall of one caller: so `mud_hall::laws::guide` speaks of every script.
 pub fn runs()
-    ensures { (capacity : ℕ) (turns : List Turn) (new : Talk) → Plays TakesNone (begins capacity) turns new
-        → AreScript capacity turns new.desk }
+    ensures { (capacity : ℕ) (turns : List Turn) (new : DeskState) → Plays TakesNone capacity lone_desk turns new
+        → AreScript capacity turns new }
 {}

@@ -1,12 +1,12 @@
 //! A session over a reader and a writer.
 
-ghost use Rattle.std.specs.Prelude.{◌≡◌, ℕ, ◌≤◌, ◌⊎◌, [], true, false, List, OnOk, OnErr, IfOk, IfErr};
+ghost use Rattle.std.specs.Prelude.{◌≡◌, ℕ, ◌≤◌, ◌⊎◌, [], true, List, OnOk, OnErr, IfOk, IfErr};
 ghost use Rattle.mud_nvt.specs.History.{StandsAfter};
 ghost use Rattle.mud_ends.specs.Ends.{unread, unwritten};
 ghost use Rattle.mud_hall.specs.Alone.{alone};
+ghost use Rattle.mud_hall.specs.Steps.{lone_desk};
 ghost use Rattle.mud_session.specs.Session.{TakesNone};
-ghost use Rattle.mud_session.specs.State.{talk_of};
-ghost use Rattle.mud_session.specs.Script.{begins, IsWhole, IsFront, IsOpen};
+ghost use Rattle.mud_session.specs.Script.{IsWhole, IsFront, IsOpen};
 ghost use Rattle.mud_session.specs.inner.Serving.{Serves, ServesInPart};
 
 use crate::door::Door;
@@ -49,16 +49,16 @@ pub fn script<X: Threads + Wait + Sync, R: Read, W: Write>(
     requires fresh { source.old ≡ unread source.old.left }
     requires unwritten { sink.old ≡ unwritten sink.old.holds }
     requires capacity { capacity ≤ 65536 }
-    ensures ok { OnOk result (IsWhole TakesNone (begins capacity) source.old source.new sink.old sink.new) }
-    ensures fault { OnErr result (IsFront TakesNone (begins capacity) source.old source.new sink.old sink.new) }
+    ensures ok { OnOk result (IsWhole TakesNone capacity lone_desk source.old source.new sink.old sink.new) }
+    ensures fault { OnErr result (IsFront TakesNone capacity lone_desk source.old source.new sink.old sink.new) }
     ensures reads { source.new.reads ≤ MAX_READS }
     ensures read { result ≡ Err ScriptFault.Read → source.new.has_failed ≡ true }
     ensures write { result ≡ Err ScriptFault.Write → sink.new.has_failed ≡ true }
     ensures many { result ≡ Err ScriptFault.TooManyReads → source.new.reads ≡ MAX_READS }
     ensures open { result ≡ Err ScriptFault.TooManyReads
-        → IsOpen TakesNone (begins capacity) source.old source.new sink.old sink.new }
+        → IsOpen TakesNone capacity lone_desk source.old source.new sink.old sink.new }
 {
-    let mut solo = match lone_desk(alloc, capacity, workers) {
+    let mut solo = match own_desk(alloc, capacity, workers) {
         Ok(solo) => solo,
         Err(_) => return Err(ScriptFault::OutOfMemory),
     };
@@ -70,7 +70,7 @@ pub fn script<X: Threads + Wait + Sync, R: Read, W: Write>(
 }
 
 // A desk of its own, at which `workers` threads search.
-fn lone_desk(alloc: Global, capacity: u32, workers: u32) -> Result<Solo, AllocError>
+fn own_desk(alloc: Global, capacity: u32, workers: u32) -> Result<Solo, AllocError>
     requires { capacity ≤ 65536 }
     ensures { IfOk result (λ solo. solo ≡ alone capacity 1 []) }
 {
@@ -88,19 +88,19 @@ fn converse<X: Threads + Wait + Sync, D: Door, R: Read, W: Write>(
     sink: &mut Sink<W>,
 ) -> Result<(), ScriptFault>
     requires terminal { StandsAfter session.old.terminal [] }
-    requires goes_on { session.old.has_ended ≡ false }
     requires sent { session.old.out ≡ [] }
     requires fresh { source.old ≡ unread source.old.left }
-    ensures ok { OnOk result (IsWhole D.takes_in (talk_of session.old (D.state door.old))
+    ensures ok { OnOk result (IsWhole D.takes_in (D.state door.old).capacity (D.state door.old).desk
         source.old source.new sink.old sink.new) }
-    ensures fault { OnErr result (IsFront D.takes_in (talk_of session.old (D.state door.old))
+    ensures fault { OnErr result (IsFront D.takes_in (D.state door.old).capacity (D.state door.old).desk
         source.old source.new sink.old sink.new) }
     ensures reads { source.new.reads ≤ MAX_READS }
     ensures read { result ≡ Err ScriptFault.Read → source.new.has_failed ≡ true }
     ensures write { result ≡ Err ScriptFault.Write → sink.new.has_failed ≡ true }
     ensures many { result ≡ Err ScriptFault.TooManyReads → source.new.reads ≡ MAX_READS }
     ensures open { result ≡ Err ScriptFault.TooManyReads
-        → IsOpen D.takes_in (talk_of session.old (D.state door.old)) source.old source.new sink.old sink.new }
+        → IsOpen D.takes_in (D.state door.old).capacity (D.state door.old).desk
+        source.old source.new sink.old sink.new }
 {
     let mut buffer = [0u8; BUFFER_LEN];
     for _reads in 0..MAX_READS {
@@ -132,7 +132,7 @@ fn serve<X: Threads + Wait + Sync, D: Door, W: Write>(
         → Serves D.takes_in earlier bytes.now session.old session.new (D.state door.old) (D.state door.new)
         sink.old.holds sink.new.holds) }
     ensures fault { OnErr result ((earlier : List ℕ) → StandsAfter session.old.terminal earlier
-        → ServesInPart D.takes_in earlier bytes.now session.old (D.state door.old) sink.old.holds sink.new.holds) }
+        → ServesInPart D.takes_in earlier bytes.now (D.state door.old) sink.old.holds sink.new.holds) }
     ensures cause { IfErr result (λ fault. (fault ≡ ScriptFault.OutOfMemory)
         ⊎ ((fault ≡ ScriptFault.Write) × (sink.new.has_failed ≡ true))) }
 {

@@ -6,8 +6,8 @@ use Rattle.mud_nvt.specs.Units.{Given}
 use Rattle.mud_hall.specs.declared.fault.Fault.TheVariants.{DesksFull}
 use Rattle.mud_hall.specs.Desk.{DeskState, HandsOut}
 use Rattle.mud_hall.specs.Replies.{Reply, Question, Failed}
-use Rattle.mud_session.specs.State.{State, DoorState, talk_of}
-use Rattle.mud_session.specs.Session.{TakingIn, Turn, Takes, unit_of, answer_to, reply_line, sent}
+use Rattle.mud_session.specs.State.{State, DoorState}
+use Rattle.mud_session.specs.Session.{TakingIn, Turn, Does, unit_of, answer_to, is_last, reply_line, sent}
 
 -- the session with more to be sent
 abbrev pub sends : State → List ℕ → State
@@ -34,6 +34,7 @@ pub record HasTurn (takes_in : TakingIn) (unit : Given) (old new : State) (old_d
     : Type 0 where
   pub turn : Turn
   pub of : unit_of turn.case ≡ Some unit
-  pub takes : Takes takes_in (talk_of old old_door) turn (talk_of new new_door)
+  pub does : Does takes_in old_door.capacity old_door.desk turn.case turn.notices new_door.desk
+  pub ended : new.has_ended ≡ is_last turn.case
   pub terminal : new.terminal ≡ old.terminal
   pub out : new.out ≡ old.out ++ (flat_map sent turn.notices ++ answer_to turn.case)

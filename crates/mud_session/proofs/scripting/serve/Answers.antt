@@ -4,7 +4,7 @@ use Rattle.mud_session.proofs.scripting.serve.Goals as goal
 
 pub returns-in-Err-clause-fault : goal.returns-in-Err-clause-fault
 returns-in-Err-clause-fault g c = λ earlier stands. none_served g.D.Door.takes_in earlier c.args.bytes.now
-    c.args.session.now (g.D.Door.state c.args.door.now) c.args.sink.now.holds
+    (g.D.Door.state c.args.door.now) c.args.sink.now.holds
 
 pub returns-then-write_all-clause-ok : goal.returns-then-write_all-clause-ok
 returns-then-write_all-clause-ok g c = λ earlier stands.
@@ -12,7 +12,7 @@ returns-then-write_all-clause-ok g c = λ earlier stands.
     (g.D.Door.state c.args.door.now) (g.D.Door.state c.feed.new.door) _ _ c.as_slice.result.now c.requires.sent
     (c.in-Ok.ensures.ok earlier stands)
     (c.as_slice.ensures.value ∙ c.take_out-text.ensures.text) c.take_out-text.ensures.rest
-    (c.write_all.ensures.whole c.if-write_all.true)
+    c.feed.ensures.capacity (c.write_all.ensures.whole c.if-write_all.true)
 
 pub returns-clause-fault : goal.returns-clause-fault
 returns-clause-fault g c = λ earlier stands.

@@ -1,4 +1,3 @@
-use Rattle.std.proofs.Common.{◌∙◌}
 use Rattle.mud_words.specs.Line.{line_of}
 use Rattle.mud_hall.specs.Replies.{shown}
 use Rattle.mud_session.proofs.Answering.{on_ok, sayable, acted}
@@ -17,6 +16,6 @@ returns-clause-turn g c =
     (λ said text heard read. acted g.D.Door.takes_in text (line_of c.args.line.now) c.args.self.now c.tell.new.self
     c.say.new.self (state c.args.door.now) (state c.act-reply.new.self) (state c.tell.new.door) reply
     c.requires.goes_on heard read c.requires.acts did.replies did.stored did.told c.tell.ensures.rest
-    (c.tell.ensures.capacity ∙ did.capacity) c.in_ok-tell.ensures.told
+    c.in_ok-tell.ensures.told
     (sayable c.questions.ensures _ did.replies.0 (line_of c.args.line.now) reply _ c.requires.acts did.replies.2) said)
     c.say.ensures

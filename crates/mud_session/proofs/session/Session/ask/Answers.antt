@@ -12,7 +12,7 @@ returns-then-not-branch-clause-turn g c =
     let looked = c.in_ok-look.ensures.looked c.requires.goes_on in
     on_ok c.send.result
     (λ said text heard read. unanswered g.D.Door.takes_in text c.args.self.now c.look.new.self c.send.new.self
-    (state c.args.door.now) (state c.look.new.door) (state c.look.new.door) heard looked refl refl said) c.send.ensures
+    (state c.args.door.now) (state c.look.new.door) (state c.look.new.door) heard looked refl said) c.send.ensures
 
 pub returns-in-Err-clause-turn : goal.returns-in-Err-clause-turn
 returns-in-Err-clause-turn g c =
@@ -21,7 +21,7 @@ returns-in-Err-clause-turn g c =
     on_ok c.send-in-Err.result
     (λ said text heard read. unanswered g.D.Door.takes_in text c.args.self.now c.look.new.self c.send-in-Err.new.self
     (state c.args.door.now) (state c.look.new.door) (state c.ask.new.self) heard looked c.ask.ensures.same
-    c.ask.ensures.capacity said) c.send-in-Err.ensures
+    said) c.send-in-Err.ensures
 
 pub returns-in_ok-send_answer-in-Ok-clause-turn : goal.returns-in_ok-send_answer-in-Ok-clause-turn
 returns-in_ok-send_answer-in-Ok-clause-turn g c = λ text heard read.
@@ -33,6 +33,6 @@ returns-in_ok-send_answer-in-Ok-clause-turn g c = λ text heard read.
     (state c.args.door.now) (state c.look.new.door) (state c.ask.new.self)
     c.is_quit-self-inside.result
     (answered c.in-Ok.answer) heard read c.requires.question c.is_quit-self-inside.ensures
-    (look.looked c.requires.goes_on) (look.all c.if-not-branch.false) c.ask.ensures.same c.ask.ensures.capacity
+    (look.looked c.requires.goes_on) (look.all c.if-not-branch.false) c.ask.ensures.same
     c.in-Ok.ensures.answers
     (elim c.match-answer-2.branch [ in-Some-2 w ↦ w.self-is ∙ said | in-None-2 w ↦ w.self-is ∙ said ])

@@ -8,4 +8,4 @@ returns-clause-turn g c =
     let looked = c.in_ok-look.ensures.looked c.requires in
     on_ok c.send.result
     (λ said line heard. unanswered g.D.Door.takes_in line c.args.self.now c.look.new.self c.send.new.self
-    (state c.args.door.now) (state c.look.new.door) (state c.look.new.door) heard looked refl refl said) c.send.ensures
+    (state c.args.door.now) (state c.look.new.door) (state c.look.new.door) heard looked refl said) c.send.ensures

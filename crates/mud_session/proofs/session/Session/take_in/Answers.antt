@@ -1,4 +1,4 @@
-use Rattle.std.proofs.Common.{◌++◌, arith, refl, sym, ap, subst, ◌∙◌}
+use Rattle.std.proofs.Common.{◌++◌, arith, sym, ap, subst, ◌∙◌}
 use Rattle.std.proofs.lemmas.List.{take_all}
 use Rattle.mud_nvt.specs.Shown.{all_shown}
 use Rattle.mud_nvt.specs.History.{StandsAfter}
@@ -7,16 +7,14 @@ use Rattle.mud_session.proofs.Taking.{SoFar-none, SoFar-more, Feeds-from}
 use Rattle.mud_session.proofs.session.Session.take_in.Goals as goal
 
 pub loop-unit-init : goal.loop-unit-init
-loop-unit-init g c = record { so_far = SoFar-none g.D.Door.takes_in _ _; capacity = refl }
+loop-unit-init g c =
+    SoFar-none g.D.Door.takes_in _ _ (ap (λ (s : State). s.has_ended) c.self.view_is ∙ c.requires)
 
 pub loop-unit-preserved : goal.loop-unit-preserved
 loop-unit-preserved g c =
-    record {
-      so_far = SoFar-more g.D.Door.takes_in c.deref-unit-items.result.now c.loop-unit.unit-index c.unit-item.result
-          _ _ _ _ _ _ (omega arith) c.unit-item.is c.loop-unit.invariant.so_far
-          c.answer.ensures.over c.in_ok-answer.ensures.turn;
-      capacity = c.answer.ensures.capacity ∙ c.loop-unit.invariant.capacity;
-    }
+    SoFar-more g.D.Door.takes_in c.deref-unit-items.result.now c.loop-unit.unit-index c.unit-item.result
+    _ _ _ _ _ _ (omega arith) c.unit-item.is c.loop-unit.invariant c.answer.ensures.capacity
+    c.answer.ensures.over c.in_ok-answer.ensures.turn
 
 pub returns-clause-feeds : goal.returns-clause-feeds
 returns-clause-feeds g c = λ earlier stands.
@@ -30,5 +28,5 @@ returns-clause-feeds g c = λ earlier stands.
     (ap all_shown (take_all c.loop-unit.unit-index c.deref-unit-items.result.now (omega arith)
     ∙ c.deref-unit-items.ensures.value) ∙ grows.1
     ∙ ap (λ l. all_shown l ++ grows.0) c.new-units.ensures.items)
-    (ap (λ (s : State). s.has_ended) c.self.view_is)
-    (ap (λ (s : State). s.out) c.self.view_is) c.loop-unit.invariant.so_far
+    c.requires
+    (ap (λ (s : State). s.out) c.self.view_is) c.loop-unit.invariant

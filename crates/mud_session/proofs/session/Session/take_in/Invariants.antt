@@ -1,12 +1,10 @@
-use Rattle.std.proofs.Common.{◌≡◌, take}
+use Rattle.std.proofs.Common.{take}
 use Rattle.mud_nvt.specs.Shown.{all_shown}
 use Rattle.mud_session.proofs.Taking.{SoFar}
 use Rattle.mud_session.proofs.session.Session.take_in.Given as goal
 
 -- the units gone over had their turns
 abbrev pub invariant-loop-unit : goal.invariant-loop-unit
-invariant-loop-unit g l = record {
-  so_far : SoFar g.D.Door.takes_in (all_shown (take l.unit-index l.unit-items)) l.initial.self l.self
-      (g.D.Door.state l.initial.door) (g.D.Door.state l.door);
-  capacity : (g.D.Door.state l.door).capacity ≡ (g.D.Door.state l.initial.door).capacity;
-}
+invariant-loop-unit g l =
+    SoFar g.D.Door.takes_in (all_shown (take l.unit-index l.unit-items)) l.initial.self l.self
+    (g.D.Door.state l.initial.door) (g.D.Door.state l.door)

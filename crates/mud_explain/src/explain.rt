@@ -14,7 +14,7 @@ use std::io::{ErrorKind, Read, Write};
 use thiserror::Error;
 
 /// Why an input was not explained.
-#[derive(Clone, Copy, Debug, PartialEq, Eq, Error)]
+#[derive(Clone, Copy, Debug, Error)]
 pub enum ExplainFault {
     /// Memory ran out.
     #[error("out of memory")]

@@ -17,6 +17,25 @@ use std::marker::Brand;
 use std::rt::Files;
 use std::sync::Wait;
 
+// Plays the lines of an input, and appends what is told of each.
+fn play_all<J: HallName, R: Wait>(
+    play: &mut Play<J>,
+    rt: &R,
+    input: &[u8],
+    out: &mut String,
+) -> Result<(), AllocError> {
+    let mut rest = input;
+    while let Some(at) = memchr(b'\n', rest) {
+        let (line, ended) = rest.split_at(at);
+        play.play_line(rt, line, out)?;
+        rest = &ended[1..];
+    }
+    if rest.is_empty() {
+        return Ok(());
+    }
+    play.play_line(rt, rest, out)
+}
+
 // What is told of the lines of an input, which are steps of the desks of this hall.
 fn told_in<J: HallName, R: Wait>(
     rt: &R,
@@ -29,22 +48,32 @@ fn told_in<J: HallName, R: Wait>(
 {
     let mut play = Play::<J>::new(alloc, hall);
     let mut out = String::new(alloc);
-    let mut rest = input;
-    while let Some(at) = memchr(b'\n', rest) {
-        let (line, ended) = rest.split_at(at);
-        play.play_line(rt, line, &mut out)?;
-        rest = &ended[1..];
-    }
-    if rest.is_empty() {
-        return Ok(out);
-    }
-    play.play_line(rt, rest, &mut out)?;
+    play_all(&mut play, rt, input, &mut out)?;
     Ok(out)
 }
 
 // The same in a hall that has no name yet.
 fn told<R: Wait>(rt: &R, alloc: Global, hall: NewHall, input: &[u8]) -> Result<String, AllocError> {
     told_in::<Brand, R>(rt, alloc, hall, input)
+}
+
+// The same of all that the source has left.
+fn told_input<R: Wait, S: Read>(
+    rt: &R,
+    alloc: Global,
+    hall: NewHall,
+    source: &mut Source<S>,
+) -> Result<String, ExplainFault>
+    requires no_end { source.old.at_end ≡ false }
+    ensures end { OnOk result (IsAtEnd source.new.left) }
+    ensures read { result ≡ Err ExplainFault.Read → source.new.has_failed ≡ true }
+    ensures not_write { ¬ (result ≡ Err ExplainFault.Write) }
+{
+    let input = input_of(alloc, source)?;
+    match told(rt, alloc, hall, &input) {
+        Ok(out) => Ok(out),
+        Err(_) => Err(ExplainFault::OutOfMemory),
+    }
 }
 
 /// Opens the hall, reads to the source's end, and writes what is told of each line, a step of a desk
@@ -70,11 +99,7 @@ pub(crate) fn explain_hall<H: Wait + Files + AllocGlobal, R: Read, W: Write>(
         Err(Unloaded::OutOfMemory) => return Err(ExplainFault::OutOfMemory),
         Err(fault) => return Err(ExplainFault::Unloaded(fault)),
     };
-    let input = input_of(rt.alloc(), source)?;
-    let out = match told(rt, rt.alloc(), hall, &input) {
-        Ok(out) => out,
-        Err(_) => return Err(ExplainFault::OutOfMemory),
-    };
+    let out = told_input(rt, rt.alloc(), hall, source)?;
     if sink.write_all(out.as_bytes()) {
         Ok(())
     } else {

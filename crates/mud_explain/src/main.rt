@@ -5,6 +5,8 @@
 //! lines that are steps of the desks of one hall. docs/EXPLAIN.md has the answers.
 #![tactic(auto)]
 
+ghost use Rattle.std.specs.Prelude.{◌≤◌};
+
 mod explain;
 mod grouped;
 mod hall;
@@ -18,7 +20,7 @@ mod units;
 
 use crate::explain::{ExplainFault, explain};
 use crate::hall::explain_hall;
-use mud_command::{CommandFault, Task, show, task_of, words_of};
+use mud_command::{CommandFault, Opening, Subject, Task, show, task_of, words_of};
 use mud_ends::{Sink, Source};
 use std::io::{self, Eprint};
 use std::process::ExitCode;
@@ -38,16 +40,34 @@ fn run<R: Runtime + AllocGlobal + Wait>(rt: &R, words: &[String]) -> ExitCode {
         Ok(task) => task,
         Err(fault) => return unasked(rt, fault),
     };
-    let mut source = Source::new(rt.reader());
-    let mut sink = Sink::new(io::writer(rt));
     let ended = match task {
-        Task::Text(subject) => explain(rt.alloc(), subject, &mut source, &mut sink),
-        Task::Hall(opening) => explain_hall(rt, opening, &mut source, &mut sink),
+        Task::Text(subject) => run_text(rt, subject),
+        Task::Hall(opening) => run_hall(rt, opening),
     };
     match ended {
         Ok(()) => ExitCode::SUCCESS,
         Err(fault) => stopped(rt, fault),
     }
+}
+
+// Explains standard input.
+fn run_text<R: Runtime + AllocGlobal>(rt: &R, subject: Subject) -> Result<(), ExplainFault> {
+    let mut source = Source::new(rt.reader());
+    let mut sink = Sink::new(io::writer(rt));
+    explain(rt.alloc(), subject, &mut source, &mut sink)
+}
+
+// Plays standard input in a hall.
+fn run_hall<R: Runtime + AllocGlobal + Wait>(
+    rt: &R,
+    opening: Opening<'_>,
+) -> Result<(), ExplainFault>
+    requires from { 1 ≤ opening.capacity }
+    requires to { opening.capacity ≤ 65536 }
+{
+    let mut source = Source::new(rt.reader());
+    let mut sink = Sink::new(io::writer(rt));
+    explain_hall(rt, opening, &mut source, &mut sink)
 }
 
 // Says why the words ask for nothing, and answers the status.

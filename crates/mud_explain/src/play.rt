@@ -116,14 +116,13 @@ impl<J: HallName> Play<J> {
         if self.hall.is_none() {
             return not_understood(out);
         }
-        let Some(at) = place_of(&self.desks, number) else {
-            return not_understood(out);
-        };
-        let Some(from) = place_of(&self.desks, other) else {
-            return not_understood(out);
-        };
-        learn_at(self.desks.as_mut_slice(), at, from);
-        push_seen(out, self.desks[at].seen())
+        match (place_of(&self.desks, number), place_of(&self.desks, other)) {
+            (Some(at), Some(from)) => {
+                learn_at(self.desks.as_mut_slice(), at, from);
+                push_seen(out, self.desks[at].seen())
+            }
+            _ => not_understood(out),
+        }
     }
 
     // The desks of these numbers are handed in.

@@ -21,11 +21,11 @@ use Rattle.mud_world.specs.inner.Parts.{AreDoors, AreBackNames}
 use Rattle.mud_chron.specs.Text.{quoted, listed, target_text, deed_text, entry_line}
 use Rattle.mud_chron.specs.inner.Texts.{back_text, doors_text, change_text}
 use Rattle.mud_chron.specs.inner.Fields.{object_in}
-use Rattle.mud_chron.proofs.Reader.{◌>>=◌, cut, object_before, number_up_to, number_key_in}
-use Rattle.mud_chron.proofs.Reader.{names_before, quoted_in, back_in, doors_behind, doors_in, new_in, way_to, old_in}
-use Rattle.mud_chron.proofs.Reader.{dig_in, make_in, player_in, lock_in, unlock_in, move_in, walk_in, cost_in}
-use Rattle.mud_chron.proofs.Reader.{rename_in, recycle_in, say_in, emote_in, deed_in, verb_in, change_in, desk_in}
-use Rattle.mud_chron.proofs.Reader.{entry_in}
+use Rattle.mud_chron.specs.inner.Reader.{◌>>=◌, cut, object_before, number_up_to, number_key_in}
+use Rattle.mud_chron.specs.inner.Reader.{names_before, quoted_in, back_in, doors_in, new_in, way_to, old_in}
+use Rattle.mud_chron.specs.inner.Reader.{dig_in, make_in, player_in, lock_in, unlock_in, move_in, walk_in, cost_in}
+use Rattle.mud_chron.specs.inner.Reader.{rename_in, recycle_in, say_in, emote_in, deed_in, verb_in, change_in, desk_in}
+use Rattle.mud_chron.specs.inner.Reader.{entry_in}
 use Rattle.mud_chron.proofs.Cutting.{lacks, cut_again}
 use Rattle.mud_chron.proofs.Digits.{decimal_lacks, number_again, object_again, object_before_again}
 use Rattle.mud_chron.proofs.Spelled.{plain, both, plain_decimal, plain_names, plain_quoted, names_before_again}
@@ -35,16 +35,17 @@ use Rattle.mud_chron.proofs.Spelled.{plain_speech}
 -- ---- the exits of a dig
 
 back_again : (back : Option (List (List ℕ))) → AreBackNames back → back_in (back_text back) ≡ Some back
-unfolding back_in
+unfolding back_in quoted_in
 back_again None h = refl
 back_again (Some names) h =
     ap (λ (o : Option (List (List ℕ) × List ℕ)). o >>= (λ names. Some (Some names.0)))
     (ap names_before (sym (append-nil (listed names ++ codes "\""))) ∙ names_before_again names [] h)
 
 -- after the first quote stand the names of the exit, and then the exit back
-behind_again : (front : List ℕ) (doors : Doors) → AreDoors (Some doors)
-    → doors_behind (Some (front, (listed doors.out ++ codes "\"") ++ back_text doors.back)) ≡ Some (Some doors)
-behind_again front doors h =
+behind_again : (doors : Doors) → AreDoors (Some doors)
+    → (names_before ((listed doors.out ++ codes "\"") ++ back_text doors.back) >>=
+    (λ out. back_in out.1 >>= (λ back. Some (Some (record { out = out.0; back = back }))))) ≡ Some (Some doors)
+behind_again doors h =
     ap (λ (o : Option (List (List ℕ) × List ℕ)). o >>=
     (λ out. back_in out.1 >>= (λ back. Some (Some (record { out = out.0; back = back })))))
     (names_before_again doors.out (back_text doors.back) h.0)
@@ -52,15 +53,15 @@ behind_again front doors h =
     (λ back. Some (Some (record { out = doors.out; back = back })))) (back_again doors.back h.1)
 
 doors_again : (doors : Option Doors) → AreDoors doors → doors_in (doors_text doors) ≡ Some doors
-unfolding doors_in
+unfolding doors_in quoted_in
 doors_again None h = refl
-doors_again (Some doors) h = behind_again (codes " out ") doors h
+doors_again (Some doors) h = behind_again doors h
 
 -- the exits without the space in front
 way_again : (doors : Doors) → AreDoors (Some doors)
     → doors_in (codes "out " ++ quoted doors.out ++ back_text doors.back) ≡ Some (Some doors)
-unfolding doors_in
-way_again doors h = behind_again (codes "out ") doors h
+unfolding doors_in quoted_in
+way_again doors h = behind_again doors h
 
 dig_again : (target : Target) (doors : Option Doors) → IsInRange (Dig target doors) → HasParts (Dig target doors)
     → dig_in (target_text target ++ doors_text doors) ≡ Some (Dig target doors)

@@ -1,13 +1,12 @@
 -- What stands in front of the first such byte, and what stands after it.
 use Rattle.std.proofs.Common.{◌≡◌, ◌≢◌, ℕ, suc, ◌+◌, ◌<◌, Bool, true, false, ◌⊎◌, inl, inr, List, [], ◌∷◌, ◌++◌, length}
-use Rattle.std.proofs.Common.{take, drop, Option, Some, None, refl, sym, ◌∙◌, ap, arith, eqb}
+use Rattle.std.proofs.Common.{take, drop, Some, None, refl, sym, ◌∙◌, ap, arith, eqb}
 use Rattle.std.proofs.lemmas.Bool.{cases_Bool, ne_eqb, and_parts, and_from, true≢false}
 use Rattle.std.proofs.lemmas.Bool.Decides.{Decides-eqb}
 use Rattle.std.specs.Prelude.{not}
 use Rattle.std.specs.List.{AllByRecursion, list_all, position_or_len, before_first, after_first}
 use Rattle.std.specs.Option.{option_map}
-use Rattle.mud_chron.specs.inner.Fields.{Lacks}
-use Rattle.mud_chron.proofs.Reader.{cut}
+use Rattle.mud_chron.specs.inner.Reader.{cut}
 
 eqb-refl : (c : ℕ) → eqb c c ≡ true
 eqb-refl c = (Decides-eqb c c).1 refl
@@ -20,7 +19,7 @@ abbrev place : ℕ → List ℕ → ℕ
 place c bs = position_or_len (λ b. eqb b c) bs
 
 -- it is found
-cut_found : (c : ℕ) (bs : List ℕ) → place c bs < length bs
+pub cut_found : (c : ℕ) (bs : List ℕ) → place c bs < length bs
     → cut c bs ≡ Some (before_first (λ b. eqb b c) bs, after_first (λ b. eqb b c) bs)
 cut_found c [] h = absurd (omega arith)
 cut_found c (b ∷ bs) h = go (cut_found c bs) (cases_Bool (eqb b c))
@@ -38,7 +37,7 @@ cut_found c (b ∷ bs) h = go (cut_found c bs) (cases_Bool (eqb b c))
         ∙ ap (λ n. Some (take (1 + place c bs) (b ∷ bs), drop n (b ∷ bs))) (sym two))
 
 -- it is not there
-cut_none : (c : ℕ) (bs : List ℕ) → place c bs ≡ length bs → cut c bs ≡ None
+pub cut_none : (c : ℕ) (bs : List ℕ) → place c bs ≡ length bs → cut c bs ≡ None
 cut_none c [] h = refl
 cut_none c (b ∷ bs) h = go (cut_none c bs) (cases_Bool (eqb b c))
   where
@@ -89,27 +88,3 @@ cut_lacks c (b ∷ text) h =
     let p = and_parts (not (eqb b c)) (lacks c text) h in
     let apart : eqb b c ≡ false = not_true (eqb b c) p.0 in
     rw apart (ap (option_map (λ (p : List ℕ × List ℕ). (b ∷ p.0, p.1))) (cut_lacks c text p.1))
-
--- what is found is found once
-one_found : (o : Option (List ℕ × List ℕ)) (a b x y : List ℕ) → o ≡ Some (a, x) → o ≡ Some (b, y) → (a ≡ b) × (x ≡ y)
-one_found o a b x y h k =
-    let both : ◌≡◌ {A = Option (List ℕ × List ℕ)} (Some (a, x)) (Some (b, y)) = sym h ∙ k in
-    let pair : ◌≡◌ {A = List ℕ × List ℕ} (a, x) (b, y) = cc in
-    (ap (λ (p : List ℕ × List ℕ). p.0) pair, ap (λ (p : List ℕ × List ℕ). p.1) pair)
-
--- what stands round the first such byte is what was found
-pub parts_found : (c : ℕ) (text front rest : List ℕ) → Lacks c front → text ≡ front ++ c ∷ rest
-    → place c text < length text
-    → (before_first (λ b. eqb b c) text ≡ front) × (after_first (λ b. eqb b c) text ≡ rest)
-parts_found c text front rest h is here =
-    one_found (cut c text) (before_first (λ b. eqb b c) text) front (after_first (λ b. eqb b c) text) rest
-    (cut_found c text here)
-    (ap (cut c) is ∙ cut_again c front rest (lacks_from c front h))
-
--- it is there
-pub not_lost : (c : ℕ) (text front rest : List ℕ) → Lacks c front → text ≡ front ++ c ∷ rest
-    → place c text ≡ length text → ⊥
-not_lost c text front rest h is gone =
-    let bad : ◌≡◌ {A = Option (List ℕ × List ℕ)} None (Some (front, rest)) =
-    sym (cut_none c text gone) ∙ ap (cut c) is ∙ cut_again c front rest (lacks_from c front h) in
-    cc

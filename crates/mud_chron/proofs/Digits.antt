@@ -12,7 +12,7 @@ use Rattle.std.proofs.lemmas.Bool.{cond-true, and_from, and_parts, le-leb, leb-t
 use Rattle.mud_key.specs.Printed.{number_text}
 use Rattle.mud_chron.specs.declared.fields.Unread.{Unread}
 use Rattle.mud_chron.specs.inner.Fields.{is_digit, digits_on, up_to, object_in, Gives, Finds}
-use Rattle.mud_chron.proofs.Reader.{◌>>=◌, object_before}
+use Rattle.mud_chron.specs.inner.Reader.{◌>>=◌, object_before}
 use Rattle.mud_chron.proofs.Cutting.{lacks, cut_again, implied}
 
 step : (n b : ℕ) (bs : List ℕ) → is_digit b ≡ true → n < 100000000

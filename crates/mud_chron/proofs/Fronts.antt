@@ -18,7 +18,7 @@ use Rattle.mud_chron.specs.History.{IsEntryOf, AreEntriesOf}
 use Rattle.mud_chron.specs.Faults.{HasNoLineFeed, IsNoHistory, Begins, IsNoEntryLine}
 use Rattle.mud_chron.specs.Fronts.{BeginsHead, EndsInHead, EndsInLine, Recovers, HasOtherLine}
 use Rattle.mud_chron.specs.Laws.{AreWhole, FaultsAreNoFronts, NothingIsLost}
-use Rattle.mud_chron.proofs.Reader.{entry_in}
+use Rattle.mud_chron.specs.inner.Reader.{entry_in}
 use Rattle.mud_chron.proofs.Cutting.{lacks_all}
 use Rattle.mud_chron.proofs.Again.{entry_again}
 use Rattle.mud_chron.proofs.Telling.{entry_lacks, end_apart}

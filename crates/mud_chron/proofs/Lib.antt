@@ -1,11 +1,9 @@
 mod Grown
-mod Reader
 mod Cutting
 pub mod Lined
 mod Digits
 mod Spelled
 mod Again
-mod Found
 mod Lines
 mod Telling
 mod Begun

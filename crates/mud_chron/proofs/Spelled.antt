@@ -1,5 +1,5 @@
 -- The parts of a line: their bytes, and that each is found again.
-use Rattle.std.proofs.Common.{◌≡◌, ℕ, ◌+◌, ◌<◌, ◌≤◌, Bool, true, List, [], ◌∷◌, ◌++◌, length, Option, Some, None}
+use Rattle.std.proofs.Common.{◌≡◌, ℕ, ◌<◌, ◌≤◌, Bool, true, List, [], ◌∷◌, ◌++◌, length, Option, Some, None}
 use Rattle.std.proofs.Common.{Ok, refl, sym, ◌∙◌, ap, subst, arith, eqb, leb, ltb, cond, append_assoc}
 use Rattle.std.proofs.Common.{codes}
 use Rattle.std.specs.Prelude.{not, ◌&&◌, ◌^◌}
@@ -17,7 +17,6 @@ use Rattle.mud_key.specs.Tree.{Tree, Has, Asks, Not, Join, objects_of, nots_of, 
 use Rattle.mud_key.specs.KeyText.{sign, SpellsKey}
 use Rattle.mud_key.specs.Printed.{number_text, by_text, enclosed, printed}
 use Rattle.mud_key.specs.Namer.{resolved}
-use Rattle.mud_key.specs.declared.namer.Miss.{Miss}
 use Rattle.mud_key.specs.declared.namer.Miss.TheVariants.{NoSuch}
 use Rattle.std.specs.Option.{ok_or}
 use Rattle.mud_key.specs.declared.operator.Operator.{Operator}
@@ -29,8 +28,8 @@ use Rattle.mud_world.specs.Speech.{is_trimmed, is_speech}
 use Rattle.mud_world.specs.inner.Parts.{is_printable}
 use Rattle.mud_chron.specs.Text.{listed, quoted}
 use Rattle.mud_chron.specs.inner.Fields.{Lacks, is_digit}
-use Rattle.mud_chron.proofs.Reader.{◌>>=◌, cut, without_miss, number_key_in, speech_in, meaning, names_before}
-use Rattle.mud_chron.proofs.Reader.{quoted_in, quoted_name_in}
+use Rattle.mud_chron.specs.inner.Reader.{◌>>=◌, cut, without_miss, number_key_in, speech_in, meaning, names_before}
+use Rattle.mud_chron.specs.inner.Reader.{quoted_in, quoted_name_in}
 use Rattle.mud_chron.proofs.Cutting.{lacks, lacks_all, cut_again, implied, tested}
 use Rattle.mud_chron.proofs.Digits.{digits, object_again}
 

@@ -23,7 +23,7 @@ use Rattle.mud_chron.specs.History.{HasLine, IsEntryOf, AreEntriesOf, SpellsHist
 use Rattle.mud_chron.specs.Faults.{IsNoHistory, Begins, HasFault}
 use Rattle.mud_chron.specs.Laws.{SpellsOne, HasOneFault, FaultsAreNoTexts, IsWrittenAgain}
 use Rattle.mud_chron.specs.inner.Fields.{is_digit}
-use Rattle.mud_chron.proofs.Reader.{cut, entry_in}
+use Rattle.mud_chron.specs.inner.Reader.{cut, entry_in}
 use Rattle.mud_chron.proofs.Cutting.{lacks, cut_again, cut_lacks, lacks_from, implied}
 use Rattle.mud_chron.proofs.Digits.{digits, decimal_lacks}
 use Rattle.mud_chron.proofs.Spelled.{plain}

@@ -10,7 +10,9 @@ ghost use Rattle.mud_key.specs.Printed.{number_text, by_text, printed};
 ghost use Rattle.mud_world.specs.Speech.{is_speech};
 ghost use Rattle.mud_chron.specs.Entry.{IsNumber};
 ghost use Rattle.mud_chron.specs.Text.{listed};
-ghost use Rattle.mud_chron.specs.inner.Fields.{Finds, Gives, Lacks, digits_on, up_to, object_in};
+ghost use Rattle.mud_chron.specs.inner.Fields.{Gives, digits_on, object_in};
+ghost use Rattle.mud_key.specs.Reading.{names_in, name_in};
+ghost use Rattle.mud_chron.specs.inner.Reader.{Tells, cut, number_up_to, object_before, speech_in, number_key_in};
 
 use mud_key::{Key, KeyFault, Miss, Name, Namer, Names, NamesFault, read, resolve};
 use mud_world::{LAST_NUMBER, Speech};
@@ -42,8 +44,7 @@ impl From<AllocError> for Unread {
 // What stands before the first such sign, and what stands after it.
 pub(crate) fn cut(text: &str, sign: char) -> Result<(&str, &str), Unread>
     requires { sign < 128 }
-    ensures { (front rest : List ℕ) → Lacks sign front → text.now ≡ front ++ sign ∷ rest
-        → Finds (λ p. (p.0.now ≡ front) × (p.1.now ≡ rest)) result }
+    ensures { Tells (λ p. (p.0.now, p.1.now)) result (cut sign text.now) }
 {
     match text.split_once(sign) {
         Some(parts) => Ok(parts),
@@ -68,7 +69,7 @@ fn digits(text: &[u8]) -> Result<u32, Unread>
 
 // The number, up to this one.
 fn number_up_to(text: &[u8], most: u32) -> Result<u32, Unread>
-    ensures { Gives result (up_to most (digits_on 0 text.now)) }
+    ensures { Gives result (number_up_to most text.now) }
 {
     let number = digits(text)?;
     if number <= most {
@@ -81,7 +82,7 @@ fn number_up_to(text: &[u8], most: u32) -> Result<u32, Unread>
 // The number, up to this one.
 pub(crate) fn number(text: &str, most: u32) -> Result<u32, Unread>
     requires { most < 1000000000 }
-    ensures found { (n : ℕ) → n ≤ most → text.now ≡ decimal n → Finds (λ m. m ≡ n) result }
+    ensures means { Gives result (number_up_to most text.now) }
     ensures most { IfOk result (λ n. n ≤ most) }
 {
     number_up_to(text.as_bytes(), most)
@@ -90,7 +91,6 @@ pub(crate) fn number(text: &str, most: u32) -> Result<u32, Unread>
 // The number of an object.
 pub(crate) fn object(text: &str) -> Result<u32, Unread>
     ensures means { Gives result (object_in text.now) }
-    ensures found { (n : ℕ) → IsNumber n → text.now ≡ number_text n → Finds (λ m. m ≡ n) result }
     ensures number { IfOk result IsNumber }
 {
     match text.as_bytes() {
@@ -100,9 +100,9 @@ pub(crate) fn object(text: &str) -> Result<u32, Unread>
 }
 
 // The number of an object up to a space, and what stands after it.
+#[tactic(auto, unfolding(crate::specs::inner::Reader::object_before))]
 pub(crate) fn object_before(text: &str) -> Result<(u32, &str), Unread>
-    ensures found { (n : ℕ) (rest : List ℕ) → IsNumber n → text.now ≡ number_text n ++ codes " " ++ rest
-        → Finds (λ p. (p.0 ≡ n) × (p.1.now ≡ rest)) result }
+    ensures means { Tells (λ p. (p.0, p.1.now)) result (object_before text.now) }
     ensures number { IfOk result (λ p. IsNumber p.0) }
 {
     let (front, rest) = cut(text, ' ')?;
@@ -111,7 +111,7 @@ pub(crate) fn object_before(text: &str) -> Result<(u32, &str), Unread>
 
 // The names of a names text.
 pub(crate) fn names(alloc: Global, text: &str) -> Result<Names, Unread>
-    ensures { (names : List (List ℕ)) → AreNames names → text.now ≡ listed names → Finds (λ n. n ≡ names) result }
+    ensures { Tells (λ x. x) result (names_in text.now) }
 {
     match Names::read(alloc, text) {
         Ok(names) => Ok(names),
@@ -122,7 +122,7 @@ pub(crate) fn names(alloc: Global, text: &str) -> Result<Names, Unread>
 
 // The name that a text is.
 pub(crate) fn name(alloc: Global, text: &str) -> Result<Name, Unread>
-    ensures { IsName text.now → Finds (λ n. n ≡ text.now) result }
+    ensures { Tells (λ x. x) result (name_in text.now) }
 {
     match Name::read(alloc, text) {
         Ok(name) => Ok(name),
@@ -132,8 +132,9 @@ pub(crate) fn name(alloc: Global, text: &str) -> Result<Name, Unread>
 }
 
 // What can be said.
+#[tactic(auto, unfolding(crate::specs::inner::Reader::speech_in))]
 pub(crate) fn speech(alloc: Global, text: &str) -> Result<Speech, Unread>
-    ensures { IsTrue (is_speech text.now) → Finds (λ s. s ≡ text.now) result }
+    ensures { Tells (λ x. x) result (speech_in text.now) }
 {
     match Speech::read(alloc, text)? {
         Some(speech) => Ok(speech),
@@ -170,8 +171,9 @@ fn why_none(fault: KeyFault) -> Unread
 }
 
 // The key whose objects are numbers.
+#[tactic(auto, unfolding(crate::specs::inner::Reader::number_key_in))]
 pub(crate) fn key(alloc: Global, text: &str) -> Result<Key, Unread>
-    ensures { (key : Tree ℕ) → IsKey key → text.now ≡ printed (by_text key) → Finds (λ k. k ≡ key) result }
+    ensures { Tells (λ x. x) result (number_key_in text.now) }
 {
     let written = match read(alloc, text) {
         Ok(written) => written,

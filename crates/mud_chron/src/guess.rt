@@ -11,7 +11,9 @@ ghost use Rattle.mud_chron.specs.Entry.{Entry, IsNumber, IsInRange, IsSpellable,
 ghost use Rattle.mud_world.specs.inner.Parts.{AreDoors, AreBackNames};
 ghost use Rattle.mud_chron.specs.Text.{quoted, entry_line};
 ghost use Rattle.mud_chron.specs.inner.Texts.{back_text, doors_text, change_text};
-ghost use Rattle.mud_chron.specs.inner.Fields.{Finds, Lacks, FindsDeed};
+ghost use Rattle.mud_chron.specs.inner.Reader.{Tells, quoted_in, quoted_name_in, back_in, doors_in, new_in, old_in, dig_in, make_in};
+ghost use Rattle.mud_chron.specs.inner.Reader.{player_in, lock_in, unlock_in, move_in, walk_in, cost_in, rename_in, recycle_in, say_in, emote_in};
+ghost use Rattle.mud_chron.specs.inner.Reader.{deed_in, change_in, desk_in, entry_in};
 
 use crate::entry::Entry;
 use crate::fields::{Unread, cut, key, name, names, number, object, object_before, speech};
@@ -24,9 +26,9 @@ use std::alloc::Global;
 const LAST_DESK: u32 = 64;
 
 // The names between the first two quotes, and what stands after them.
+#[tactic(auto, unfolding(crate::specs::inner::Reader::quoted_in, crate::specs::inner::Reader::names_before))]
 fn quoted(alloc: Global, text: &str) -> Result<(Names, &str), Unread>
-    ensures { (front : List ℕ) (names : List (List ℕ)) (rest : List ℕ) → Lacks 34 front → AreNames names
-        → text.now ≡ front ++ quoted names ++ rest → Finds (λ p. (p.0 ≡ names) × (p.1.now ≡ rest)) result }
+    ensures { Tells (λ p. (p.0, p.1.now)) result (quoted_in text.now) }
 {
     let (_, rest) = cut(text, '"')?;
     let (inside, rest) = cut(rest, '"')?;
@@ -34,8 +36,9 @@ fn quoted(alloc: Global, text: &str) -> Result<(Names, &str), Unread>
 }
 
 // The name between the first two quotes.
+#[tactic(auto, unfolding(crate::specs::inner::Reader::quoted_name_in))]
 fn quoted_name(alloc: Global, text: &str) -> Result<Name, Unread>
-    ensures { (name : List ℕ) → IsName name → text.now ≡ quoted (name ∷ []) → Finds (λ n. n ≡ name) result }
+    ensures { Tells (λ x. x) result (quoted_name_in text.now) }
 {
     let (_, rest) = cut(text, '"')?;
     let (inside, _) = cut(rest, '"')?;
@@ -43,9 +46,9 @@ fn quoted_name(alloc: Global, text: &str) -> Result<Name, Unread>
 }
 
 // The names of the exit back; none where nothing is left.
+#[tactic(auto, unfolding(crate::specs::inner::Reader::back_in))]
 fn back_of(alloc: Global, text: &str) -> Result<Option<Names>, Unread>
-    ensures { (back : Option (List (List ℕ))) → AreBackNames back → text.now ≡ back_text back
-        → Finds (λ b. b ≡ back) result }
+    ensures { Tells (λ x. x) result (back_in text.now) }
 {
     if text.is_empty() {
         return Ok(None);
@@ -55,10 +58,9 @@ fn back_of(alloc: Global, text: &str) -> Result<Option<Names>, Unread>
 }
 
 // The exits of a dig; none where nothing is left.
+#[tactic(auto, unfolding(crate::specs::inner::Reader::doors_in))]
 fn doors_of(alloc: Global, text: &str) -> Result<Option<Doors>, Unread>
-    ensures none { text.now ≡ [] → Finds (λ d. d ≡ None) result }
-    ensures some { (front : List ℕ) (doors : DoorsSeen) → Lacks 34 front → AreDoors (Some doors)
-        → text.now ≡ front ++ quoted doors.out ++ back_text doors.back → Finds (λ d. d ≡ Some doors) result }
+    ensures { Tells (λ x. x) result (doors_in text.now) }
 {
     if text.is_empty() {
         return Ok(None);
@@ -69,9 +71,9 @@ fn doors_of(alloc: Global, text: &str) -> Result<Option<Doors>, Unread>
 }
 
 // A dig of a new room.
+#[tactic(auto, unfolding(crate::specs::inner::Reader::new_in))]
 fn dig_new(alloc: Global, text: &str) -> Result<Deed, Unread>
-    ensures found { (names : List (List ℕ)) (doors : Option DoorsSeen) → AreNames names → AreDoors doors
-        → text.now ≡ quoted names ++ doors_text doors → Finds (λ d. d ≡ Deed.Dig (Target.New names) doors) result }
+    ensures means { Tells (λ x. x) result (new_in text.now) }
     ensures range { IfOk result (λ d. IsInRange d) }
 {
     let (names, rest) = quoted(alloc, text)?;
@@ -80,10 +82,9 @@ fn dig_new(alloc: Global, text: &str) -> Result<Deed, Unread>
 }
 
 // A way to an old room.
+#[tactic(auto, unfolding(crate::specs::inner::Reader::old_in))]
 fn dig_old(alloc: Global, text: &str) -> Result<Deed, Unread>
-    ensures found { (room : ℕ) (doors : DoorsSeen) → IsNumber room → AreDoors (Some doors)
-        → text.now ≡ number_text room ++ doors_text (Some doors)
-        → Finds (λ d. d ≡ Deed.Dig (Target.Old room) (Some doors)) result }
+    ensures means { Tells (λ x. x) result (old_in text.now) }
     ensures range { IfOk result (λ d. IsInRange d) }
 {
     let (room, rest) = object_before(text)?;
@@ -94,8 +95,9 @@ fn dig_old(alloc: Global, text: &str) -> Result<Deed, Unread>
 }
 
 // A dig.
+#[tactic(auto, unfolding(crate::specs::inner::Reader::dig_in))]
 fn dig(alloc: Global, text: &str) -> Result<Deed, Unread>
-    ensures found { FindsDeed Verb.Dig text.now result }
+    ensures means { Tells (λ x. x) result (dig_in text.now) }
     ensures range { IfOk result (λ d. IsInRange d) }
 {
     let (word, rest) = cut(text, ' ')?;
@@ -107,8 +109,9 @@ fn dig(alloc: Global, text: &str) -> Result<Deed, Unread>
 }
 
 // A thing that is made.
+#[tactic(auto, unfolding(crate::specs::inner::Reader::make_in))]
 fn make(alloc: Global, text: &str) -> Result<Deed, Unread>
-    ensures found { FindsDeed Verb.Make text.now result }
+    ensures means { Tells (λ x. x) result (make_in text.now) }
     ensures range { IfOk result (λ d. IsInRange d) }
 {
     let (names, _) = quoted(alloc, text)?;
@@ -116,16 +119,18 @@ fn make(alloc: Global, text: &str) -> Result<Deed, Unread>
 }
 
 // A new player.
+#[tactic(auto, unfolding(crate::specs::inner::Reader::player_in))]
 fn player(alloc: Global, text: &str) -> Result<Deed, Unread>
-    ensures found { FindsDeed Verb.Player text.now result }
+    ensures means { Tells (λ x. x) result (player_in text.now) }
     ensures range { IfOk result (λ d. IsInRange d) }
 {
     Ok(Deed::Player(quoted_name(alloc, text)?))
 }
 
 // A lock.
+#[tactic(auto, unfolding(crate::specs::inner::Reader::lock_in))]
 fn lock(alloc: Global, text: &str) -> Result<Deed, Unread>
-    ensures found { FindsDeed Verb.Lock text.now result }
+    ensures means { Tells (λ x. x) result (lock_in text.now) }
     ensures range { IfOk result (λ d. IsInRange d) }
 {
     let (object, rest) = object_before(text)?;
@@ -134,8 +139,9 @@ fn lock(alloc: Global, text: &str) -> Result<Deed, Unread>
 }
 
 // An unlocking.
+#[tactic(auto, unfolding(crate::specs::inner::Reader::unlock_in))]
 fn unlock(text: &str) -> Result<Deed, Unread>
-    ensures found { FindsDeed Verb.Unlock text.now result }
+    ensures means { Tells (λ x. x) result (unlock_in text.now) }
     ensures range { IfOk result (λ d. IsInRange d) }
 {
     let object = object(text)?;
@@ -143,8 +149,9 @@ fn unlock(text: &str) -> Result<Deed, Unread>
 }
 
 // A move.
+#[tactic(auto, unfolding(crate::specs::inner::Reader::move_in))]
 fn carry(text: &str) -> Result<Deed, Unread>
-    ensures found { FindsDeed Verb.Move text.now result }
+    ensures means { Tells (λ x. x) result (move_in text.now) }
     ensures range { IfOk result (λ d. IsInRange d) }
 {
     let (thing, rest) = object_before(text)?;
@@ -153,8 +160,9 @@ fn carry(text: &str) -> Result<Deed, Unread>
 }
 
 // A walk.
+#[tactic(auto, unfolding(crate::specs::inner::Reader::walk_in))]
 fn walk(text: &str) -> Result<Deed, Unread>
-    ensures found { FindsDeed Verb.Walk text.now result }
+    ensures means { Tells (λ x. x) result (walk_in text.now) }
     ensures range { IfOk result (λ d. IsInRange d) }
 {
     let exit = object(text)?;
@@ -162,8 +170,9 @@ fn walk(text: &str) -> Result<Deed, Unread>
 }
 
 // A cost.
+#[tactic(auto, unfolding(crate::specs::inner::Reader::cost_in))]
 fn cost(text: &str) -> Result<Deed, Unread>
-    ensures found { FindsDeed Verb.Cost text.now result }
+    ensures means { Tells (λ x. x) result (cost_in text.now) }
     ensures range { IfOk result (λ d. IsInRange d) }
 {
     let (exit, rest) = object_before(text)?;
@@ -172,8 +181,9 @@ fn cost(text: &str) -> Result<Deed, Unread>
 }
 
 // New names.
+#[tactic(auto, unfolding(crate::specs::inner::Reader::rename_in))]
 fn rename(alloc: Global, text: &str) -> Result<Deed, Unread>
-    ensures found { FindsDeed Verb.Rename text.now result }
+    ensures means { Tells (λ x. x) result (rename_in text.now) }
     ensures range { IfOk result (λ d. IsInRange d) }
 {
     let (object, rest) = object_before(text)?;
@@ -182,8 +192,9 @@ fn rename(alloc: Global, text: &str) -> Result<Deed, Unread>
 }
 
 // A recycling.
+#[tactic(auto, unfolding(crate::specs::inner::Reader::recycle_in))]
 fn recycle(text: &str) -> Result<Deed, Unread>
-    ensures found { FindsDeed Verb.Recycle text.now result }
+    ensures means { Tells (λ x. x) result (recycle_in text.now) }
     ensures range { IfOk result (λ d. IsInRange d) }
 {
     let object = object(text)?;
@@ -191,24 +202,27 @@ fn recycle(text: &str) -> Result<Deed, Unread>
 }
 
 // What is said.
+#[tactic(auto, unfolding(crate::specs::inner::Reader::say_in))]
 fn say(alloc: Global, text: &str) -> Result<Deed, Unread>
-    ensures found { FindsDeed Verb.Say text.now result }
+    ensures means { Tells (λ x. x) result (say_in text.now) }
     ensures range { IfOk result (λ d. IsInRange d) }
 {
     Ok(Deed::Say(speech(alloc, text)?))
 }
 
 // What is emoted.
+#[tactic(auto, unfolding(crate::specs::inner::Reader::emote_in))]
 fn emote(alloc: Global, text: &str) -> Result<Deed, Unread>
-    ensures found { FindsDeed Verb.Emote text.now result }
+    ensures means { Tells (λ x. x) result (emote_in text.now) }
     ensures range { IfOk result (λ d. IsInRange d) }
 {
     Ok(Deed::Emote(speech(alloc, text)?))
 }
 
 // The deed that stands after a verb.
+#[tactic(auto, unfolding(crate::specs::inner::Reader::deed_in))]
 fn deed_of(alloc: Global, verb: Verb, text: &str) -> Result<Deed, Unread>
-    ensures found { FindsDeed verb text.now result }
+    ensures means { Tells (λ x. x) result (deed_in verb text.now) }
     ensures range { IfOk result (λ d. IsInRange d) }
 {
     match verb {
@@ -228,9 +242,9 @@ fn deed_of(alloc: Global, verb: Verb, text: &str) -> Result<Deed, Unread>
 }
 
 // The change of a text.
+#[tactic(auto, unfolding(crate::specs::inner::Reader::change_in))]
 fn change_of(alloc: Global, text: &str) -> Result<Change, Unread>
-    ensures found { (change : ChangeSeen) → IsNumber change.actor → IsInRange change.deed → HasParts change.deed
-        → text.now ≡ change_text change → Finds (λ c. c ≡ change) result }
+    ensures means { Tells (λ x. x) result (change_in text.now) }
     ensures actor { IfOk result (λ c. c.actor ≤ 8191) }
     ensures range { IfOk result (λ c. IsInRange c.deed) }
 {
@@ -242,8 +256,9 @@ fn change_of(alloc: Global, text: &str) -> Result<Change, Unread>
 }
 
 // A desk.
+#[tactic(auto, unfolding(crate::specs::inner::Reader::desk_in))]
 fn desk_of(text: &str) -> Result<u32, Unread>
-    ensures found { (desk : ℕ) → 1 ≤ desk → desk ≤ 64 → text.now ≡ decimal desk → Finds (λ n. n ≡ desk) result }
+    ensures means { Tells (λ x. x) result (desk_in text.now) }
     ensures from { IfOk result (λ n. 1 ≤ n) }
     ensures to { IfOk result (λ n. n ≤ 64) }
 {
@@ -256,9 +271,9 @@ fn desk_of(text: &str) -> Result<u32, Unread>
 }
 
 // The entry of a line, whatever version it makes.
+#[tactic(auto, unfolding(crate::specs::inner::Reader::entry_in))]
 pub(crate) fn guess(alloc: Global, line: &str) -> Result<Entry, Unread>
-    ensures { (version : ℕ) (e : Entry) → version < 2 ^ 32 → IsEntry e → line.now ≡ entry_line version e
-        → Finds (λ found. found ≡ e) result }
+    ensures { Tells (λ x. x) result (entry_in line.now) }
 {
     let (_, rest) = cut(line, ' ')?;
     let (desk, rest) = cut(rest, ' ')?;

@@ -1,8 +1,7 @@
 //! The words of a history's lines.
 
 ghost use Rattle.std.specs.Prelude.{◌≡◌};
-ghost use Rattle.mud_chron.specs.declared.verb.Verb.{Verb as VerbSeen};
-ghost use Rattle.mud_chron.specs.inner.Fields.{Finds, word_of};
+ghost use Rattle.mud_chron.specs.inner.Reader.{Tells, verb_in};
 
 use crate::fields::Unread;
 
@@ -24,8 +23,9 @@ pub(crate) enum Verb {
 }
 
 // The verb of a word.
+#[tactic(auto, unfolding(crate::specs::inner::Reader::verb_in))]
 pub(crate) fn verb_of(word: &str) -> Result<Verb, Unread>
-    ensures { (verb : VerbSeen) → word.now ≡ word_of verb → Finds (λ v. v ≡ verb) result }
+    ensures { Tells (λ x. x) result (verb_in word.now) }
 {
     match word {
         "dig" => Ok(Verb::Dig),

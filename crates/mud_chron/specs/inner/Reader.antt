@@ -1,6 +1,6 @@
--- A reader of lines as a function, apart from the code: by it a line is that of only one entry.
-use Rattle.std.specs.Prelude.{ℕ, nat_eq, nat_le, List, [], ◌∷◌, codes, if◌then◌else◌, Option, None, Some, Result, Ok}
-use Rattle.std.specs.Prelude.{Err}
+-- What each reader of a line gives.
+use Rattle.std.specs.Prelude.{◌≡◌, ℕ, nat_eq, nat_le, List, [], ◌∷◌, codes, if◌then◌else◌}
+use Rattle.std.specs.Prelude.{Option, None, Some, Result, Ok, Err}
 use Rattle.std.specs.Option.{option_map, ok_or}
 use Rattle.std.specs.Str.{bytes_eq}
 use Rattle.mud_key.specs.declared.namer.Miss.{Miss}
@@ -18,6 +18,8 @@ use Rattle.mud_chron.specs.declared.verb.Verb.{Verb}
 use Rattle.mud_chron.specs.declared.verb.Verb.TheVariants.{Dig, Make, Lock, Unlock, Move, Walk, Cost, Player, Rename}
 use Rattle.mud_chron.specs.declared.verb.Verb.TheVariants.{Recycle, Say, Emote}
 use Rattle.mud_chron.specs.Entry.{Entry}
+use Rattle.mud_chron.specs.declared.fields.Unread.{Unread}
+use Rattle.mud_chron.specs.declared.fields.Unread.TheVariants.{OutOfMemory, NoEntry}
 use Rattle.mud_chron.specs.inner.Fields.{digits_on, up_to, object_in}
 
 infixl 10 ◌>>=◌
@@ -25,6 +27,16 @@ infixl 10 ◌>>=◌
 abbrev pub ◌>>=◌ : {A B : Type 0} → Option A → (A → Option B) → Option B
 (Some x) >>= f = f x
 None >>= f = None
+
+-- the call gave what there is to be found, unless memory ran out
+abbrev pub Missed : {Y : Type 0} → Unread → Option Y → Type 0
+Missed OutOfMemory found = Unit {0}
+Missed NoEntry found = found ≡ None
+
+-- the call told what there is to be found, as it is viewed, or that there is nothing, unless memory ran out
+abbrev pub Tells : {X Y : Type 0} → (X → Y) → Result X Unread → Option Y → Type 0
+Tells view (Ok x) found = found ≡ Some (view x)
+Tells view (Err fault) found = Missed fault found
 
 -- what stands in front of the first such byte, and what stands after it
 abbrev pub cut : ℕ → List ℕ → Option (List ℕ × List ℕ)
@@ -81,26 +93,20 @@ quoted_name_in text = do
   q ← cut 34 p.1
   name_in q.0
 
--- the names of the exit back; none where no quote stands
-abbrev pub back_behind : Option (List ℕ × List ℕ) → Option (Option (List (List ℕ)))
-back_behind None = Some None
-back_behind (Some p) = do
-  names ← names_before p.1
+-- the names of the exit back; none where nothing is left
+unfoldable pub back_in : List ℕ → Option (Option (List (List ℕ)))
+back_in [] = Some None
+back_in (b ∷ text) = do
+  names ← quoted_in (b ∷ text)
   Some (Some names.0)
 
-unfoldable pub back_in : List ℕ → Option (Option (List (List ℕ)))
-back_in text = back_behind (cut 34 text)
-
--- the exits of a dig; none where no quote stands
-abbrev pub doors_behind : Option (List ℕ × List ℕ) → Option (Option Doors)
-doors_behind None = Some None
-doors_behind (Some p) = do
-  out ← names_before p.1
+-- the exits of a dig; none where nothing is left
+unfoldable pub doors_in : List ℕ → Option (Option Doors)
+doors_in [] = Some None
+doors_in (b ∷ text) = do
+  out ← quoted_in (b ∷ text)
   back ← back_in out.1
   Some (Some (record { out = out.0; back = back }))
-
-unfoldable pub doors_in : List ℕ → Option (Option Doors)
-doors_in text = doors_behind (cut 34 text)
 
 -- a dig of a new room
 unfoldable pub new_in : List ℕ → Option Deed

@@ -18,7 +18,7 @@ use Rattle.mud_cert.specs.declared.cert.Conclusion.{Conclusion}
 use Rattle.mud_cert.specs.declared.cert.Conclusion.TheVariants.{Route, Meet}
 use Rattle.mud_cert.specs.Lookup.{label_in, label_at}
 use Rattle.mud_cert.specs.inner.Ways.{end_of, arrival, arrival_of}
-use Rattle.mud_cert.specs.inner.Agreement.{with_label, gathered_from, gathered}
+use Rattle.mud_cert.specs.inner.Agreement.{with_label, greatest_from, greatest_cost}
 use Rattle.mud_cert.specs.inner.Tests.{is_there_within, is_there_at, is_no_worse, first_labels, stays, misses}
 use Rattle.mud_cert.specs.inner.Tests.{concludes}
 use Rattle.mud_cert.specs.declared.cert.Form.{Form}
@@ -95,11 +95,11 @@ with-some None f c e = absurd (cc)
 with-some (Some l) f c e = (l, refl, e)
 
 -- where all are labelled, the first member's labels have the room
-first-has : (ms : List Account) (room c : ℕ) → 0 < length ms → gathered ms room ≡ Some c
+first-has : (ms : List Account) (room c : ℕ) → 0 < length ms → greatest_cost ms room ≡ Some c
     → (k : ℕ) × (k < length (first_labels ms)) × ((d : ℕ × Label) → (get_or (first_labels ms) k d).0 ≡ room)
 first-has [] room c some e = absurd (omega arith)
 first-has (m ∷ ms) room c some e =
-    let r = with-some (label_at m room) (λ l. gathered_from (max 0 l.cost) ms room) c e in
+    let r = with-some (label_at m room) (λ l. greatest_from (max 0 l.cost) ms room) c e in
     entry-of m.labels room r.0 r.1
 
 none-since : (o : Option ℕ) → ((c : ℕ) → o ≡ Some c → ⊥) → o ≡ None
@@ -140,15 +140,15 @@ gathered-more m ms r k c l f rest = record {
           | inr most ↦ inl (omega (arith, same))
         ]
 
-gathered-is : (ms : List Account) (r k c : ℕ) → gathered_from k ms r ≡ Some c → IsGathered ms r k c
+gathered-is : (ms : List Account) (r k c : ℕ) → greatest_from k ms r ≡ Some c → IsGathered ms r k c
 gathered-is [] r k c e =
     let same : k ≡ c = cc in
     record { all = All-nil (Below r c); above = omega (arith, same); one = inl (sym same) }
 gathered-is (m ∷ ms) r k c e =
-    let own = with-some (label_at m r) (λ l. gathered_from (max k l.cost) ms r) c e in
+    let own = with-some (label_at m r) (λ l. greatest_from (max k l.cost) ms r) c e in
     gathered-more m ms r k c own.0 own.1 (gathered-is ms r (max k own.0.cost) c own.2)
 
-pub gathers-from : (ms : List Account) (r c : ℕ) → 0 < length ms → gathered ms r ≡ Some c → Gathers Labels ms r c
+pub gathers-from : (ms : List Account) (r c : ℕ) → 0 < length ms → greatest_cost ms r ≡ Some c → Gathers Labels ms r c
 gathers-from [] r c some e = absurd (omega arith)
 gathers-from (m ∷ ms) r c some e =
     let is = gathered-is (m ∷ ms) r 0 c e in
@@ -163,15 +163,15 @@ gathers-from (m ∷ ms) r c some e =
     }
 
 pub gathered-all : (ms : List Account) (r k most : ℕ) → k ≤ most → All (Below r most) ms
-    → (f : ℕ) × (gathered_from k ms r ≡ Some f) × (f ≤ most)
+    → (f : ℕ) × (greatest_from k ms r ≡ Some f) × (f ≤ most)
 gathered-all [] r k most le all = (k, refl, le)
 gathered-all (m ∷ ms) r k most le all =
     let first : Below r most m = All-head (Below r most) m ms all in
     let rest = gathered-all ms r (max k first.0.cost) most (omega (arith, le, first.2))
     (All-tail (Below r most) m ms all) in
-    (rest.0, ap (λ o. with_label o (λ l. gathered_from (max k l.cost) ms r)) first.1 ∙ rest.1, rest.2)
+    (rest.0, ap (λ o. with_label o (λ l. greatest_from (max k l.cost) ms r)) first.1 ∙ rest.1, rest.2)
 
-pub gathers-to : (ms : List Account) (r c : ℕ) → Gathers Labels ms r c → gathered ms r ≡ Some c
+pub gathers-to : (ms : List Account) (r c : ℕ) → Gathers Labels ms r c → greatest_cost ms r ≡ Some c
 gathers-to ms r c g =
     let found = gathered-all ms r 0 c (omega arith) g.all in
     let is = gathered-is ms r 0 found.0 found.1 in
@@ -271,7 +271,7 @@ concludes-from w sound form ms (Meet (Some meeting)) some are e =
     let t1 : Bool = is_room w room in
     let t2 : Bool = list_all (λ m. is_there_within room cost (arrival_of w m)) ms in
     let t3 : Bool = list_any (λ m. is_there_at room cost (arrival_of w m)) ms in
-    let best : ℕ × Label → Bool = λ (x : ℕ × Label). is_no_worse cost room x.0 (gathered ms x.0) in
+    let best : ℕ × Label → Bool = λ (x : ℕ × Label). is_no_worse cost room x.0 (greatest_cost ms x.0) in
     let t4 : Bool = list_all best (first_labels ms) in
     let p = and_parts ((t1 && t2) && t3) t4 e in
     let q = and_parts (t1 && t2) t3 p.0 in
@@ -297,13 +297,13 @@ concludes-from w sound form ms (Meet (Some meeting)) some are e =
             let z : ℕ × Label = (0, record { cost = 0; exits = 0 }) in
             let at : best (get_or (first_labels ms) f.0 z) ≡ true =
             AllPass-from_list_all best (first_labels ms) p.1 f.0 z f.1 in
-            let at2 : is_no_worse cost room a (gathered ms a) ≡ true =
-            ap (λ n. is_no_worse cost room n (gathered ms n)) (sym (f.2 z)) ∙ at in
+            let at2 : is_no_worse cost room a (greatest_cost ms a) ≡ true =
+            ap (λ n. is_no_worse cost room n (greatest_cost ms n)) (sym (f.2 z)) ∙ at in
             no-worse cost room a c (ap (λ o. is_no_worse cost room a o) (sym (gathers-to ms a c g)) ∙ at2);
       },
     )
 concludes-from w sound form ms (Meet None) some are e =
-    let apart : ℕ × Label → Bool = λ (x : ℕ × Label). is_none (gathered ms x.0) in
+    let apart : ℕ × Label → Bool = λ (x : ℕ × Label). is_none (greatest_cost ms x.0) in
     let p = and_parts (list_all stays ms) (list_all apart (first_labels ms)) e in (
       λ i d lt. none-from (get_or ms i d).walk (AllPass-from_list_all stays ms p.0 i d lt),
       λ a c g.
@@ -311,7 +311,7 @@ concludes-from w sound form ms (Meet None) some are e =
           let z : ℕ × Label = (0, record { cost = 0; exits = 0 }) in
           let at : apart (get_or (first_labels ms) f.0 z) ≡ true =
           AllPass-from_list_all apart (first_labels ms) p.1 f.0 z f.1 in
-          let at2 : is_none (gathered ms a) ≡ true = ap (λ n. is_none (gathered ms n)) (sym (f.2 z)) ∙ at in
+          let at2 : is_none (greatest_cost ms a) ≡ true = ap (λ n. is_none (greatest_cost ms n)) (sym (f.2 z)) ∙ at in
           false≢true (ap (λ o. is_none o) (sym (gathers-to ms a c g)) ∙ at2),
     )
 
@@ -339,7 +339,7 @@ concludes-to w sound form ms (Meet (Some meeting)) some are v =
     let t1 : Bool = is_room w room in
     let t2 : Bool = list_all (λ m. is_there_within room cost (arrival_of w m)) ms in
     let t3 : Bool = list_any (λ m. is_there_at room cost (arrival_of w m)) ms in
-    let best : ℕ × Label → Bool = λ (x : ℕ × Label). is_no_worse cost room x.0 (gathered ms x.0) in
+    let best : ℕ × Label → Bool = λ (x : ℕ × Label). is_no_worse cost room x.0 (greatest_cost ms x.0) in
     let t4 : Bool = list_all best (first_labels ms) in
     let (k, x, lt, e, (l, label, costs)) = v.1.gathers.one in
     let member : IsMember w form x = subst (IsMember w form) e (are k x lt) in
@@ -358,11 +358,11 @@ concludes-to w sound form ms (Meet (Some meeting)) some are v =
     (k, x, lt, e, at-there room cost (arrival_of w x) there)))
     (list_all-from_AllPass best (first_labels ms) (λ i d lt.
     let a : ℕ = (get_or (first_labels ms) i d).0 in
-    to-no-worse cost room a (gathered ms a) (λ c g. v.1.best a c (gathers-from ms a c some g))))
+    to-no-worse cost room a (greatest_cost ms a) (λ c g. v.1.best a c (gathers-from ms a c some g))))
 concludes-to w sound form ms (Meet None) some are v =
-    let apart : ℕ × Label → Bool = λ (x : ℕ × Label). is_none (gathered ms x.0) in
+    let apart : ℕ × Label → Bool = λ (x : ℕ × Label). is_none (greatest_cost ms x.0) in
     and_from (list_all stays ms) (list_all apart (first_labels ms))
     (list_all-from_AllPass stays ms (λ i d lt. none-to (get_or ms i d).walk (v.0 i d lt)))
     (list_all-from_AllPass apart (first_labels ms) (λ i d lt.
     let a : ℕ = (get_or (first_labels ms) i d).0 in
-    none-to (gathered ms a) (none-since (gathered ms a) (λ c g. v.1 a c (gathers-from ms a c some g)))))
+    none-to (greatest_cost ms a) (none-since (greatest_cost ms a) (λ c g. v.1 a c (gathers-from ms a c some g)))))

@@ -6,6 +6,7 @@ use Rattle.std.proofs.lemmas.Fmt.{decimal_digit, decimal_step, decimal_by_steps}
 use Rattle.std.proofs.lemmas.Bool.{cond-true, cond-false, cases_Bool, and_parts, and_from, leb-true, le-leb, eqb-true}
 use Rattle.std.proofs.lemmas.Bool.{ne_eqb, eqb-false, ltb-true, lt-ltb, cases_eq}
 use Rattle.std.proofs.lemmas.Option.{cond_some}
+use Rattle.mud_cert.specs.declared.limits.TheConstants.{AMOUNTS}
 use Rattle.mud_cert.specs.inner.Reading.{is_digit, digits_on, small, number_at}
 
 step : (n b : ℕ) (bs : List ℕ) → is_digit b ≡ true → digits_on n (b ∷ bs) ≡ digits_on (n * 10 + (b - 48)) bs
@@ -80,26 +81,26 @@ reads-on n fits = decimal_by_steps (λ n ds. (rest : List ℕ) → digits_on 0 (
     ∙ ap (λ k. digits_on k rest) d)
     n fits
 
-small-some : (p q : ℕ × List ℕ) → small p ≡ Some q → (p ≡ q) × (p.0 < 1000000000)
+small-some : (p q : ℕ × List ℕ) → small p ≡ Some q → (p ≡ q) × (p.0 < AMOUNTS)
 small-some p q e =
-    let r = cond_some (ltb p.0 1000000000) p q e in
-    (r.1, ltb-true p.0 1000000000 r.0)
+    let r = cond_some (ltb p.0 AMOUNTS) p q e in
+    (r.1, ltb-true p.0 AMOUNTS r.0)
 
 -- what is read is spelled so
 pub number-takes : (bytes : List ℕ) (q : ℕ × List ℕ) → number_at bytes ≡ Some q
-    → (bytes ≡ decimal q.0 ++ q.1) × (q.0 < 1000000000)
+    → (bytes ≡ decimal q.0 ++ q.1) × (q.0 < AMOUNTS)
 unfolding number_at
 number-takes [] q e = absurd (cc)
 number-takes (b ∷ bs) q e = go (cases_Bool (eqb b 48)) (cases_Bool (is_digit b))
   where
     go : (eqb b 48 ≡ true) ⊎ (eqb b 48 ≡ false) → (is_digit b ≡ true) ⊎ (is_digit b ≡ false)
-        → (b ∷ bs ≡ decimal q.0 ++ q.1) × (q.0 < 1000000000)
+        → (b ∷ bs ≡ decimal q.0 ++ q.1) × (q.0 < AMOUNTS)
     go (inl z) d =
         let zero-is : Some (0, bs) ≡ Some q =
         sym (cond-true (eqb b 48) (Some (0, bs)) (cond (is_digit b) (small (digits_on (b - 48) bs)) None) z) ∙ e in
         let same : (0, bs) ≡ q = cc in
         let at : b ≡ 48 = eqb-true b 48 z in
-        let F : ℕ × List ℕ → Type 0 = λ p. (b ∷ bs ≡ decimal p.0 ++ p.1) × (p.0 < 1000000000) in
+        let F : ℕ × List ℕ → Type 0 = λ p. (b ∷ bs ≡ decimal p.0 ++ p.1) × (p.0 < AMOUNTS) in
         subst F same
         (ap (λ k. k ∷ bs) at ∙ ap (λ (xs : List ℕ). xs ++ bs) (sym (decimal_digit 0 (omega arith))), omega arith)
     go (inr z) (inr d) =
@@ -116,7 +117,7 @@ number-takes (b ∷ bs) q e = go (cases_Bool (eqb b 48)) (cases_Bool (is_digit b
         let some : 0 < b - 48 = omega (arith, eqb-false b 48 z, range.0) in
         let back : 48 + (b - 48) ≡ b = omega (arith, range.0) in
         let on = takes-on (b - 48) bs some (omega (arith, r.1)) in
-        let F : ℕ × List ℕ → Type 0 = λ p. (b ∷ bs ≡ decimal p.0 ++ p.1) × (p.0 < 1000000000) in
+        let F : ℕ × List ℕ → Type 0 = λ p. (b ∷ bs ≡ decimal p.0 ++ p.1) × (p.0 < AMOUNTS) in
         subst F r.0 (
           ap (λ k. k ∷ bs) (sym back) ∙ ap (λ (xs : List ℕ). xs ++ bs)
               (sym (decimal_digit (b - 48) (omega (arith, range.1)))) ∙ on,
@@ -155,7 +156,7 @@ begins n fits = decimal_by_steps Begins
     n fits
 
 -- what is spelled so is read, where no digit follows
-pub number-again : (n : ℕ) (rest : List ℕ) → n < 1000000000 → digits_on n rest ≡ (n, rest)
+pub number-again : (n : ℕ) (rest : List ℕ) → n < AMOUNTS → digits_on n rest ≡ (n, rest)
     → number_at (decimal n ++ rest) ≡ Some (n, rest)
 unfolding number_at
 number-again n rest few ends = go (cases_eq n 0)
@@ -178,4 +179,4 @@ number-again n rest few ends = go (cases_eq n 0)
         (cond (is_digit b.head) (small (digits_on (b.head - 48) more)) None) (ne_eqb b.head 48 apart)
         ∙ cond-true (is_digit b.head) (small (digits_on (b.head - 48) more)) None digit
         ∙ ap small on
-        ∙ cond-true (ltb n 1000000000) (Some (n, rest)) None (lt-ltb n 1000000000 few)
+        ∙ cond-true (ltb n AMOUNTS) (Some (n, rest)) None (lt-ltb n AMOUNTS few)

@@ -18,7 +18,7 @@ use Rattle.mud_cert.specs.Lookup.{label_at}
 use Rattle.mud_cert.specs.inner.Ways.{step_of, steps_of, end_of}
 use Rattle.mud_cert.specs.inner.Tests.{◌or◌, unless, numbers, is_label, is_new, stands, is_started, is_kept}
 use Rattle.mud_cert.specs.inner.Tests.{label_behind}
-use Rattle.mud_cert.specs.inner.Tests.{breaks, broken, locked, given_doubt, member_doubt}
+use Rattle.mud_cert.specs.inner.Tests.{breaks, first_break, first_lock, given_doubt, member_doubt}
 use Rattle.mud_chron.specs.Places.{FailsAt}
 use Rattle.mud_cert.specs.Doubts.{Breaks, IsUnbroken, Holds}
 use Rattle.mud_cert.proofs.Finds.{find-none, find-some}
@@ -160,10 +160,10 @@ given-holds w sound form earlier m d None is e = absurd (cc)
 given-holds w sound form earlier m d (Some walk) is e = go (or-some first (second or third) d e)
   where
     first : Option Doubt
-    first = option_map (λ i. doubts.WalkBroken m.player i) (broken w m.from 1 walk)
+    first = option_map (λ i. doubts.WalkBroken m.player i) (first_break w m.from 1 walk)
 
     second : Option Doubt
-    second = option_map (λ i. doubts.WalkLocked m.player i) (locked w m.player 1 walk)
+    second = option_map (λ i. doubts.WalkLocked m.player i) (first_lock w m.player 1 walk)
 
     labelled : Bool
     labelled = is_label (label_at m (end_of m.from (steps_of w walk))) (total (hop_of form) (steps_of w walk))
@@ -180,7 +180,7 @@ given-holds w sound form earlier m d (Some walk) is e = go (or-some first (secon
 
     last : (first ≡ None) → (second ≡ Some d) ⊎ ((second ≡ None) × (third ≡ Some d)) → Raises w form earlier m d
     last b (inl h) =
-        let r = mapped-some (λ i. doubts.WalkLocked m.player i) (locked w m.player 1 walk) d h in
+        let r = mapped-some (λ i. doubts.WalkLocked m.player i) (first_lock w m.player 1 walk) d h in
         subst (Raises w form earlier m) r.2 (
           refl,
           refl,
@@ -192,13 +192,14 @@ given-holds w sound form earlier m d (Some walk) is e = go (or-some first (secon
         subst (Raises w form earlier m) r.1 (
           refl,
           refl,
-          is-mislabelled w sound form m walk is (none (λ i. doubts.WalkBroken m.player i) (broken w m.from 1 walk) b)
-              (none (λ i. doubts.WalkLocked m.player i) (locked w m.player 1 walk) l) r.0,
+          is-mislabelled w sound form m walk is
+              (none (λ i. doubts.WalkBroken m.player i) (first_break w m.from 1 walk) b)
+              (none (λ i. doubts.WalkLocked m.player i) (first_lock w m.player 1 walk) l) r.0,
         )
 
     go : (first ≡ Some d) ⊎ ((first ≡ None) × ((second or third) ≡ Some d)) → Raises w form earlier m d
     go (inl h) =
-        let r = mapped-some (λ i. doubts.WalkBroken m.player i) (broken w m.from 1 walk) d h in
+        let r = mapped-some (λ i. doubts.WalkBroken m.player i) (first_break w m.from 1 walk) d h in
         subst (Raises w form earlier m) r.2 (
           refl,
           refl,
@@ -259,11 +260,12 @@ member-holds w sound form earlier m d e = one (or-some s1 (s2 or s3 or s4 or s5)
 -- ---- what holds is answered by its own test
 
 abbrev broken-doubt : State → Account → Option (List ℕ) → Option Doubt
-broken-doubt w m o = option_and_then (λ walk. option_map (λ i. doubts.WalkBroken m.player i) (broken w m.from 1 walk)) o
+broken-doubt w m o =
+    option_and_then (λ walk. option_map (λ i. doubts.WalkBroken m.player i) (first_break w m.from 1 walk)) o
 
 abbrev locked-doubt : State → Account → Option (List ℕ) → Option Doubt
 locked-doubt w m o =
-    option_and_then (λ walk. option_map (λ i. doubts.WalkLocked m.player i) (locked w m.player 1 walk)) o
+    option_and_then (λ walk. option_map (λ i. doubts.WalkLocked m.player i) (first_lock w m.player 1 walk)) o
 
 abbrev cost-doubt : State → Form → Account → Option (List ℕ) → Option Doubt
 cost-doubt w form m o = option_and_then
@@ -371,12 +373,14 @@ low-mapped f (Some x) n le = inl (le x)
 low-broken : (w : State) (m : Account) (o : Option (List ℕ)) (n : ℕ) → 5 ≤ n → (top (broken-doubt w m o) ≤ n)
     ⊎ (broken-doubt w m o ≡ None)
 low-broken w m None n le = inr refl
-low-broken w m (Some walk) n le = low-mapped (λ i. doubts.WalkBroken m.player i) (broken w m.from 1 walk) n (λ x. le)
+low-broken w m (Some walk) n le =
+    low-mapped (λ i. doubts.WalkBroken m.player i) (first_break w m.from 1 walk) n (λ x. le)
 
 low-locked : (w : State) (m : Account) (o : Option (List ℕ)) (n : ℕ) → 6 ≤ n → (top (locked-doubt w m o) ≤ n)
     ⊎ (locked-doubt w m o ≡ None)
 low-locked w m None n le = inr refl
-low-locked w m (Some walk) n le = low-mapped (λ i. doubts.WalkLocked m.player i) (locked w m.player 1 walk) n (λ x. le)
+low-locked w m (Some walk) n le =
+    low-mapped (λ i. doubts.WalkLocked m.player i) (first_lock w m.player 1 walk) n (λ x. le)
 
 here-last : (a : Option Doubt) (d : Doubt) → a ≡ Some d → top a ≤ rank d
 here-last None d e = absurd (cc)

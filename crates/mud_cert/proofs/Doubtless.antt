@@ -18,7 +18,8 @@ use Rattle.mud_cert.specs.Certificate.{Account, hop_of}
 use Rattle.mud_cert.specs.declared.doubt.Doubt.{Doubt}
 use Rattle.mud_cert.specs.Lookup.{label_at}
 use Rattle.mud_cert.specs.inner.Ways.{step_of, end_of, steps_of}
-use Rattle.mud_cert.specs.inner.Tests.{is_at_most, is_label, leaves, broken, locked, ◌or◌, unless, numbers, is_kept}
+use Rattle.mud_cert.specs.inner.Tests.{is_at_most, is_label, leaves, first_break, first_lock, ◌or◌, unless, numbers}
+use Rattle.mud_cert.specs.inner.Tests.{is_kept}
 use Rattle.mud_cert.specs.inner.Tests.{label_behind, breaks}
 use Rattle.mud_cert.proofs.Finds.{find-none, find-none-from}
 use Rattle.mud_cert.proofs.Ways.{IsWay, road-at, road-of, road-to, open-source}
@@ -47,19 +48,19 @@ guard true o i e = (refl, e)
 guard false o i e = absurd (cc)
 
 -- walks
-pub walk-from : (w : State) → IsSound w → (p at i j : ℕ) (xs : List ℕ) → broken w at i xs ≡ None
-    → locked w p j xs ≡ None → Walk (roads_of w p) at (steps_of w xs) (end_of at (steps_of w xs))
+pub walk-from : (w : State) → IsSound w → (p at i j : ℕ) (xs : List ℕ) → first_break w at i xs ≡ None
+    → first_lock w p j xs ≡ None → Walk (roads_of w p) at (steps_of w xs) (end_of at (steps_of w xs))
 walk-from w sound p at i j [] b l = refl
 walk-from w sound p at i j (x ∷ xs) b l =
-    let one : (leaves w at x ≡ true) × (broken w (step_of w x).to (i + 1) xs ≡ None) =
-    guard (leaves w at x) (broken w (step_of w x).to (i + 1) xs) i b in
-    let two : (passable w p x ≡ true) × (locked w p (j + 1) xs ≡ None) =
-    guard (passable w p x) (locked w p (j + 1) xs) j l in
+    let one : (leaves w at x ≡ true) × (first_break w (step_of w x).to (i + 1) xs ≡ None) =
+    guard (leaves w at x) (first_break w (step_of w x).to (i + 1) xs) i b in
+    let two : (passable w p x ≡ true) × (first_lock w p (j + 1) xs ≡ None) =
+    guard (passable w p x) (first_lock w p (j + 1) xs) j l in
     (road-to w sound p at x one.0 two.0, walk-from w sound p (step_of w x).to (i + 1) (j + 1) xs one.1 two.1)
 
 pub record IsTaken (w : State) (p at to i j : ℕ) (ss : List Step) : Type 0 where
-  pub unbroken : broken w at i (map (λ (s : Step). s.exit) ss) ≡ None
-  pub unlocked : locked w p j (map (λ (s : Step). s.exit) ss) ≡ None
+  pub unbroken : first_break w at i (map (λ (s : Step). s.exit) ss) ≡ None
+  pub unlocked : first_lock w p j (map (λ (s : Step). s.exit) ss) ≡ None
   pub same : steps_of w (map (λ (s : Step). s.exit) ss) ≡ ss
   pub ends : end_of at ss ≡ to
 
@@ -71,9 +72,9 @@ walk-to w sound p at to i j (s ∷ ss) (c, k) =
     let rest : IsTaken w p s.to to (i + 1) (j + 1) ss = walk-to w sound p s.to to (i + 1) (j + 1) ss k in
     let xs : List ℕ = map (λ (q : Step). q.exit) ss in
     record {
-      unbroken = cond-true (leaves w at s.exit) (broken w (step_of w s.exit).to (i + 1) xs) (Some i) r.leaves
-          ∙ ap (λ (q : Step). broken w q.to (i + 1) xs) r.is ∙ rest.unbroken;
-      unlocked = cond-true (passable w p s.exit) (locked w p (j + 1) xs) (Some j) r.opened ∙ rest.unlocked;
+      unbroken = cond-true (leaves w at s.exit) (first_break w (step_of w s.exit).to (i + 1) xs) (Some i) r.leaves
+          ∙ ap (λ (q : Step). first_break w q.to (i + 1) xs) r.is ∙ rest.unbroken;
+      unlocked = cond-true (passable w p s.exit) (first_lock w p (j + 1) xs) (Some j) r.opened ∙ rest.unlocked;
       same = ap (λ (q : Step). q ∷ steps_of w xs) r.is ∙ ap (λ (qs : List Step). s ∷ qs) rest.same;
       ends = rest.ends;
     }

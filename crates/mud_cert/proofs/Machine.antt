@@ -22,11 +22,12 @@ use Rattle.mud_cert.specs.inner.Opening.{Opening, IsOpening}
 use Rattle.mud_cert.specs.Text.{head_line, walk_line, member_lines, conclusion_line, cert_lines}
 use Rattle.mud_cert.specs.inner.Lines.{version_line, member_line, labels_line, opening_lines, IsEntry}
 use Rattle.mud_cert.specs.inner.Reading.{◌>>=◌, head_at, version_at, member_at, labels_at, walk_at, conclusion_at}
-use Rattle.mud_cert.specs.inner.Stages.{concluded, lines_of, IsStage, suits, conclude, join, next, run}
+use Rattle.mud_cert.specs.inner.Stages.{certificate_with, lines_of, IsStage, suits, conclude, join, next, run}
 use Rattle.mud_cert.proofs.Pieces.{bind_some, says-true}
 use Rattle.mud_cert.proofs.Entries.{IsRead, labels-take, labels-again, walk-takes, walk-again}
 use Rattle.mud_cert.proofs.Heads.{head-takes, head-again, version-takes, version-again, member-takes, member-again}
 use Rattle.mud_cert.proofs.Heads.{member-not, IsWithin, conclusion-takes, conclusion-again}
+use Rattle.mud_world.specs.declared.limits.TheConstants.{MOST_PARTY}
 
 -- ---- limits
 
@@ -71,21 +72,21 @@ account-walks m line walk is e = record {
 
 conclusion-from : (count : ℕ) (c : Conclusion) → IsWithin c → suits count c ≡ true → IsConclusion count c
 conclusion-from count (Route to cost) w s = (eqb-true count 1 s, w.0, w.1)
-conclusion-from count (Meet meeting) w s = let p = and_parts (leb 2 count) (leb count 8) s in
-    (leb-true 2 count p.0, leb-true count 8 p.1, w)
+conclusion-from count (Meet meeting) w s = let p = and_parts (leb 2 count) (leb count MOST_PARTY) s in
+    (leb-true 2 count p.0, leb-true count MOST_PARTY p.1, w)
 
 conclusion-to : (count : ℕ) (c : Conclusion) → IsConclusion count c → IsWithin c × (suits count c ≡ true)
 conclusion-to count (Route to cost) i = ((i.1, i.2), eq-eqb count 1 i.0)
 conclusion-to count (Meet meeting) i =
-    (i.2, and_from (leb 2 count) (leb count 8) (le-leb 2 count i.0) (le-leb count 8 i.1))
+    (i.2, and_from (leb 2 count) (leb count MOST_PARTY) (le-leb 2 count i.0) (le-leb count MOST_PARTY i.1))
 
-at-most-8 : (count : ℕ) (c : Conclusion) → IsConclusion count c → count ≤ 8
+at-most-8 : (count : ℕ) (c : Conclusion) → IsConclusion count c → count ≤ MOST_PARTY
 at-most-8 count (Route to cost) i = omega (arith, i.0)
 at-most-8 count (Meet meeting) i = i.1
 
 -- a conclusion that suits the members makes a certificate
 pub closes : (p : Opening) (c : Conclusion) → IsOpening p → IsWithin c → suits (length p.members) c ≡ true
-    → IsCertificate (concluded p c)
+    → IsCertificate (certificate_with p c)
 closes p c o w s = record {
   version = o.version;
   members = o.members;
@@ -95,8 +96,8 @@ closes p c o w s = record {
 }
 
 -- one more member
-pub joins-party : (p : Opening) (m : Account) → IsOpening p → length p.members < 8 → IsAccount m → CountsBy p.form m
-    → IsOpening (record p { members = p.members ++ m ∷ [] })
+pub joins-party : (p : Opening) (m : Account) → IsOpening p → length p.members < MOST_PARTY → IsAccount m
+    → CountsBy p.form m → IsOpening (record p { members = p.members ++ m ∷ [] })
 joins-party p m o few is counts = record {
   version = o.version;
   members = All-push IsAccount p.members m o.members is;
@@ -144,7 +145,7 @@ conclude-keeps p line t o e = go (conclusion_at line) refl e
         → IsStage t × (lines_of t ≡ party-lines p ++ line ∷ [])
     go None is f = absurd cc
     go (Some c) is f =
-        let g = cond_some (suits (length p.members) c) (Concluded (concluded p c)) t f in
+        let g = cond_some (suits (length p.members) c) (Concluded (certificate_with p c)) t f in
         let k = conclusion-takes line c is in
         subst (λ (u : Stage). IsStage u × (lines_of u ≡ party-lines p ++ line ∷ [])) g.1
         (closes p c o k.1 g.0, ap (λ (l : List ℕ). party-lines p ++ l ∷ []) (sym k.0))
@@ -158,10 +159,12 @@ join-keeps p line t o e = go (member_at line) refl e
         → IsStage t × (lines_of t ≡ party-lines p ++ line ∷ [])
     go None is f = conclude-keeps p line t o f
     go (Some m) is f =
-        let g = cond_some (ltb (length p.members) 8) (Placed p m.0 m.1) t f in
+        let g = cond_some (ltb (length p.members) MOST_PARTY) (Placed p m.0 m.1) t f in
         let k = member-takes line m is in
-        subst (λ (u : Stage). IsStage u × (lines_of u ≡ party-lines p ++ line ∷ [])) g.1
-        ((o, ltb-true (length p.members) 8 g.0, k.1, k.2), ap (λ (l : List ℕ). party-lines p ++ l ∷ []) (sym k.0))
+        subst (λ (u : Stage). IsStage u × (lines_of u ≡ party-lines p ++ line ∷ [])) g.1 (
+          (o, ltb-true (length p.members) MOST_PARTY g.0, k.1, k.2),
+          ap (λ (l : List ℕ). party-lines p ++ l ∷ []) (sym k.0),
+        )
 
 pub next-keeps : (s : Stage) (line : List ℕ) (t : Stage) → IsStage s → next s line ≡ Some t
     → IsStage t × (lines_of t ≡ lines_of s ++ line ∷ [])
@@ -237,7 +240,7 @@ pub run-none : (s : Stage) → run s [] ≡ Some s
 unfolding run
 run-none s = refl
 
-run-member : (p : Opening) (a : Account) (lines : List (List ℕ)) → length p.members < 8
+run-member : (p : Opening) (a : Account) (lines : List (List ℕ)) → length p.members < MOST_PARTY
     → IsAccount a → CountsBy p.form a
     → run (Open p) (member_lines p.form a ++ lines) ≡ run (Open (record p { members = p.members ++ a ∷ [] })) lines
 unfolding next join
@@ -245,8 +248,8 @@ run-member p a lines few is counts =
     let bare : Account = record { player = a.player; from = a.from; labels = a.labels; walk = None } in
     let one : next (Open p) (member_line a.player a.from) ≡ Some (Placed p a.player a.from) =
     ap (λ (o : Option (ℕ × ℕ)). join p o (member_line a.player a.from)) (member-again a.player a.from is.player is.from)
-    ∙ cond-true (ltb (length p.members) 8) (Some (Placed p a.player a.from)) None
-    (lt-ltb (length p.members) 8 few) in
+    ∙ cond-true (ltb (length p.members) MOST_PARTY) (Some (Placed p a.player a.from)) None
+    (lt-ltb (length p.members) MOST_PARTY few) in
     let two : next (Placed p a.player a.from) (labels_line p.form a.labels) ≡ Some (Labelled p bare) =
     ap (λ (o : Option (List (ℕ × Label))). o >>= λ labels. Some
     (Labelled p (record { player = a.player; from = a.from; labels = labels; walk = None })))
@@ -260,35 +263,35 @@ run-member p a lines few is counts =
     ∙ run-then (Labelled p bare) (walk_line a.walk) lines (Open (record p { members = p.members ++ a ∷ [] })) three
 
 run-end : (p : Opening) (c : Conclusion) → IsWithin c → suits (length p.members) c ≡ true
-    → run (Open p) (conclusion_line c ∷ codes "end" ∷ []) ≡ Some (Whole (concluded p c))
+    → run (Open p) (conclusion_line c ∷ codes "end" ∷ []) ≡ Some (Whole (certificate_with p c))
 unfolding next join conclude
 run-end p c w s =
-    let one : next (Open p) (conclusion_line c) ≡ Some (Concluded (concluded p c)) =
+    let one : next (Open p) (conclusion_line c) ≡ Some (Concluded (certificate_with p c)) =
     ap (λ (o : Option (ℕ × ℕ)). join p o (conclusion_line c)) (member-not c) ∙ ap (conclude p) (conclusion-again c w)
-    ∙ cond-true (suits (length p.members) c) (Some (Concluded (concluded p c))) None s in
-    let two : next (Concluded (concluded p c)) (codes "end") ≡ Some (Whole (concluded p c)) = refl in
-    run-then (Open p) (conclusion_line c) (codes "end" ∷ []) (Concluded (concluded p c)) one
-    ∙ run-then (Concluded (concluded p c)) (codes "end") [] (Whole (concluded p c)) two
-    ∙ run-none (Whole (concluded p c))
+    ∙ cond-true (suits (length p.members) c) (Some (Concluded (certificate_with p c))) None s in
+    let two : next (Concluded (certificate_with p c)) (codes "end") ≡ Some (Whole (certificate_with p c)) = refl in
+    run-then (Open p) (conclusion_line c) (codes "end" ∷ []) (Concluded (certificate_with p c)) one
+    ∙ run-then (Concluded (certificate_with p c)) (codes "end") [] (Whole (certificate_with p c)) two
+    ∙ run-none (Whole (certificate_with p c))
 
 run-members : (p : Opening) (team : List Account) (c : Conclusion) → All IsAccount team → All (CountsBy p.form) team
-    → length (p.members ++ team) ≤ 8 → IsWithin c → suits (length (p.members ++ team)) c ≡ true
+    → length (p.members ++ team) ≤ MOST_PARTY → IsWithin c → suits (length (p.members ++ team)) c ≡ true
     → run (Open p) (flat_map (member_lines p.form) team ++ conclusion_line c ∷ codes "end" ∷ []) ≡ Some
-    (Whole (concluded (record p { members = p.members ++ team }) c))
+    (Whole (certificate_with (record p { members = p.members ++ team }) c))
 run-members p [] c are counts few w s =
     let none : p.members ++ [] ≡ p.members = append-nil p.members in
     run-end p c w (subst (λ (ms : List Account). suits (length ms) c ≡ true) none s)
-    ∙ ap (λ (ms : List Account). Some (Whole (concluded (record p { members = ms }) c))) (sym none)
+    ∙ ap (λ (ms : List Account). Some (Whole (certificate_with (record p { members = ms }) c))) (sym none)
 run-members p (a ∷ team) c are counts few w s =
     let regrouped : (p.members ++ a ∷ []) ++ team ≡ p.members ++ a ∷ team = append_assoc p.members (a ∷ []) team in
-    let room : length p.members < 8 = omega (arith, length-append p.members (a ∷ team)) in
+    let room : length p.members < MOST_PARTY = omega (arith, length-append p.members (a ∷ team)) in
     let more : List (List ℕ) = flat_map (member_lines p.form) team ++ conclusion_line c ∷ codes "end" ∷ [] in
     run-member p a more room (All-head IsAccount a team are) (All-head (CountsBy p.form) a team counts)
     ∙ run-members (record p { members = p.members ++ a ∷ [] }) team c (All-tail IsAccount a team are)
     (All-tail (CountsBy p.form) a team counts)
-    (subst (λ (ms : List Account). length ms ≤ 8) (sym regrouped) few) w
+    (subst (λ (ms : List Account). length ms ≤ MOST_PARTY) (sym regrouped) few) w
     (subst (λ (ms : List Account). suits (length ms) c ≡ true) (sym regrouped) s)
-    ∙ ap (λ (ms : List Account). Some (Whole (concluded (record p { members = ms }) c))) regrouped
+    ∙ ap (λ (ms : List Account). Some (Whole (certificate_with (record p { members = ms }) c))) regrouped
 
 -- the lines of a certificate say it
 pub cert-runs : (c : Certificate) → IsCertificate c → run Nothing (cert_lines c) ≡ Some (Whole c)
@@ -337,8 +340,8 @@ begins-concluded c is = shorter (Concluded c) (Whole c) (codes "end") (whole-lin
 begins-with : (p : Opening) (c : Conclusion) → IsOpening p → IsWithin c
     → suits (length p.members) c ≡ true → Starts (lines_of (Open p))
 unfolding lines_of
-begins-with p c o w s = shorter (Open p) (Concluded (concluded p c)) (conclusion_line c) refl
-    (begins-concluded (concluded p c) (closes p c o w s))
+begins-with p c o w s = shorter (Open p) (Concluded (certificate_with p c)) (conclusion_line c) refl
+    (begins-concluded (certificate_with p c) (closes p c o w s))
 
 -- some members, with a conclusion of no way or no room
 begins-some : (p : Opening) → IsOpening p → 0 < length p.members → Starts (lines_of (Open p))
@@ -347,11 +350,11 @@ begins-some p o some = go (cases_eq (length p.members) 1)
     go : (length p.members ≡ 1) ⊎ (length p.members ≡ 1 → ⊥) → Starts (lines_of (Open p))
     go (inl one) = begins-with p (Route 0 None) o (omega arith, tt) (eq-eqb (length p.members) 1 one)
     go (inr more) = begins-with p (Meet None) o tt
-        (and_from (leb 2 (length p.members)) (leb (length p.members) 8) (le-leb 2 (length p.members) (omega arith))
-        (le-leb (length p.members) 8 o.few))
+        (and_from (leb 2 (length p.members)) (leb (length p.members) MOST_PARTY)
+        (le-leb 2 (length p.members) (omega arith)) (le-leb (length p.members) MOST_PARTY o.few))
 
-begins-labelled : (p : Opening) (m : Account) → IsOpening p → length p.members < 8 → IsAccount m → CountsBy p.form m
-    → Starts (lines_of (Labelled p m))
+begins-labelled : (p : Opening) (m : Account) → IsOpening p → length p.members < MOST_PARTY → IsAccount m
+    → CountsBy p.form m → Starts (lines_of (Labelled p m))
 begins-labelled p m o few is counts =
     shorter (Labelled p m) (Open (record p { members = p.members ++ m ∷ [] })) (walk_line m.walk) (joined-lines p m)
     (begins-some (record p { members = p.members ++ m ∷ [] }) (joins-party p m o few is counts)
@@ -362,8 +365,8 @@ no-counts : (form : Form) (player from : ℕ)
 no-counts One player from = All-nil (λ e. e.1.exits ≡ 0)
 no-counts Two player from = tt
 
-begins-placed : (p : Opening) (player from : ℕ) → IsOpening p → length p.members < 8 → IsNumber player → IsNumber from
-    → Starts (lines_of (Placed p player from))
+begins-placed : (p : Opening) (player from : ℕ) → IsOpening p → length p.members < MOST_PARTY → IsNumber player
+    → IsNumber from → Starts (lines_of (Placed p player from))
 begins-placed p player from o few n f =
     let m : Account = record { player = player; from = from; labels = []; walk = None } in
     let is : IsAccount m = record {

@@ -23,7 +23,8 @@ use Rattle.mud_cert.specs.declared.cert.Form.{Form}
 use Rattle.mud_cert.specs.Certificate.{Account, hop_of}
 use Rattle.mud_cert.specs.declared.doubt.Doubt.{Doubt}
 use Rattle.mud_cert.specs.declared.doubt.Doubt.TheVariants as doubts
-use Rattle.mud_cert.specs.inner.Tests.{is_label, broken, locked, ◌or◌, unless, numbers, is_new, stands, is_started}
+use Rattle.mud_cert.specs.inner.Tests.{is_label, first_break, first_lock, ◌or◌, unless, numbers, is_new, stands}
+use Rattle.mud_cert.specs.inner.Tests.{is_started}
 use Rattle.mud_cert.specs.inner.Tests.{breaks}
 use Rattle.mud_cert.specs.inner.Tests.{given_doubt, member_doubt, members_doubt}
 use Rattle.mud_cert.specs.Valid.{States, IsMember}
@@ -69,14 +70,14 @@ given-from w sound form m (Some walk) given e =
     let xs : List ℕ = walk in
     let ss : List Step = steps_of w xs in
     let labelled : Bool = is_label (label_at m (end_of m.from ss)) (total (hop_of form) ss) in
-    let one = or-none (option_map (λ i. doubts.WalkBroken m.player i) (broken w m.from 1 xs))
-    (option_map (λ i. doubts.WalkLocked m.player i) (locked w m.player 1 xs) or unless labelled
+    let one = or-none (option_map (λ i. doubts.WalkBroken m.player i) (first_break w m.from 1 xs))
+    (option_map (λ i. doubts.WalkLocked m.player i) (first_lock w m.player 1 xs) or unless labelled
     (doubts.WalkCost m.player)) e in
-    let two = or-none (option_map (λ i. doubts.WalkLocked m.player i) (locked w m.player 1 xs))
+    let two = or-none (option_map (λ i. doubts.WalkLocked m.player i) (first_lock w m.player 1 xs))
     (unless labelled (doubts.WalkCost m.player)) one.1 in
     let walks = walk-from w sound m.player m.from 1 1 xs
-    (option-none (λ i. doubts.WalkBroken m.player i) (broken w m.from 1 xs) one.0)
-    (option-none (λ i. doubts.WalkLocked m.player i) (locked w m.player 1 xs) two.0) in
+    (option-none (λ i. doubts.WalkBroken m.player i) (first_break w m.from 1 xs) one.0)
+    (option-none (λ i. doubts.WalkLocked m.player i) (first_lock w m.player 1 xs) two.0) in
     inr (
       end_of m.from ss,
       ss,
@@ -91,19 +92,19 @@ given-to w sound form m (inl none) = ap (given_doubt w form m) none
 given-to w sound form m (inr (to, ss, states, label)) =
     let t : IsTaken w m.player m.from to 1 1 ss = walk-to w sound m.player m.from to 1 1 ss states.walk in
     let xs : List ℕ = exits_of ss in
-    let b : option_map (λ n. doubts.WalkBroken m.player n) (broken w m.from 1 xs) ≡ None =
+    let b : option_map (λ n. doubts.WalkBroken m.player n) (first_break w m.from 1 xs) ≡ None =
     ap (λ o. option_map (λ n. doubts.WalkBroken m.player n) o) t.unbroken in
-    let l : option_map (λ n. doubts.WalkLocked m.player n) (locked w m.player 1 xs) ≡ None =
+    let l : option_map (λ n. doubts.WalkLocked m.player n) (first_lock w m.player 1 xs) ≡ None =
     ap (λ o. option_map (λ n. doubts.WalkLocked m.player n) o) t.unlocked in
     let labelled : List Step → Bool = λ ss. is_label (label_at m (end_of m.from ss)) (total (hop_of form) ss) in
     let last : labelled (steps_of w xs) ≡ true =
     ap labelled t.same ∙ ap (λ r. is_label (label_at m r) (total (hop_of form) ss)) t.ends
     ∙ is-label (label_at m to) (total (hop_of form) ss) label in
     ap (given_doubt w form m) states.stated
-    ∙ or-both (option_map (λ n. doubts.WalkBroken m.player n) (broken w m.from 1 xs))
-    (option_map (λ n. doubts.WalkLocked m.player n) (locked w m.player 1 xs) or unless (labelled (steps_of w xs))
+    ∙ or-both (option_map (λ n. doubts.WalkBroken m.player n) (first_break w m.from 1 xs))
+    (option_map (λ n. doubts.WalkLocked m.player n) (first_lock w m.player 1 xs) or unless (labelled (steps_of w xs))
     (doubts.WalkCost m.player)) b
-    (or-both (option_map (λ n. doubts.WalkLocked m.player n) (locked w m.player 1 xs))
+    (or-both (option_map (λ n. doubts.WalkLocked m.player n) (first_lock w m.player 1 xs))
     (unless (labelled (steps_of w xs)) (doubts.WalkCost m.player)) l
     (unless-from (labelled (steps_of w xs)) (doubts.WalkCost m.player) last))
 

@@ -10,6 +10,8 @@ use Rattle.std.proofs.lemmas.List.{append-nil}
 use Rattle.std.proofs.lemmas.List.Elements.{All-nil, All-cons, All-head, All-tail}
 use Rattle.std.proofs.lemmas.Slice.Eq.{bytes_eq-Decides}
 use Rattle.std.specs.Str.{bytes_eq}
+use Rattle.mud_key.specs.declared.limits.TheConstants.{LAST_NUMBER}
+use Rattle.mud_cert.specs.declared.limits.TheConstants.{AMOUNTS}
 use Rattle.mud_cert.specs.inner.Reading.{◌>>=◌, after, is_digit, digits_on, number_at, object_at, whole, pieces_at}
 use Rattle.mud_cert.proofs.Digits.{number-takes, number-again}
 
@@ -85,28 +87,31 @@ stops : (n : ℕ) (rest : List ℕ) → NoDigit rest → digits_on n rest ≡ (n
 stops n [] h = refl
 stops n (b ∷ bs) h = cond-false (is_digit b) _ _ h
 
-pub number-read : (n : ℕ) (rest : List ℕ) → n < 1000000000 → NoDigit rest
+pub number-read : (n : ℕ) (rest : List ℕ) → n < AMOUNTS → NoDigit rest
     → number_at (decimal n ++ rest) ≡ Some (n, rest)
 number-read n rest few h = number-again n rest few (stops n rest h)
 
-pub number-alone : (n : ℕ) → n < 1000000000 → number_at (decimal n) ≡ Some (n, [])
+pub number-alone : (n : ℕ) → n < AMOUNTS → number_at (decimal n) ≡ Some (n, [])
 number-alone n few = ap number_at (sym (append-nil (decimal n))) ∙ number-read n [] few tt
 
 pub object-takes : (bytes : List ℕ) (q : ℕ × List ℕ) → object_at bytes ≡ Some q
-    → (bytes ≡ decimal q.0 ++ q.1) × (q.0 ≤ 8191)
+    → (bytes ≡ decimal q.0 ++ q.1) × (q.0 ≤ LAST_NUMBER)
 unfolding object_at
 object-takes bytes q e =
-    let b = bind_some (number_at bytes) (λ n. cond (leb n.0 8191) (Some n) None) q e in
+    let b = bind_some (number_at bytes) (λ n. cond (leb n.0 LAST_NUMBER) (Some n) None) q e in
     let t = number-takes bytes b.0 b.1 in
-    let g = cond_some (leb b.0.0 8191) b.0 q b.2 in
-    subst (λ (p : ℕ × List ℕ). (bytes ≡ decimal p.0 ++ p.1) × (p.0 ≤ 8191)) g.1 (t.0, leb-true b.0.0 8191 g.0)
+    let g = cond_some (leb b.0.0 LAST_NUMBER) b.0 q b.2 in
+    subst (λ (p : ℕ × List ℕ). (bytes ≡ decimal p.0 ++ p.1) × (p.0 ≤ LAST_NUMBER)) g.1
+    (t.0, leb-true b.0.0 LAST_NUMBER g.0)
 
-pub object-read : (n : ℕ) (rest : List ℕ) → n ≤ 8191 → NoDigit rest → object_at (decimal n ++ rest) ≡ Some (n, rest)
+pub object-read : (n : ℕ) (rest : List ℕ) → n ≤ LAST_NUMBER → NoDigit rest
+    → object_at (decimal n ++ rest) ≡ Some (n, rest)
 unfolding object_at
 object-read n rest low h =
-    rw (number-read n rest (omega arith) h) (cond-true (leb n 8191) (Some (n, rest)) None (le-leb n 8191 low))
+    rw (number-read n rest (omega arith) h)
+    (cond-true (leb n LAST_NUMBER) (Some (n, rest)) None (le-leb n LAST_NUMBER low))
 
-pub object-alone : (n : ℕ) → n ≤ 8191 → object_at (decimal n) ≡ Some (n, [])
+pub object-alone : (n : ℕ) → n ≤ LAST_NUMBER → object_at (decimal n) ≡ Some (n, [])
 object-alone n low = ap object_at (sym (append-nil (decimal n))) ∙ object-read n [] low tt
 
 -- ---- pieces

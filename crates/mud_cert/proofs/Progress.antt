@@ -9,12 +9,13 @@ use Rattle.std.proofs.lemmas.List.Concat.{flat_map-append}
 use Rattle.std.proofs.lemmas.List.Elements.{All-nil, All-cons, All-head, All-tail, All-push, All-take}
 use Rattle.std.proofs.Math.Seq.{take-append_seam}
 use Rattle.std.proofs.lemmas.List.{take-append-drop, length-take-le}
+use Rattle.mud_chron.specs.declared.codes.TheConstants.{LF}
 use Rattle.mud_cert.specs.declared.fault.CertFault.TheVariants.{BadLine}
 use Rattle.mud_cert.specs.declared.stage.Stage.{Stage}
 use Rattle.mud_cert.specs.declared.stage.Stage.TheVariants.{Nothing, Headed, Open, Placed, Labelled, Concluded, Whole}
 use Rattle.mud_cert.specs.Certificate.{Certificate, IsCertificate}
 use Rattle.mud_cert.specs.Text.{text_of, conclusion_line, cert_lines, cert_text}
-use Rattle.mud_cert.specs.inner.Lines.{opening_lines, ended}
+use Rattle.mud_cert.specs.inner.Lines.{opening_lines, with_line_feed}
 use Rattle.mud_cert.specs.Faults.{IsLine, Begins, IsBadLine}
 use Rattle.mud_cert.specs.TextLaws.{OneCertificate, OneBadLine, EndsWithLf}
 use Rattle.mud_cert.specs.inner.Reading.{after, head_at, version_at, member_at, labels_at, walk_at, route_at}
@@ -50,17 +51,17 @@ reads-start bytes = record {
 }
 
 pub reads-more : (bytes rest : List ℕ) (n : ℕ) (s t : Stage) (line behind : List ℕ) → Reads bytes rest n s → IsLine line
-    → rest ≡ line ++ 10 ∷ behind → next s line ≡ Some t → Reads bytes behind (n + 1) t
+    → rest ≡ line ++ LF ∷ behind → next s line ≡ Some t → Reads bytes behind (n + 1) t
 reads-more bytes rest n s t line behind r is e f =
     let k = next-keeps s line t r.keeps f in
     record {
       front = r.front ++ line ∷ [];
       parts = r.parts
           ∙ ap (λ (x : List ℕ). text_of r.front ++ x)
-          (e ∙ sym (append_assoc line (10 ∷ []) behind) ∙ ap (λ (x : List ℕ). x ++ behind)
-          (sym (append-nil (ended line))))
+          (e ∙ sym (append_assoc line (LF ∷ []) behind) ∙ ap (λ (x : List ℕ). x ++ behind)
+          (sym (append-nil (with_line_feed line))))
           ∙ sym (append_assoc (text_of r.front) (text_of (line ∷ [])) behind)
-          ∙ ap (λ (x : List ℕ). x ++ behind) (sym (flat_map-append ended r.front (line ∷ [])));
+          ∙ ap (λ (x : List ℕ). x ++ behind) (sym (flat_map-append with_line_feed r.front (line ∷ [])));
       lines = All-push IsLine r.front line r.lines is;
       place = omega (arith, length-append r.front (line ∷ []), r.place);
       runs = run-append Nothing r.front (line ∷ []) s r.runs ∙ run-then s line [] t f ∙ run-none t;
@@ -71,7 +72,7 @@ reads-more bytes rest n s t line behind r is e f =
 -- lines are no longer than their text
 short : (lines : List (List ℕ)) → length lines ≤ length (text_of lines)
 short [] = omega arith
-short (l ∷ ls) = omega (arith, short ls, length-append (ended l) (text_of ls), length-append l (10 ∷ []))
+short (l ∷ ls) = omega (arith, short ls, length-append (with_line_feed l) (text_of ls), length-append l (LF ∷ []))
 
 pub reads-few : (bytes rest : List ℕ) (n : ℕ) (s : Stage) → Reads bytes rest n s → n + length rest ≤ length bytes + 1
 reads-few bytes rest n s r =
@@ -114,7 +115,7 @@ bad-ends front s line runs none b =
 
 bad-fails : (front : List (List ℕ)) (rest : List ℕ) (s : Stage) (c : Certificate)
     → IsCertificate c → run Nothing front ≡ Some s
-    → ((line behind : List ℕ) → IsLine line → rest ≡ line ++ 10 ∷ behind → next s line ≡ None)
+    → ((line behind : List ℕ) → IsLine line → rest ≡ line ++ LF ∷ behind → next s line ≡ None)
     → ((d : Certificate) → s ≡ Whole d → rest ≡ [] → ⊥)
     → (more : List (List ℕ)) → cert_lines c ≡ front ++ more → rest ≡ text_of more ++ [] → ⊥
 bad-fails front rest s c is runs none some [] e f =
@@ -123,8 +124,8 @@ bad-fails front rest s c is runs none some [] e f =
     let whole : s ≡ Whole c = cc (at) in
     some c whole f
 bad-fails front rest s c is runs none some (l ∷ more) e f =
-    let parts : rest ≡ l ++ 10 ∷ text_of more =
-    f ∙ append-nil (text_of (l ∷ more)) ∙ append_assoc l (10 ∷ []) (text_of more) in
+    let parts : rest ≡ l ++ LF ∷ text_of more =
+    f ∙ append-nil (text_of (l ∷ more)) ∙ append_assoc l (LF ∷ []) (text_of more) in
     let regrouped : cert_lines c ≡ (front ++ l ∷ []) ++ more = e ∙ sym (append_assoc front (l ∷ []) more) in
     let line : IsLine l = middle front l more (subst (All IsLine) e (cert-lines c is)) in
     bad-ends front s l runs (none l (text_of more) line parts)
@@ -141,7 +142,7 @@ begins front rest b =
 
 -- a stage with which no line goes on, and that is not the whole, is at a bad line
 pub reads-bad : (bytes rest : List ℕ) (n : ℕ) (s : Stage) → Reads bytes rest n s
-    → ((line behind : List ℕ) → IsLine line → rest ≡ line ++ 10 ∷ behind → next s line ≡ None)
+    → ((line behind : List ℕ) → IsLine line → rest ≡ line ++ LF ∷ behind → next s line ≡ None)
     → ((c : Certificate) → s ≡ Whole c → rest ≡ [] → ⊥)
     → IsBadLine bytes n
 reads-bad bytes rest n s r none some = (
@@ -179,11 +180,11 @@ reads-bad bytes rest n s r none some = (
 
 -- a line that is refused is bad
 pub reads-refused : (bytes rest : List ℕ) (n : ℕ) (s : Stage) (line behind : List ℕ) → Reads bytes rest n s
-    → IsLine line → rest ≡ line ++ 10 ∷ behind → next s line ≡ None → IsBadLine bytes n
+    → IsLine line → rest ≡ line ++ LF ∷ behind → next s line ≡ None → IsBadLine bytes n
 reads-refused bytes rest n s line behind r is e f =
     reads-bad bytes rest n s r
     (λ l b i g. let same = cut line l behind b is i (sym e ∙ g) in subst (λ (x : List ℕ). next s x ≡ None) same.0 f)
-    (λ c w h. uncut [] line behind (All-nil (λ x. x ≢ 10)) (sym h ∙ e))
+    (λ c w h. uncut [] line behind (All-nil (λ x. x ≢ LF)) (sym h ∙ e))
 
 -- a line that is not ended is bad, where something stands there or more lines are wanted
 pub reads-unended : (bytes rest : List ℕ) (n : ℕ) (s : Stage) → Reads bytes rest n s → IsLine rest
@@ -226,8 +227,8 @@ fewer [] (suc m) (suc j) rest le = (rest, refl)
 fewer (l ∷ lines) (suc m) (suc j) rest le =
     let r = fewer lines m j rest (omega (arith, le)) in (
       r.0,
-      append_assoc (ended l) (text_of (take j lines)) rest ∙ ap (λ (t : List ℕ). ended l ++ t) r.1
-          ∙ sym (append_assoc (ended l) (text_of (take m lines)) r.0),
+      append_assoc (with_line_feed l) (text_of (take j lines)) rest ∙ ap (λ (t : List ℕ). with_line_feed l ++ t) r.1
+          ∙ sym (append_assoc (with_line_feed l) (text_of (take m lines)) r.0),
     )
 
 later : (bytes : List ℕ) (m n : ℕ) → IsBadLine bytes m → IsBadLine bytes n → m < n → ⊥
@@ -252,6 +253,7 @@ ends-with-lf c =
     (append_assoc (opening_lines c.form c.version c.members)
     (conclusion_line c.conclusion ∷ []) (codes "end" ∷ [])) in (
       text_of front ++ codes "end",
-      ap text_of lines ∙ flat_map-append ended front (codes "end" ∷ []) ∙ ap (λ (x : List ℕ). text_of front ++ x)
-          (append-nil (ended (codes "end"))) ∙ sym (append_assoc (text_of front) (codes "end") (10 ∷ [])),
+      ap text_of lines ∙ flat_map-append with_line_feed front (codes "end" ∷ [])
+          ∙ ap (λ (x : List ℕ). text_of front ++ x) (append-nil (with_line_feed (codes "end")))
+          ∙ sym (append_assoc (text_of front) (codes "end") (LF ∷ [])),
     )

@@ -8,6 +8,7 @@ use Rattle.std.proofs.lemmas.Bool.{cases_lt, and_parts, leb-true}
 use Rattle.std.proofs.lemmas.Fmt.{decimal_by_steps}
 use Rattle.std.proofs.lemmas.List.{append-nil}
 use Rattle.std.proofs.lemmas.List.Elements.{All-nil, All-cons, All-head, All-tail, All-append}
+use Rattle.mud_chron.specs.declared.codes.TheConstants.{LF, CR}
 use Rattle.mud_roads.specs.declared.label.Label.{Label}
 use Rattle.mud_cert.specs.declared.cert.Form.{Form}
 use Rattle.mud_cert.specs.declared.cert.Form.TheVariants.{One, Two}
@@ -16,42 +17,42 @@ use Rattle.mud_cert.specs.declared.cert.Conclusion.TheVariants.{Route, Meet}
 use Rattle.mud_cert.specs.Certificate.{Account, Certificate, IsNumber, IsAmount, IsAccount, IsConclusion, IsCertificate}
 use Rattle.mud_cert.specs.Text.{text_of, head_line, entry_text, walk_line, member_lines, conclusion_line, cert_lines}
 use Rattle.mud_cert.specs.Text.{cert_text}
-use Rattle.mud_cert.specs.inner.Lines.{version_line, member_line, labels_line, IsEntry, ended, exit_text}
+use Rattle.mud_cert.specs.inner.Lines.{version_line, member_line, labels_line, IsEntry, with_line_feed, exit_text}
 use Rattle.mud_cert.specs.Faults.{IsLine}
 use Rattle.mud_cert.specs.TextLaws.{HasNoReturn}
 
 abbrev Apart : ℕ → Type 0
-Apart b = b ≢ 10
+Apart b = b ≢ LF
 
 -- ---- one split
 
 -- what stands before the first LF, and after it
-pub cut : (a b x y : List ℕ) → IsLine a → IsLine b → a ++ 10 ∷ x ≡ b ++ 10 ∷ y → (a ≡ b) × (x ≡ y)
+pub cut : (a b x y : List ℕ) → IsLine a → IsLine b → a ++ LF ∷ x ≡ b ++ LF ∷ y → (a ≡ b) × (x ≡ y)
 cut [] [] x y la lb e = (refl, cc)
 cut [] (c ∷ b) x y la lb e =
-    let at : c ≡ 10 = cc in
+    let at : c ≡ LF = cc in
     absurd (All-head Apart c b lb at)
 cut (c ∷ a) [] x y la lb e =
-    let at : c ≡ 10 = cc in
+    let at : c ≡ LF = cc in
     absurd (All-head Apart c a la at)
 cut (c ∷ a) (d ∷ b) x y la lb e =
     let heads : c ≡ d = cc in
-    let tails : a ++ 10 ∷ x ≡ b ++ 10 ∷ y = cc in
+    let tails : a ++ LF ∷ x ≡ b ++ LF ∷ y = cc in
     let more = cut a b x y (All-tail Apart c a la) (All-tail Apart d b lb) tails in
     (cc (more.0), more.1)
 
 -- a line has no LF
-pub uncut : (rest a x : List ℕ) → IsLine rest → rest ≡ a ++ 10 ∷ x → ⊥
+pub uncut : (rest a x : List ℕ) → IsLine rest → rest ≡ a ++ LF ∷ x → ⊥
 uncut [] [] x l e = absurd cc
 uncut [] (c ∷ a) x l e = absurd cc
-uncut (b ∷ bs) [] x l e = let at : b ≡ 10 = cc in All-head Apart b bs l at
-uncut (b ∷ bs) (c ∷ a) x l e = let tails : bs ≡ a ++ 10 ∷ x = cc in uncut bs a x (All-tail Apart b bs l) tails
+uncut (b ∷ bs) [] x l e = let at : b ≡ LF = cc in All-head Apart b bs l at
+uncut (b ∷ bs) (c ∷ a) x l e = let tails : bs ≡ a ++ LF ∷ x = cc in uncut bs a x (All-tail Apart b bs l) tails
 
-line-then : (l : List ℕ) (r : List ℕ) → ended l ++ r ≡ l ++ 10 ∷ r
-line-then l r = append_assoc l (10 ∷ []) r
+line-then : (l : List ℕ) (r : List ℕ) → with_line_feed l ++ r ≡ l ++ LF ∷ r
+line-then l r = append_assoc l (LF ∷ []) r
 
-pub text-then : (l : List ℕ) (ls : List (List ℕ)) (r : List ℕ) → text_of (l ∷ ls) ++ r ≡ l ++ 10 ∷ (text_of ls ++ r)
-text-then l ls r = append_assoc (ended l) (text_of ls) r ∙ line-then l (text_of ls ++ r)
+pub text-then : (l : List ℕ) (ls : List (List ℕ)) (r : List ℕ) → text_of (l ∷ ls) ++ r ≡ l ++ LF ∷ (text_of ls ++ r)
+text-then l ls r = append_assoc (with_line_feed l) (text_of ls) r ∙ line-then l (text_of ls ++ r)
 
 -- the longer of two splits goes on from the shorter
 pub record GoesOn (front other : List (List ℕ)) (rest behind : List ℕ) : Type 0 where
@@ -64,7 +65,7 @@ pub split-longer : (front other : List (List ℕ)) (rest behind : List ℕ) → 
 split-longer [] other rest behind lf lo e le = record { more = other; lines_are = refl; rest_is = e }
 split-longer (l ∷ front) [] rest behind lf lo e le = absurd (omega arith)
 split-longer (l ∷ front) (m ∷ other) rest behind lf lo e le =
-    let both : l ++ 10 ∷ (text_of front ++ rest) ≡ m ++ 10 ∷ (text_of other ++ behind) =
+    let both : l ++ LF ∷ (text_of front ++ rest) ≡ m ++ LF ∷ (text_of other ++ behind) =
     sym (text-then l front rest) ∙ e ∙ text-then m other behind in
     let c = cut l m (text_of front ++ rest) (text_of other ++ behind) (All-head IsLine l front lf)
     (All-head IsLine m other lo) both in
@@ -76,7 +77,7 @@ split-longer (l ∷ front) (m ∷ other) rest behind lf lo e le =
 pub no-lines : (ls : List (List ℕ)) (r : List ℕ) → [] ≡ text_of ls ++ r → ls ≡ []
 no-lines [] r e = refl
 no-lines (l ∷ ls) r e =
-    let both : [] ≡ l ++ 10 ∷ (text_of ls ++ r) = e ∙ text-then l ls r in
+    let both : [] ≡ l ++ LF ∷ (text_of ls ++ r) = e ∙ text-then l ls r in
     absurd (uncut [] l (text_of ls ++ r) (All-nil Apart) both)
 
 -- a whole text goes on from each front of it
@@ -219,20 +220,20 @@ plain-lines c is =
 
 -- what is plain has no LF
 line-of : (line : List ℕ) → ArePlain line → IsLine line
-line-of line plain = λ i d lt. λ (same : get_or line i d ≡ 10). omega (arith, plain i d lt, same)
+line-of line plain = λ i d lt. λ (same : get_or line i d ≡ LF). omega (arith, plain i d lt, same)
 
 pub cert-lines : (c : Certificate) → IsCertificate c → All IsLine (cert_lines c)
 cert-lines c is = λ i d lt. line-of (get_or (cert_lines c) i d) (plain-lines c is i d lt)
 
 -- plain lines with their LFs have no CR
-no-returns : (lines : List (List ℕ)) → All ArePlain lines → All (λ b. b ≢ 13) (text_of lines)
-no-returns [] plain = All-nil (λ b. b ≢ 13)
+no-returns : (lines : List (List ℕ)) → All ArePlain lines → All (λ b. b ≢ CR) (text_of lines)
+no-returns [] plain = All-nil (λ b. b ≢ CR)
 no-returns (l ∷ ls) plain =
-    let P : ℕ → Type 0 = λ b. b ≢ 13 in
+    let P : ℕ → Type 0 = λ b. b ≢ CR in
     let one : ArePlain l = All-head ArePlain l ls plain in
-    All-append P (ended l) (text_of ls)
-    (All-append P l (10 ∷ []) (λ i d lt. λ (same : get_or l i d ≡ 13). omega (arith, one i d lt, same))
-    (All-cons P 10 [] (λ (same : 10 ≡ 13). omega (arith, same)) (All-nil P)))
+    All-append P (with_line_feed l) (text_of ls)
+    (All-append P l (LF ∷ []) (λ i d lt. λ (same : get_or l i d ≡ CR). omega (arith, one i d lt, same))
+    (All-cons P LF [] (λ (same : LF ≡ CR). omega (arith, same)) (All-nil P)))
     (no-returns ls (All-tail ArePlain l ls plain))
 
 pub has-no-return : HasNoReturn

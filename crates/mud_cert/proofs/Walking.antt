@@ -15,7 +15,7 @@ use Rattle.mud_cert.specs.declared.cert.Form.{Form}
 use Rattle.mud_cert.specs.Certificate.{Account, hop_of}
 use Rattle.mud_cert.specs.Lookup.{label_at}
 use Rattle.mud_cert.specs.inner.Ways.{step_of, steps_of, end_of}
-use Rattle.mud_cert.specs.inner.Tests.{is_label, leaves, broken, locked}
+use Rattle.mud_cert.specs.inner.Tests.{is_label, leaves, first_break, first_lock}
 use Rattle.mud_cert.specs.Valid.{States}
 use Rattle.mud_chron.specs.Places.{FailsAt}
 use Rattle.mud_cert.specs.Doubts.{IsUnbroken}
@@ -44,19 +44,19 @@ record Fails (IsSo : List ℕ → Type 0) (walk : List ℕ) (first place : ℕ) 
 
 -- ---- an exit that doesn't leave where the walk stands
 
-broken-some : (w : State) (from : ℕ) (walk : List ℕ) (first place : ℕ) → broken w from first walk ≡ Some place
+broken-some : (w : State) (from : ℕ) (walk : List ℕ) (first place : ℕ) → first_break w from first walk ≡ Some place
     → Fails (IsUnbroken w from) walk first place
 broken-some w from [] first place e = absurd (cc)
 broken-some w from (x ∷ xs) first place e =
     go (cases_Bool (leaves w from x)) (broken-some w (step_of w x).to xs (first + 1) place)
   where
     go : (leaves w from x ≡ true) ⊎ (leaves w from x ≡ false)
-        → (broken w (step_of w x).to (first + 1) xs ≡ Some place
+        → (first_break w (step_of w x).to (first + 1) xs ≡ Some place
         → Fails (IsUnbroken w (step_of w x).to) xs (first + 1) place)
         → Fails (IsUnbroken w from) (x ∷ xs) first place
     go (inl t) more =
         let r = more
-        (sym (cond-true (leaves w from x) (broken w (step_of w x).to (first + 1) xs) (Some first) t) ∙ e) in
+        (sym (cond-true (leaves w from x) (first_break w (step_of w x).to (first + 1) xs) (Some first) t) ∙ e) in
         let q : (a : Passage) × (passage_of w x ≡ Some a) × (a.source ≡ from) =
         source-passage w from x (leaves-source w from x t) in
         record {
@@ -68,7 +68,7 @@ broken-some w from (x ∷ xs) first place e =
         }
     go (inr f) more =
         let found : Some first ≡ Some place =
-        sym (cond-false (leaves w from x) (broken w (step_of w x).to (first + 1) xs) (Some first) f) ∙ e in
+        sym (cond-false (leaves w from x) (first_break w (step_of w x).to (first + 1) xs) (Some first) f) ∙ e in
         let same : first ≡ place = cc in
         record {
           count = 0;
@@ -81,26 +81,26 @@ broken-some w from (x ∷ xs) first place e =
 
 broken-is : (w : State) (from : ℕ) (walk : List ℕ) (first n : ℕ) → IsUnbroken w from (take n walk)
     → (IsUnbroken w from (take (suc n) walk) → ⊥)
-    → broken w from first walk ≡ Some (n + first)
+    → first_break w from first walk ≡ Some (n + first)
 broken-is w from [] first zero so fails = absurd (fails tt)
 broken-is w from [] first (suc n) so fails = absurd (fails tt)
 broken-is w from (x ∷ xs) first zero so fails = go (cases_Bool (leaves w from x))
   where
-    go : (leaves w from x ≡ true) ⊎ (leaves w from x ≡ false) → broken w from first (x ∷ xs) ≡ Some (0 + first)
+    go : (leaves w from x ≡ true) ⊎ (leaves w from x ≡ false) → first_break w from first (x ∷ xs) ≡ Some (0 + first)
     go (inl t) = let q = source-passage w from x (leaves-source w from x t) in absurd (fails (q.0, q.1, q.2, tt))
     go (inr f) =
         let count : first ≡ 0 + first = omega arith in
-        cond-false (leaves w from x) (broken w (step_of w x).to (first + 1) xs) (Some first) f ∙ ap Some count
+        cond-false (leaves w from x) (first_break w (step_of w x).to (first + 1) xs) (Some first) f ∙ ap Some count
 broken-is w from (x ∷ xs) first (suc n) (a, e, source, so) fails =
     let goes : leaves w from x ≡ true = leaves-to w from x (source-of w x a e ∙ ap Some source) in
     let more = broken-is w a.destination xs (first + 1) n so (λ rest. fails (a, e, source, rest)) in
     let count : n + (first + 1) ≡ suc n + first = omega arith in
-    cond-true (leaves w from x) (broken w (step_of w x).to (first + 1) xs) (Some first) goes
-    ∙ ap (λ room. broken w room (first + 1) xs) (step-leads w x a e) ∙ more ∙ ap Some count
+    cond-true (leaves w from x) (first_break w (step_of w x).to (first + 1) xs) (Some first) goes
+    ∙ ap (λ room. first_break w room (first + 1) xs) (step-leads w x a e) ∙ more ∙ ap Some count
 
 -- ---- an exit that isn't open
 
-locked-some : (w : State) (p : ℕ) (walk : List ℕ) (first place : ℕ) → locked w p first walk ≡ Some place
+locked-some : (w : State) (p : ℕ) (walk : List ℕ) (first place : ℕ) → first_lock w p first walk ≡ Some place
     → Fails (All (λ x. passable w p x ≡ true)) walk first place
 locked-some w p [] first place e = absurd (cc)
 locked-some w p (x ∷ xs) first place e = go (cases_Bool (passable w p x)) (locked-some w p xs (first + 1) place)
@@ -109,10 +109,10 @@ locked-some w p (x ∷ xs) first place e = go (cases_Bool (passable w p x)) (loc
     P n = passable w p n ≡ true
 
     go : (passable w p x ≡ true) ⊎ (passable w p x ≡ false)
-        → (locked w p (first + 1) xs ≡ Some place → Fails (All P) xs (first + 1) place)
+        → (first_lock w p (first + 1) xs ≡ Some place → Fails (All P) xs (first + 1) place)
         → Fails (All P) (x ∷ xs) first place
     go (inl t) more =
-        let r = more (sym (cond-true (passable w p x) (locked w p (first + 1) xs) (Some first) t) ∙ e) in
+        let r = more (sym (cond-true (passable w p x) (first_lock w p (first + 1) xs) (Some first) t) ∙ e) in
         record {
           count = suc r.count;
           number = omega (arith, r.number);
@@ -121,7 +121,7 @@ locked-some w p (x ∷ xs) first place e = go (cases_Bool (passable w p x)) (loc
         }
     go (inr f) more =
         let found : Some first ≡ Some place =
-        sym (cond-false (passable w p x) (locked w p (first + 1) xs) (Some first) f) ∙ e in
+        sym (cond-false (passable w p x) (first_lock w p (first + 1) xs) (Some first) f) ∙ e in
         let same : first ≡ place = cc in
         record {
           count = 0;
@@ -132,21 +132,21 @@ locked-some w p (x ∷ xs) first place e = go (cases_Bool (passable w p x)) (loc
 
 locked-is : (w : State) (p : ℕ) (walk : List ℕ) (first n : ℕ) → All (λ x. passable w p x ≡ true) (take n walk)
     → (All (λ x. passable w p x ≡ true) (take (suc n) walk) → ⊥)
-    → locked w p first walk ≡ Some (n + first)
+    → first_lock w p first walk ≡ Some (n + first)
 locked-is w p [] first zero so fails = absurd (fails so)
 locked-is w p [] first (suc n) so fails = absurd (fails so)
 locked-is w p (x ∷ xs) first zero so fails = go (cases_Bool (passable w p x))
   where
-    go : (passable w p x ≡ true) ⊎ (passable w p x ≡ false) → locked w p first (x ∷ xs) ≡ Some (0 + first)
+    go : (passable w p x ≡ true) ⊎ (passable w p x ≡ false) → first_lock w p first (x ∷ xs) ≡ Some (0 + first)
     go (inl t) = let P : ℕ → Type 0 = λ n. passable w p n ≡ true in absurd (fails (All-cons P x [] t (All-nil P)))
     go (inr f) =
         let count : first ≡ 0 + first = omega arith in
-        cond-false (passable w p x) (locked w p (first + 1) xs) (Some first) f ∙ ap Some count
+        cond-false (passable w p x) (first_lock w p (first + 1) xs) (Some first) f ∙ ap Some count
 locked-is w p (x ∷ xs) first (suc n) so fails =
     let P : ℕ → Type 0 = λ n. passable w p n ≡ true in
     let t : P x = All-head P x (take n xs) so in
     let count : n + (first + 1) ≡ suc n + first = omega arith in
-    cond-true (passable w p x) (locked w p (first + 1) xs) (Some first) t
+    cond-true (passable w p x) (first_lock w p (first + 1) xs) (Some first) t
     ∙ locked-is w p xs (first + 1) n (All-tail P x (take n xs) so)
     (λ rest. fails (All-cons P x (take (suc n) xs) t rest)) ∙ ap Some count
 
@@ -158,23 +158,23 @@ stated IsSo walk place r =
     let next : place ≡ suc r.count = omega (arith, r.number) in
     (r.count, r.number, r.so, λ so. r.fails (subst (λ n. IsSo (take n walk)) next so))
 
-pub broken-from : (w : State) (from : ℕ) (walk : List ℕ) (place : ℕ) → broken w from 1 walk ≡ Some place
+pub broken-from : (w : State) (from : ℕ) (walk : List ℕ) (place : ℕ) → first_break w from 1 walk ≡ Some place
     → FailsAt (λ k. IsUnbroken w from (take k walk)) place
 broken-from w from walk place e = stated (IsUnbroken w from) walk place (broken-some w from walk 1 place e)
 
 pub broken-to : (w : State) (from : ℕ) (walk : List ℕ) (place : ℕ)
-    → FailsAt (λ k. IsUnbroken w from (take k walk)) place → broken w from 1 walk ≡ Some place
+    → FailsAt (λ k. IsUnbroken w from (take k walk)) place → first_break w from 1 walk ≡ Some place
 broken-to w from walk place (n, is, so, fails) =
     let next : suc n ≡ place = omega (arith, is) in
     broken-is w from walk 1 n so (λ rest. fails (subst (λ k. IsUnbroken w from (take k walk)) next rest))
     ∙ ap Some (sym is)
 
-pub locked-from : (w : State) (p : ℕ) (walk : List ℕ) (place : ℕ) → locked w p 1 walk ≡ Some place
+pub locked-from : (w : State) (p : ℕ) (walk : List ℕ) (place : ℕ) → first_lock w p 1 walk ≡ Some place
     → FailsAt (λ k. All (λ x. passable w p x ≡ true) (take k walk)) place
 locked-from w p walk place e = stated (All (λ x. passable w p x ≡ true)) walk place (locked-some w p walk 1 place e)
 
 pub locked-to : (w : State) (p : ℕ) (walk : List ℕ) (place : ℕ)
-    → FailsAt (λ k. All (λ x. passable w p x ≡ true) (take k walk)) place → locked w p 1 walk ≡ Some place
+    → FailsAt (λ k. All (λ x. passable w p x ≡ true) (take k walk)) place → first_lock w p 1 walk ≡ Some place
 locked-to w p walk place (n, is, so, fails) =
     let next : suc n ≡ place = omega (arith, is) in
     locked-is w p walk 1 n so (λ rest. fails (subst (λ k. All (λ x. passable w p x ≡ true) (take k walk)) next rest))
@@ -188,7 +188,7 @@ IsMislabelled w form m =
     (to : ℕ) × (ss : List Step) × States w m to ss × (label_at m to ≢ Some (total (hop_of form) ss))
 
 pub is-mislabelled : (w : State) → IsSound w → (form : Form) (m : Account) (walk : List ℕ) → m.walk ≡ Some walk
-    → broken w m.from 1 walk ≡ None → locked w m.player 1 walk ≡ None
+    → first_break w m.from 1 walk ≡ None → first_lock w m.player 1 walk ≡ None
     → is_label (label_at m (end_of m.from (steps_of w walk))) (total (hop_of form) (steps_of w walk)) ≡ false
     → IsMislabelled w form m
 is-mislabelled w sound form m walk given b l f = (

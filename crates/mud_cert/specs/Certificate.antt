@@ -2,10 +2,12 @@
 use Rattle.std.specs.Prelude.{◌≡◌, ℕ, ◌<◌, ◌≤◌, List, length, Option, IfSome, All, AllPairs}
 use Rattle.mud_roads.specs.declared.label.Label.{Label}
 pub use Rattle.mud_chron.specs.Entry.{IsNumber}
+use Rattle.mud_cert.specs.declared.limits.TheConstants.{AMOUNTS}
 use Rattle.mud_cert.specs.declared.cert.Form.{Form}
 use Rattle.mud_cert.specs.declared.cert.Form.TheVariants.{One, Two}
 use Rattle.mud_cert.specs.declared.cert.Conclusion.{Conclusion}
 use Rattle.mud_cert.specs.declared.cert.Conclusion.TheVariants.{Route, Meet}
+use Rattle.mud_world.specs.declared.limits.TheConstants.{MOST_PARTY}
 
 -- what is claimed of a member: who he is, where he stands, the labels of rooms, and his walk, if one is given
 pub record Account : Type 0 where
@@ -23,7 +25,7 @@ pub record Certificate : Type 0 where
 
 -- versions, costs and counts of exits have at most 9 digits
 abbrev pub IsAmount : ℕ → Type 0
-IsAmount n = n < 1000000000
+IsAmount n = n < AMOUNTS
 
 -- labels rise by room, and every number is within the limits
 pub record IsAccount (a : Account) : Type 0 where
@@ -46,7 +48,8 @@ hop_of Two = 1
 -- a route has one member, a meeting 2 to 8; the numbers are within the limits
 abbrev pub IsConclusion : ℕ → Conclusion → Type 0
 IsConclusion count (Route to cost) = (count ≡ 1) × IsNumber to × IfSome cost IsAmount
-IsConclusion count (Meet meeting) = (2 ≤ count) × (count ≤ 8) × IfSome meeting (λ m. IsNumber m.room × IsAmount m.cost)
+IsConclusion count (Meet meeting) =
+    (2 ≤ count) × (count ≤ MOST_PARTY) × IfSome meeting (λ m. IsNumber m.room × IsAmount m.cost)
 
 -- what every certificate keeps
 pub record IsCertificate (c : Certificate) : Type 0 where

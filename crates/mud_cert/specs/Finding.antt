@@ -2,6 +2,7 @@
 use Rattle.std.specs.Prelude.{◌≡◌, ℕ, ◌<◌, ◌≤◌, ◌⊎◌, ◌==◌, nat_eq, ◌&&◌, if◌then◌else◌}
 use Rattle.std.specs.Prelude.{List, [], ◌∷◌, length}
 use Rattle.std.specs.List.{starts_with}
+use Rattle.mud_chron.specs.declared.codes.TheConstants.{LF, CR}
 use Rattle.mud_chron.specs.declared.fault.ChronFault.{ChronFault}
 use Rattle.mud_chron.specs.declared.fault.ChronFault.TheVariants.{BadChange}
 use Rattle.mud_chron.specs.Entry.{Entry}
@@ -20,7 +21,7 @@ use Rattle.mud_cert.specs.Valid.{IsValid, Optimal}
 abbrev pub without_returns : List ℕ → List ℕ
 without_returns [] = []
 without_returns (b ∷ bytes) =
-    if b == 13 && starts_with nat_eq bytes (10 ∷ []) then without_returns bytes else b ∷ without_returns bytes
+    if b == CR && starts_with nat_eq bytes (LF ∷ []) then without_returns bytes else b ∷ without_returns bytes
 
 -- the text spells these entries, each legal where it stands
 pub record IsHistory (text : List ℕ) (entries : List Entry) : Type 0 where

@@ -1,5 +1,6 @@
 -- What findings keep.
 use Rattle.std.specs.Prelude.{◌≡◌, ◌≢◌, ℕ, List, All}
+use Rattle.mud_chron.specs.declared.codes.TheConstants.{CR}
 use Rattle.mud_roads.specs.Laws.{IsOne}
 use Rattle.mud_cert.specs.Finding.{without_returns, IsFinding}
 
@@ -9,4 +10,4 @@ FindsOne = (history proof : List ℕ) → IsOne (IsFinding history proof)
 
 -- bytes without a CR stay as they are
 abbrev pub DropsNothing : Type 0
-DropsNothing = (bytes : List ℕ) → All (λ b. b ≢ 13) bytes → without_returns bytes ≡ bytes
+DropsNothing = (bytes : List ℕ) → All (λ b. b ≢ CR) bytes → without_returns bytes ≡ bytes

@@ -1,6 +1,7 @@
 -- The one text of a certificate.
 use Rattle.std.specs.Prelude.{ℕ, List, [], ◌∷◌, ◌++◌, Option, Some, None, codes, decimal}
 use Rattle.std.specs.List.{flat_map}
+use Rattle.mud_chron.specs.declared.codes.TheConstants.{LF}
 use Rattle.mud_roads.specs.declared.label.Label.{Label}
 use Rattle.mud_cert.specs.declared.cert.Form.{Form}
 use Rattle.mud_cert.specs.declared.cert.Form.TheVariants.{One, Two}
@@ -10,7 +11,7 @@ use Rattle.mud_cert.specs.Certificate.{Account, Certificate}
 
 -- the text that the lines make, each with the LF that ends it
 abbrev pub text_of : List (List ℕ) → List ℕ
-text_of lines = flat_map (λ line. line ++ 10 ∷ []) lines
+text_of lines = flat_map (λ line. line ++ LF ∷ []) lines
 
 -- the first line says the form
 abbrev pub head_line : Form → List ℕ

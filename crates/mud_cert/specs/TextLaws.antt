@@ -1,5 +1,6 @@
 -- What the texts of certificates and their bad lines keep.
 use Rattle.std.specs.Prelude.{◌≡◌, ◌≢◌, ℕ, List, [], ◌∷◌, ◌++◌, All}
+use Rattle.mud_chron.specs.declared.codes.TheConstants.{LF, CR}
 use Rattle.mud_roads.specs.Laws.{IsOne}
 use Rattle.mud_cert.specs.Certificate.{Certificate, IsCertificate}
 use Rattle.mud_cert.specs.Text.{cert_text}
@@ -15,8 +16,8 @@ OneBadLine = (bytes : List ℕ) → IsOne (IsBadLine bytes)
 
 -- the text of a certificate ends with LF
 abbrev pub EndsWithLf : Type 0
-EndsWithLf = (c : Certificate) → (front : List ℕ) × (cert_text c ≡ front ++ 10 ∷ [])
+EndsWithLf = (c : Certificate) → (front : List ℕ) × (cert_text c ≡ front ++ LF ∷ [])
 
 -- the text of a certificate has no CR
 abbrev pub HasNoReturn : Type 0
-HasNoReturn = (c : Certificate) → IsCertificate c → All (λ b. b ≢ 13) (cert_text c)
+HasNoReturn = (c : Certificate) → IsCertificate c → All (λ b. b ≢ CR) (cert_text c)

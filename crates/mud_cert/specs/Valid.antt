@@ -52,8 +52,7 @@ pub record IsValid (w : State) (c : Certificate) : Type 0 where
 
 -- the walk that is stated is a least one, and where any walk of the member leads there is a label, at most the walk's
 pub record IsOptimal (w : State) (hop : ℕ) (m : Account) : Type 0 where
-  pub stated : (to : ℕ) (ss : List Step) → States w m to ss
-      → IsLeast hop (roads_of w m.player) m.from to (total hop ss)
+  pub stated : (to : ℕ) (ss : List Step) → States w m to ss → IsLeast hop (roads_of w m.player) m.from to (total hop ss)
   pub labels : (to : ℕ) (ss : List Step) → Walk (roads_of w m.player) m.from ss to
       → Reaches (label_at m) to (total hop ss)
 

@@ -3,7 +3,7 @@
 ghost use Rattle.std.specs.Prelude.{◌≡◌, is_none};
 ghost use Rattle.std.specs.List.{list_any, list_all};
 ghost use Rattle.mud_cert.specs.inner.Ways.{arrival_of};
-ghost use Rattle.mud_cert.specs.inner.Agreement.{gathered};
+ghost use Rattle.mud_cert.specs.inner.Agreement.{greatest_cost};
 ghost use Rattle.mud_cert.specs.inner.Tests.{is_there_within, is_there_at, is_no_worse, first_labels};
 ghost use Rattle.mud_cert.specs.inner.Tests.{stays, misses, concludes};
 
@@ -48,8 +48,8 @@ fn misses(member: &Member, room: u32) -> bool
 }
 
 // The greatest cost of the members' labels of the room, where all have one.
-fn gathered(members: &[Member], room: u32) -> Option<u32>
-    ensures { result ≡ gathered members.now room }
+fn greatest_cost(members: &[Member], room: u32) -> Option<u32>
+    ensures { result ≡ greatest_cost members.now room }
 {
     let mut greatest = 0;
     for member in members {
@@ -73,18 +73,18 @@ fn is_no_worse(cost: u32, room: u32, other: u32, gathered: Option<u32>) -> bool
 
 // Whether no room that is labelled for all comes before this one.
 fn is_best(members: &[Member], cost: u32, room: u32, labels: &[(u32, Label)]) -> bool
-    ensures { result ≡ list_all (λ e. is_no_worse cost room e.0 (gathered members.now e.0)) labels.now }
+    ensures { result ≡ list_all (λ e. is_no_worse cost room e.0 (greatest_cost members.now e.0)) labels.now }
 {
-    labels.iter().all(|entry| is_no_worse(cost, room, entry.0, gathered(members, entry.0)))
+    labels.iter().all(|entry| is_no_worse(cost, room, entry.0, greatest_cost(members, entry.0)))
 }
 
 // Whether none of the rooms is labelled for all.
 fn is_apart(members: &[Member], labels: &[(u32, Label)]) -> bool
-    ensures { result ≡ list_all (λ e. is_none (gathered members.now e.0)) labels.now }
+    ensures { result ≡ list_all (λ e. is_none (greatest_cost members.now e.0)) labels.now }
 {
     labels
         .iter()
-        .all(|entry| gathered(members, entry.0).is_none())
+        .all(|entry| greatest_cost(members, entry.0).is_none())
 }
 
 // The labels of the first member.

@@ -14,7 +14,7 @@ ghost use Rattle.mud_cert.specs.Doubts.{IsFirstDoubt};
 
 use crate::agree::concludes;
 use crate::look::{is_after, label_at};
-use crate::steps::{broken, hop_of, locked, passes, step_of, walked};
+use crate::steps::{first_break, first_lock, hop_of, passes, progress_of, step_of};
 use crate::{Cert, Doubt, Form, Member};
 use mud_roads::Label;
 use mud_world::{Holding, World};
@@ -116,14 +116,18 @@ fn walk_doubt(
     ensures { result ≡ walk_doubt world.now form member.now walk.now }
 {
     let player = member.player();
-    if let Some(at) = broken(world, member.from(), walk) {
+    if let Some(at) = first_break(world, member.from(), walk) {
         return Some(Doubt::WalkBroken { player, at });
     }
-    if let Some(at) = locked(world, holding, walk) {
+    if let Some(at) = first_lock(world, holding, walk) {
         return Some(Doubt::WalkLocked { player, at });
     }
-    let journey = walked(world, form, member.from(), walk);
-    if is_labelled(label_at(member, journey.end), journey.cost, journey.exits) {
+    let progress = progress_of(world, form, member.from(), walk);
+    if is_labelled(
+        label_at(member, progress.end),
+        progress.cost,
+        progress.exits,
+    ) {
         None
     } else {
         Some(Doubt::WalkCost(player))

@@ -29,6 +29,7 @@ mod fault;
 mod finding;
 mod judge;
 pub mod laws;
+pub mod limits;
 mod lines;
 mod look;
 mod numbers;

@@ -3,7 +3,8 @@
 ghost use Rattle.std.specs.Prelude.{◌≡◌, ◌<◌, option_map};
 ghost use Rattle.mud_cert.specs.inner.Reading.{is_digit, small, digits_on, number_at, object_at};
 
-use mud_world::LAST_NUMBER;
+use crate::limits::AMOUNTS;
+use mud_key::limits::LAST_NUMBER;
 
 /// Whether the byte is a digit.
 fn is_digit(byte: u8) -> bool
@@ -16,7 +17,7 @@ fn is_digit(byte: u8) -> bool
 fn small(number: u64, rest: &[u8]) -> Option<(u32, &[u8])>
     ensures { option_map (λ x. (x.0, x.1.now)) result ≡ small (number, rest.now) }
 {
-    if number < 1_000_000_000 {
+    if number < AMOUNTS {
         Some((number as u32, rest))
     } else {
         None
@@ -34,7 +35,7 @@ fn digits_on(start: u8, bytes: &[u8]) -> Option<(u32, &[u8])>
         if !is_digit(*digit) {
             return small(number, &bytes[i..]);
         }
-        if number >= 1_000_000_000 {
+        if number >= AMOUNTS {
             return None;
         }
         number = number * 10 + u64::from(*digit - b'0');

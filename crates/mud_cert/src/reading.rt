@@ -1,6 +1,7 @@
 //! The certificate that a text is of.
 
 ghost use Rattle.std.specs.Prelude.{◌≡◌, ℕ, ◌++◌, ◌∷◌, IfOk, IfErr, IfSome, IfNone};
+ghost use Rattle.mud_chron.specs.declared.codes.TheConstants.{LF};
 ghost use Rattle.mud_cert.specs.Certificate.{IsCertificate};
 ghost use Rattle.mud_cert.specs.Text.{cert_text};
 ghost use Rattle.mud_cert.specs.Faults.{IsLine, IsBadLine};
@@ -13,7 +14,7 @@ use std::alloc::Global;
 
 /// The first line, without its LF, and the bytes after it.
 fn first_line(bytes: &[u8]) -> Option<(&[u8], &[u8])>
-    ensures found { IfSome result (λ s. IsLine s.0.now × (bytes.now ≡ s.0.now ++ 10 ∷ s.1.now)) }
+    ensures found { IfSome result (λ s. IsLine s.0.now × (bytes.now ≡ s.0.now ++ LF ∷ s.1.now)) }
     ensures none { IfNone result (IsLine bytes.now) }
 {
     let Some(at) = memchr(b'\n', bytes) else {

@@ -4,10 +4,11 @@ ghost use Rattle.std.specs.Prelude.{◌≡◌, ◌++◌, ◌∷◌, [], ◌<◌,
 ghost use Rattle.mud_cert.specs.Certificate.{IsNumber, IsCertificate, IsAccount, CountsBy};
 ghost use Rattle.mud_cert.specs.inner.Opening.{IsOpening};
 ghost use Rattle.mud_cert.specs.inner.Reading.{member_at, conclusion_at};
-ghost use Rattle.mud_cert.specs.inner.Stages.{IsStage, concluded, suits, conclude, join, next};
+ghost use Rattle.mud_cert.specs.inner.Stages.{IsStage, certificate_with, suits, conclude, join, next};
 
 use crate::cert::{Cert, Conclusion, Form, Member};
 use crate::lines::{conclusion_of, head_of, labels_of, member_of, says, version_of, walk_of};
+use mud_world::limits::MOST_PARTY;
 use std::alloc::{AllocError, Global};
 use std::marker::Model;
 
@@ -52,7 +53,7 @@ fn suits(count: usize, conclusion: Conclusion) -> bool
 {
     match conclusion {
         Conclusion::Route { .. } => count == 1,
-        Conclusion::Meet(_) => 2 <= count && count <= 8,
+        Conclusion::Meet(_) => 2 <= count && count <= MOST_PARTY,
     }
 }
 
@@ -80,7 +81,7 @@ impl Party {
         match member_of(line) {
             None => self.conclude(line),
             Some((player, from)) => {
-                if self.members.len() < 8 {
+                if self.members.len() < MOST_PARTY {
                     Some(Stage::Placed(self, player, from))
                 } else {
                     None

@@ -6,7 +6,7 @@ ghost use Rattle.mud_roads.specs.Walks.{total};
 ghost use Rattle.mud_world.specs.State.{IsHolding};
 ghost use Rattle.mud_cert.specs.inner.Ways.{step_of, steps_of, end_of, arrival_of};
 ghost use Rattle.mud_cert.specs.Certificate.{hop_of};
-ghost use Rattle.mud_cert.specs.inner.Tests.{leaves, broken, locked};
+ghost use Rattle.mud_cert.specs.inner.Tests.{leaves, first_break, first_lock};
 
 use crate::{Form, Member};
 use mud_roads::Step;
@@ -15,7 +15,7 @@ use mud_world::{Holding, World};
 /// Where a walk ends, what it costs and how many exits count. The sums are wider than the numbers
 /// of a label, so that no walk that fits memory makes them wrap.
 #[derive(Clone, Copy, Drop)]
-pub(crate) struct Journey {
+pub(crate) struct Progress {
     pub(crate) end: u32,
     pub(crate) cost: u128,
     pub(crate) exits: usize,
@@ -60,8 +60,8 @@ pub(crate) fn step_of(world: &World, exit: u32) -> Step
 }
 
 // The place, counted from 1, of the first exit that doesn't leave where the walk stands.
-pub(crate) fn broken(world: &World, from: u32, walk: &[u32]) -> Option<usize>
-    ensures { result ≡ broken world.now from 1 walk.now }
+pub(crate) fn first_break(world: &World, from: u32, walk: &[u32]) -> Option<usize>
+    ensures { result ≡ first_break world.now from 1 walk.now }
 {
     let mut at = from;
     for (i, exit) in walk.iter().enumerate() {
@@ -87,8 +87,8 @@ pub(crate) fn passes(world: &World, holding: &Holding, exit: u32) -> bool
 }
 
 // The place, counted from 1, of the first exit that isn't open to the one whose holding it is.
-pub(crate) fn locked(world: &World, holding: &Holding, walk: &[u32]) -> Option<usize>
-    ensures { (p : ℕ) → IsHolding world.now p holding.now → result ≡ locked world.now p 1 walk.now }
+pub(crate) fn first_lock(world: &World, holding: &Holding, walk: &[u32]) -> Option<usize>
+    ensures { (p : ℕ) → IsHolding world.now p holding.now → result ≡ first_lock world.now p 1 walk.now }
 {
     for (i, exit) in walk.iter().enumerate() {
         if !passes(world, holding, *exit) {
@@ -99,20 +99,20 @@ pub(crate) fn locked(world: &World, holding: &Holding, walk: &[u32]) -> Option<u
 }
 
 // Where the walk ends, and its label.
-pub(crate) fn walked(world: &World, form: Form, from: u32, walk: &[u32]) -> Journey
+pub(crate) fn progress_of(world: &World, form: Form, from: u32, walk: &[u32]) -> Progress
     ensures end { result.end ≡ end_of from (steps_of world.now walk.now) }
     ensures cost { result.cost ≡ (total (hop_of form) (steps_of world.now walk.now)).cost }
     ensures exits { result.exits ≡ (total (hop_of form) (steps_of world.now walk.now)).exits }
 {
     let hop = hop_of(form) as usize;
-    let mut all = Journey {
+    let mut all = Progress {
         end: from,
         cost: 0,
         exits: 0,
     };
     for exit in walk {
         let step = step_of(world, *exit);
-        all = Journey {
+        all = Progress {
             end: step.to,
             cost: all.cost + u128::from(step.cost),
             exits: all.exits + hop,
@@ -127,8 +127,8 @@ pub(crate) fn arrival_of(world: &World, member: &Member) -> Option<(u32, u128)>
 {
     match member.walk() {
         Some(walk) => {
-            let journey = walked(world, Form::One, member.from(), walk);
-            Some((journey.end, journey.cost))
+            let progress = progress_of(world, Form::One, member.from(), walk);
+            Some((progress.end, progress.cost))
         }
         None => None,
     }

@@ -3,7 +3,7 @@
 ghost use Rattle.std.specs.Prelude.{◌≡◌, ◌++◌, ◌∷◌, [], codes, decimal, OnOk, OnErr, option_map, string_bytes};
 ghost use Rattle.std.specs.List.{flat_map};
 ghost use Rattle.mud_cert.specs.Text.{text_of, head_line, entry_text};
-ghost use Rattle.mud_cert.specs.inner.Lines.{version_line, labels_line, ended, exit_text};
+ghost use Rattle.mud_cert.specs.inner.Lines.{version_line, labels_line, with_line_feed, exit_text};
 ghost use Rattle.mud_cert.specs.Text.{walk_line, member_lines, conclusion_line};
 ghost use Rattle.mud_cert.specs.inner.Lines.{member_line};
 ghost use Rattle.mud_cert.specs.Text.{cert_lines, cert_text};
@@ -47,7 +47,7 @@ fn push_exits(out: &mut String, exits: &[u32]) -> Result<(), AllocError>
 /// Appends the line of a walk.
 fn push_walk(out: &mut String, walk: &Option<Vec<u32>>) -> Result<(), AllocError>
     ensures { OnOk result (string_bytes out.new
-        ≡ string_bytes out.old ++ ended (walk_line (option_map (λ w. w.items) walk.now))) }
+        ≡ string_bytes out.old ++ with_line_feed (walk_line (option_map (λ w. w.items) walk.now))) }
 {
     match walk {
         None => out.push_str("walk none\n"),
@@ -87,7 +87,7 @@ fn push_members(out: &mut String, form: Form, members: &[Member]) -> Result<(), 
 
 /// Appends the line of a conclusion.
 fn push_conclusion(out: &mut String, conclusion: Conclusion) -> Result<(), AllocError>
-    ensures { OnOk result (string_bytes out.new ≡ string_bytes out.old ++ ended (conclusion_line conclusion)) }
+    ensures { OnOk result (string_bytes out.new ≡ string_bytes out.old ++ with_line_feed (conclusion_line conclusion)) }
 {
     match conclusion {
         Conclusion::Route {
@@ -104,7 +104,7 @@ fn push_conclusion(out: &mut String, conclusion: Conclusion) -> Result<(), Alloc
 
 /// Appends the first line.
 fn push_head(out: &mut String, form: Form) -> Result<(), AllocError>
-    ensures { OnOk result (string_bytes out.new ≡ string_bytes out.old ++ ended (head_line form)) }
+    ensures { OnOk result (string_bytes out.new ≡ string_bytes out.old ++ with_line_feed (head_line form)) }
 {
     match form {
         Form::One => out.push_str("mud proof 1\n"),

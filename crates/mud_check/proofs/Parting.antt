@@ -5,8 +5,9 @@ use Rattle.std.proofs.Math.Seq.{take-append_seam}
 use Rattle.std.proofs.lemmas.List.{append-nil, length-append}
 use Rattle.std.proofs.lemmas.List.Elements.{All-nil, All-push}
 use Rattle.std.proofs.lemmas.Grind.{flat_map-append}
+use Rattle.mud_chron.specs.declared.codes.TheConstants.{LF}
 use Rattle.mud_cert.specs.Text.{text_of}
-use Rattle.mud_cert.specs.inner.Lines.{ended}
+use Rattle.mud_cert.specs.inner.Lines.{with_line_feed}
 use Rattle.mud_cert.specs.Faults.{IsLine}
 use Rattle.mud_check.specs.Input.{begins_end, IsInner}
 use Rattle.mud_check.specs.inner.Split.{IsSplit}
@@ -23,17 +24,17 @@ none-passed bytes = record { front = []; inner = All-nil IsInner; bytes_are = re
 
 -- the text of lines and one more
 text_of-push : (front : List (List ℕ)) (line : List ℕ)
-    → text_of (front ++ line ∷ []) ≡ text_of front ++ (line ++ 10 ∷ [])
+    → text_of (front ++ line ∷ []) ≡ text_of front ++ (line ++ LF ∷ [])
 text_of-push front line =
-    flat_map-append ended front (line ∷ []) ∙ ap (λ t. text_of front ++ t) (append-nil (line ++ 10 ∷ []))
+    flat_map-append with_line_feed front (line ∷ []) ∙ ap (λ t. text_of front ++ t) (append-nil (line ++ LF ∷ []))
 
 -- the bytes, with a line parted from what stands after it
-parted : (front line behind : List ℕ) → front ++ (line ++ 10 ∷ behind) ≡ front ++ (line ++ 10 ∷ []) ++ behind
+parted : (front line behind : List ℕ) → front ++ (line ++ LF ∷ behind) ≡ front ++ (line ++ LF ∷ []) ++ behind
 parted front line behind =
-    ap (λ t. front ++ t) (sym (append_assoc line (10 ∷ []) behind)) ∙ sym (append_assoc front (line ++ 10 ∷ []) behind)
+    ap (λ t. front ++ t) (sym (append_assoc line (LF ∷ []) behind)) ∙ sym (append_assoc front (line ++ LF ∷ []) behind)
 
 -- one line more is passed
-pub one-passed : (bytes rest line behind : List ℕ) → IsPassed bytes rest → IsLine line → rest ≡ line ++ 10 ∷ behind
+pub one-passed : (bytes rest line behind : List ℕ) → IsPassed bytes rest → IsLine line → rest ≡ line ++ LF ∷ behind
     → begins_end line ≡ false → IsPassed bytes behind
 one-passed bytes rest line behind passed whole cut other = record {
   front = passed.front ++ line ∷ [];
@@ -50,11 +51,11 @@ front-of front behind =
     ap (λ n. take n (front ++ behind)) count ∙ take-append_seam front behind
 
 -- the line is the last of the history
-pub ends : (bytes rest line behind : List ℕ) → IsPassed bytes rest → IsLine line → rest ≡ line ++ 10 ∷ behind
+pub ends : (bytes rest line behind : List ℕ) → IsPassed bytes rest → IsLine line → rest ≡ line ++ LF ∷ behind
     → begins_end line ≡ true
     → IsSplit bytes (take (length bytes - length behind) bytes) behind
 ends bytes rest line behind passed whole cut last =
-    let history : List ℕ = text_of passed.front ++ (line ++ 10 ∷ []) in
+    let history : List ℕ = text_of passed.front ++ (line ++ LF ∷ []) in
     let parts : bytes ≡ history ++ behind =
     passed.bytes_are ∙ ap (λ t. text_of passed.front ++ t) cut ∙ parted (text_of passed.front) line behind in
     let front : take (length bytes - length behind) bytes ≡ history =

@@ -1,6 +1,7 @@
 -- How the two texts stand in standard input.
 use Rattle.std.specs.Prelude.{◌≡◌, ℕ, nat_eq, Bool, true, false, List, [], ◌∷◌, ◌++◌, codes, All}
 use Rattle.std.specs.List.{starts_with}
+use Rattle.mud_chron.specs.declared.codes.TheConstants.{LF}
 use Rattle.mud_cert.specs.Text.{text_of}
 use Rattle.mud_cert.specs.Faults.{IsLine}
 
@@ -17,7 +18,7 @@ pub record IsInner (line : List ℕ) : Type 0 where
 abbrev pub EndsAtLine : List ℕ → List ℕ → List ℕ → Type 0
 EndsAtLine bytes history proof =
     (front : List (List ℕ)) × (line : List ℕ) × All IsInner front × IsLine line × (begins_end line ≡ true)
-    × (history ≡ text_of front ++ (line ++ 10 ∷ [])) × (bytes ≡ history ++ proof)
+    × (history ≡ text_of front ++ (line ++ LF ∷ [])) × (bytes ≡ history ++ proof)
 
 -- no line that LF ends begins with `end `: all of the bytes are the history's text
 abbrev pub EndsWithBytes : List ℕ → List ℕ → List ℕ → Type 0

@@ -1,6 +1,7 @@
 -- What is judged of standard input, and what is said of it.
 use Rattle.std.specs.Prelude.{◌≡◌, ◌⊎◌, ℕ, Bool, true, false, List, [], ◌∷◌, ◌++◌, codes, Option}
 use Rattle.std.specs.Io.KnownBytes.{Appends}
+use Rattle.mud_chron.specs.declared.codes.TheConstants.{LF}
 use Rattle.mud_verdict.specs.declared.outcome.Outcome.{Outcome}
 use Rattle.mud_check.specs.declared.judge.Unread.{Unread}
 use Rattle.mud_check.specs.declared.judge.Unread.TheVariants.{OutOfMemory, File}
@@ -29,5 +30,5 @@ pub record IsCut (held now_held : Option (List ℕ)) (text : List ℕ) : Type 0 
 -- the line was written and the status is its own; or the writer failed, which left a front of it, and the status is 2
 abbrev pub Says : Option (List ℕ) → Option (List ℕ) → List ℕ → ℕ → Bool → ℕ → Type 0
 Says held now_held text code has_failed status =
-    ((status ≡ code) × Appends held now_held (text ++ 10 ∷ []))
-    ⊎ ((status ≡ 2) × (has_failed ≡ true) × IsCut held now_held (text ++ 10 ∷ []))
+    ((status ≡ code) × Appends held now_held (text ++ LF ∷ []))
+    ⊎ ((status ≡ 2) × (has_failed ≡ true) × IsCut held now_held (text ++ LF ∷ []))

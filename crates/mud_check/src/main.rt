@@ -8,10 +8,10 @@
 
 mod input;
 mod judge;
-mod said;
+mod writing;
 
 use crate::judge::{Unread, judge_files, judge_input};
-use crate::said::said;
+use crate::writing::write_outcome;
 use mud_command::{CommandFault, Sources, show, sources_of, words_of};
 use mud_ends::{Sink, Source};
 use mud_verdict::Outcome;
@@ -21,37 +21,37 @@ use std::process::ExitCode;
 fn main(rt: HostRuntime) -> ExitCode {
     match words_of(&rt) {
         Ok(words) => run(&rt, words.as_slice()),
-        Err(fault) => unasked(&rt, fault),
+        Err(fault) => tell_fault(&rt, fault),
     }
 }
 
 // Does what the words ask for.
 fn run(rt: &HostRuntime, words: &[String]) -> ExitCode {
     match sources_of(rt.alloc(), words) {
-        Ok(Sources::Files { history, proof }) => ended(rt, judge_files(rt, history, proof)),
+        Ok(Sources::Files { history, proof }) => print_outcome(rt, judge_files(rt, history, proof)),
         Ok(Sources::Input) => {
             let mut source = Source::new(rt.reader());
-            ended(rt, judge_input(rt.alloc(), &mut source))
+            print_outcome(rt, judge_input(rt.alloc(), &mut source))
         }
-        Err(fault) => unasked(rt, fault),
+        Err(fault) => tell_fault(rt, fault),
     }
 }
 
 // Says why the words ask for nothing, and answers the status.
-fn unasked(rt: &HostRuntime, fault: CommandFault) -> ExitCode {
+fn tell_fault(rt: &HostRuntime, fault: CommandFault) -> ExitCode {
     match fault {
-        CommandFault::OutOfMemory => ended(rt, Err(Unread::OutOfMemory)),
+        CommandFault::OutOfMemory => print_outcome(rt, Err(Unread::OutOfMemory)),
         CommandFault::Told(text) => ExitCode::from(show(rt, text.as_str())),
     }
 }
 
 // Prints the line, and answers the status.
-fn ended(rt: &HostRuntime, judged: Result<Outcome, Unread<'_>>) -> ExitCode {
+fn print_outcome(rt: &HostRuntime, judged: Result<Outcome, Unread<'_>>) -> ExitCode {
     let mut writer = io::writer(rt);
     ExitCode::from(match judged {
         Ok(outcome) => {
             let mut sink = Sink::new(writer);
-            said(&mut sink, outcome.text.as_str(), outcome.status.code())
+            write_outcome(&mut sink, outcome.text.as_str(), outcome.status.code())
         }
         Err(unread) => {
             let _ = writeln!(&mut writer, "{unread}");

@@ -7,6 +7,8 @@ use Rattle.std.proofs.lemmas.Bool.{cond-true, le-leb}
 use Rattle.std.proofs.lemmas.List.{append-nil}
 use Rattle.std.specs.Fmt.{decimal}
 use Rattle.mud_key.specs.Printed.{number_text, by_text, printed}
+use Rattle.mud_key.specs.declared.codes.TheConstants.{SPACE}
+use Rattle.mud_key.specs.declared.limits.TheConstants.{LAST_NUMBER}
 use Rattle.mud_world.specs.declared.change.Change.{Change}
 use Rattle.mud_world.specs.declared.change.Doors.{Doors}
 use Rattle.mud_world.specs.declared.change.Target.{Target}
@@ -14,11 +16,13 @@ use Rattle.mud_world.specs.declared.change.Target.TheVariants.{New, Old}
 use Rattle.mud_world.specs.declared.change.Deed.{Deed}
 use Rattle.mud_world.specs.declared.change.Deed.TheVariants.{Dig, Make, Lock, Unlock, Move, Walk, Cost, Player, Rename}
 use Rattle.mud_world.specs.declared.change.Deed.TheVariants.{Recycle, Say, Emote}
+use Rattle.mud_world.specs.declared.limits.TheConstants.{MOST_COST}
+use Rattle.mud_chron.specs.declared.limits.TheConstants.{MOST_DESKS}
 use Rattle.mud_chron.specs.declared.verb.Verb.{Verb}
 use Rattle.mud_chron.specs.declared.verb.Verb.TheVariants as verb
 use Rattle.mud_chron.specs.Entry.{Entry, IsEntry, IsInRange, HasParts, IsTarget}
 use Rattle.mud_world.specs.inner.Parts.{AreDoors, AreBackNames}
-use Rattle.mud_chron.specs.Text.{quoted, listed, target_text, deed_text, entry_line}
+use Rattle.mud_chron.specs.Text.{in_quotes, with_commas, target_text, deed_text, entry_line}
 use Rattle.mud_chron.specs.inner.Texts.{back_text, doors_text, change_text}
 use Rattle.mud_chron.specs.inner.Fields.{object_in}
 use Rattle.mud_chron.specs.inner.Reader.{◌>>=◌, cut, object_before, number_up_to, number_key_in}
@@ -39,11 +43,11 @@ unfolding back_in quoted_in
 back_again None h = refl
 back_again (Some names) h =
     ap (λ (o : Option (List (List ℕ) × List ℕ)). o >>= (λ names. Some (Some names.0)))
-    (ap names_before (sym (append-nil (listed names ++ codes "\""))) ∙ names_before_again names [] h)
+    (ap names_before (sym (append-nil (with_commas names ++ codes "\""))) ∙ names_before_again names [] h)
 
 -- after the first quote stand the names of the exit, and then the exit back
 behind_again : (doors : Doors) → AreDoors (Some doors)
-    → (names_before ((listed doors.out ++ codes "\"") ++ back_text doors.back) >>=
+    → (names_before ((with_commas doors.out ++ codes "\"") ++ back_text doors.back) >>=
     (λ out. back_in out.1 >>= (λ back. Some (Some (record { out = out.0; back = back }))))) ≡ Some (Some doors)
 behind_again doors h =
     ap (λ (o : Option (List (List ℕ) × List ℕ)). o >>=
@@ -59,7 +63,7 @@ doors_again (Some doors) h = behind_again doors h
 
 -- the exits without the space in front
 way_again : (doors : Doors) → AreDoors (Some doors)
-    → doors_in (codes "out " ++ quoted doors.out ++ back_text doors.back) ≡ Some (Some doors)
+    → doors_in (codes "out " ++ in_quotes doors.out ++ back_text doors.back) ≡ Some (Some doors)
 unfolding doors_in quoted_in
 way_again doors h = behind_again doors h
 
@@ -74,24 +78,24 @@ dig_again (New names) doors r h =
 dig_again (Old room) None r h = absurd r
 dig_again (Old room) (Some doors) r h =
     ap (λ (o : Option (ℕ × List ℕ)). o >>= (λ room. doors_in room.1 >>= (λ doors. way_to room.0 doors)))
-    (object_before_again room (codes "out " ++ quoted doors.out ++ back_text doors.back) r)
+    (object_before_again room (codes "out " ++ in_quotes doors.out ++ back_text doors.back) r)
     ∙ ap (λ (o : Option (Option Doors)). o >>= (λ doors. way_to room doors)) (way_again doors h.1)
 
 -- ---- deeds
 
 -- where the parts of a change's text are found, the change is found
-parts_again : (v : Verb) (word rest : List ℕ) (actor : ℕ) (d : Deed) → actor ≤ 8191 → lacks 32 word ≡ true
+parts_again : (v : Verb) (word rest : List ℕ) (actor : ℕ) (d : Deed) → actor ≤ LAST_NUMBER → lacks SPACE word ≡ true
     → verb_in word ≡ Some v → deed_in v rest ≡ Some d
-    → change_in (word ++ 32 ∷ (number_text actor ++ 32 ∷ rest)) ≡ Some (record { actor = actor; deed = d })
+    → change_in (word ++ SPACE ∷ (number_text actor ++ SPACE ∷ rest)) ≡ Some (record { actor = actor; deed = d })
 unfolding change_in
 parts_again v word rest actor d le plain known found =
     ap (λ (o : Option (List ℕ × List ℕ)). o >>=
     (λ word. verb_in word.0 >>=
     (λ v. object_before word.1 >>=
     (λ actor. deed_in v actor.1 >>= (λ d. Some (record { actor = actor.0; deed = d }))))))
-    (cut_again 32 word (number_text actor ++ 32 ∷ rest) plain)
+    (cut_again SPACE word (number_text actor ++ SPACE ∷ rest) plain)
     ∙ ap (λ (o : Option Verb). o >>=
-    (λ v. object_before (number_text actor ++ 32 ∷ rest) >>=
+    (λ v. object_before (number_text actor ++ SPACE ∷ rest) >>=
     (λ actor. deed_in v actor.1 >>= (λ d. Some (record { actor = actor.0; deed = d }))))) known
     ∙ ap (λ (o : Option (ℕ × List ℕ)). o >>=
     (λ actor. deed_in v actor.1 >>= (λ d. Some (record { actor = actor.0; deed = d }))))
@@ -99,9 +103,9 @@ parts_again v word rest actor d le plain known found =
     ∙ ap (λ (o : Option Deed). o >>= (λ d. Some (record { actor = actor; deed = d }))) found
 
 -- an object, and what stands after it
-then_again : {A B : Type 0} (n : ℕ) (rest : List ℕ) (find : List ℕ → Option A) (make : ℕ → A → B) (x : A) → n ≤ 8191
-    → find rest ≡ Some x
-    → (object_before (number_text n ++ 32 ∷ rest) >>= (λ p. find p.1 >>= (λ x. Some (make p.0 x)))) ≡ Some (make n x)
+then_again : {A B : Type 0} (n : ℕ) (rest : List ℕ) (find : List ℕ → Option A) (make : ℕ → A → B) (x : A)
+    → n ≤ LAST_NUMBER → find rest ≡ Some x
+    → (object_before (number_text n ++ SPACE ∷ rest) >>= (λ p. find p.1 >>= (λ x. Some (make p.0 x)))) ≡ Some (make n x)
 then_again {A = A} n rest find make x le found =
     ap (λ (o : Option (ℕ × List ℕ)). o >>= (λ p. find p.1 >>= (λ x. Some (make p.0 x)))) (object_before_again n rest le)
     ∙ ap (λ (o : Option A). o >>= (λ x. Some (make n x))) found
@@ -123,76 +127,78 @@ deed_word (Emote text) = codes "emote"
 
 abbrev pub rest_of : Deed → List ℕ
 rest_of (Dig target doors) = target_text target ++ doors_text doors
-rest_of (Make names) = quoted names
-rest_of (Player name) = quoted (name ∷ [])
-rest_of (Lock object key) = number_text object ++ 32 ∷ printed (by_text key)
+rest_of (Make names) = in_quotes names
+rest_of (Player name) = in_quotes (name ∷ [])
+rest_of (Lock object key) = number_text object ++ SPACE ∷ printed (by_text key)
 rest_of (Unlock object) = number_text object
-rest_of (Move thing to) = number_text thing ++ 32 ∷ number_text to
+rest_of (Move thing to) = number_text thing ++ SPACE ∷ number_text to
 rest_of (Walk exit) = number_text exit
-rest_of (Cost exit cost) = number_text exit ++ 32 ∷ decimal cost
-rest_of (Rename object names) = number_text object ++ 32 ∷ quoted names
+rest_of (Cost exit cost) = number_text exit ++ SPACE ∷ decimal cost
+rest_of (Rename object names) = number_text object ++ SPACE ∷ in_quotes names
 rest_of (Recycle object) = number_text object
 rest_of (Say text) = text
 rest_of (Emote text) = text
 
-first : (word actor x : List ℕ) → word ++ actor ++ codes " " ++ x ≡ word ++ (actor ++ 32 ∷ x)
-first word actor x = append_assoc (word ++ actor) (codes " ") x ∙ append_assoc word actor (32 ∷ x)
+first : (word actor x : List ℕ) → word ++ actor ++ codes " " ++ x ≡ word ++ (actor ++ SPACE ∷ x)
+first word actor x = append_assoc (word ++ actor) (codes " ") x ∙ append_assoc word actor (SPACE ∷ x)
 
-second : (word actor x y : List ℕ) → word ++ actor ++ codes " " ++ x ++ y ≡ word ++ (actor ++ 32 ∷ (x ++ y))
+second : (word actor x y : List ℕ) → word ++ actor ++ codes " " ++ x ++ y ≡ word ++ (actor ++ SPACE ∷ (x ++ y))
 second word actor x y = append_assoc (word ++ actor ++ codes " ") x y ∙ first word actor (x ++ y)
 
 third : (word actor x y : List ℕ)
-    → word ++ actor ++ codes " " ++ x ++ codes " " ++ y ≡ word ++ (actor ++ 32 ∷ (x ++ 32 ∷ y))
-third word actor x y = append_assoc (word ++ actor ++ codes " " ++ x) (codes " ") y ∙ second word actor x (32 ∷ y)
+    → word ++ actor ++ codes " " ++ x ++ codes " " ++ y ≡ word ++ (actor ++ SPACE ∷ (x ++ SPACE ∷ y))
+third word actor x y = append_assoc (word ++ actor ++ codes " " ++ x) (codes " ") y ∙ second word actor x (SPACE ∷ y)
 
-pub shape : (actor : List ℕ) (d : Deed) → deed_text actor d ≡ deed_word d ++ 32 ∷ (actor ++ 32 ∷ rest_of d)
+pub shape : (actor : List ℕ) (d : Deed) → deed_text actor d ≡ deed_word d ++ SPACE ∷ (actor ++ SPACE ∷ rest_of d)
 shape actor (Dig target doors) = second (codes "dig ") actor (target_text target) (doors_text doors)
-shape actor (Make names) = first (codes "make ") actor (quoted names)
-shape actor (Player name) = first (codes "player ") actor (quoted (name ∷ []))
+shape actor (Make names) = first (codes "make ") actor (in_quotes names)
+shape actor (Player name) = first (codes "player ") actor (in_quotes (name ∷ []))
 shape actor (Lock object key) = third (codes "lock ") actor (number_text object) (printed (by_text key))
 shape actor (Unlock object) = first (codes "unlock ") actor (number_text object)
 shape actor (Move thing to) = third (codes "move ") actor (number_text thing) (number_text to)
 shape actor (Walk exit) = first (codes "walk ") actor (number_text exit)
 shape actor (Cost exit cost) = third (codes "cost ") actor (number_text exit) (decimal cost)
-shape actor (Rename object names) = third (codes "rename ") actor (number_text object) (quoted names)
+shape actor (Rename object names) = third (codes "rename ") actor (number_text object) (in_quotes names)
 shape actor (Recycle object) = first (codes "recycle ") actor (number_text object)
 shape actor (Say text) = first (codes "say ") actor (text)
 shape actor (Emote text) = first (codes "emote ") actor (text)
 
-deed_again : (actor : ℕ) (d : Deed) → actor ≤ 8191 → IsInRange d → HasParts d
-    → change_in (deed_word d ++ 32 ∷ (number_text actor ++ 32 ∷ rest_of d)) ≡ Some (record { actor = actor; deed = d })
+deed_again : (actor : ℕ) (d : Deed) → actor ≤ LAST_NUMBER → IsInRange d → HasParts d
+    → change_in (deed_word d ++ SPACE ∷ (number_text actor ++ SPACE ∷ rest_of d))
+    ≡ Some (record { actor = actor; deed = d })
 unfolding verb_in deed_in make_in player_in lock_in unlock_in move_in walk_in cost_in rename_in recycle_in say_in
     emote_in
 deed_again actor (Dig target doors) le r h =
     parts_again verb.Dig (codes "dig") (target_text target ++ doors_text doors) actor (Dig target doors) le refl refl
     (dig_again target doors r h)
 deed_again actor (Make names) le r h =
-    parts_again verb.Make (codes "make") (quoted names) actor (Make names) le refl refl
+    parts_again verb.Make (codes "make") (in_quotes names) actor (Make names) le refl refl
     (ap (λ (o : Option (List (List ℕ) × List ℕ)). o >>= (λ names. Some (Make names.0))) (quoted_end names h))
 deed_again actor (Player name) le r h =
-    parts_again verb.Player (codes "player") (quoted (name ∷ [])) actor (Player name) le refl refl
+    parts_again verb.Player (codes "player") (in_quotes (name ∷ [])) actor (Player name) le refl refl
     (ap (λ (o : Option (List ℕ)). o >>= (λ name. Some (Player name))) (name_again name h))
 deed_again actor (Lock object key) le r h =
-    parts_again verb.Lock (codes "lock") (number_text object ++ 32 ∷ printed (by_text key)) actor
+    parts_again verb.Lock (codes "lock") (number_text object ++ SPACE ∷ printed (by_text key)) actor
     (Lock object key) le refl refl
     (then_again object (printed (by_text key)) number_key_in (λ o k. Lock o k) key r (key_again key h))
 deed_again actor (Unlock object) le r h =
     parts_again verb.Unlock (codes "unlock") (number_text object) actor (Unlock object) le refl refl
     (ap (λ (o : Option ℕ). o >>= (λ n. Some (Unlock n))) (object_again object r))
 deed_again actor (Move thing to) le r h =
-    parts_again verb.Move (codes "move") (number_text thing ++ 32 ∷ number_text to) actor (Move thing to) le refl refl
+    parts_again verb.Move (codes "move") (number_text thing ++ SPACE ∷ number_text to) actor
+    (Move thing to) le refl refl
     (then_again thing (number_text to) object_in (λ o k. Move o k) to r.0 (object_again to r.1))
 deed_again actor (Walk exit) le r h =
     parts_again verb.Walk (codes "walk") (number_text exit) actor (Walk exit) le refl refl
     (ap (λ (o : Option ℕ). o >>= (λ n. Some (Walk n))) (object_again exit r))
 deed_again actor (Cost exit cost) le r h =
-    parts_again verb.Cost (codes "cost") (number_text exit ++ 32 ∷ decimal cost) actor (Cost exit cost) le refl refl
-    (then_again exit (decimal cost) (number_up_to 10000) (λ o k. Cost o k) cost r.0
-    (number_again 10000 cost r.1 (omega (arith, r.1))))
+    parts_again verb.Cost (codes "cost") (number_text exit ++ SPACE ∷ decimal cost) actor (Cost exit cost) le refl refl
+    (then_again exit (decimal cost) (number_up_to MOST_COST) (λ o k. Cost o k) cost r.0
+    (number_again MOST_COST cost r.1 (omega (arith, r.1))))
 deed_again actor (Rename object names) le r h =
-    parts_again verb.Rename (codes "rename") (number_text object ++ 32 ∷ quoted names) actor
+    parts_again verb.Rename (codes "rename") (number_text object ++ SPACE ∷ in_quotes names) actor
     (Rename object names) le refl refl
-    (then_again object (quoted names) quoted_in (λ o (k : List (List ℕ) × List ℕ). Rename o k.0) (names, []) r
+    (then_again object (in_quotes names) quoted_in (λ o (k : List (List ℕ) × List ℕ). Rename o k.0) (names, []) r
     (quoted_end names h))
 deed_again actor (Recycle object) le r h =
     parts_again verb.Recycle (codes "recycle") (number_text object) actor (Recycle object) le refl refl
@@ -204,20 +210,21 @@ deed_again actor (Emote text) le r h =
     parts_again verb.Emote (codes "emote") text actor (Emote text) le refl refl
     (ap (λ (o : Option (List ℕ)). o >>= (λ n. Some (Emote n))) (speech_again text h))
 
-desk_again : (desk : ℕ) → 1 ≤ desk → desk ≤ 64 → desk_in (decimal desk) ≡ Some desk
+desk_again : (desk : ℕ) → 1 ≤ desk → desk ≤ MOST_DESKS → desk_in (decimal desk) ≡ Some desk
 unfolding desk_in
 desk_again desk lo hi =
-    ap (λ (o : Option ℕ). o >>= (λ desk. cond (leb 1 desk) (Some desk) None)) (number_again 64 desk hi (omega arith))
+    ap (λ (o : Option ℕ). o >>= (λ desk. cond (leb 1 desk) (Some desk) None))
+    (number_again MOST_DESKS desk hi (omega arith))
     ∙ cond-true (leb 1 desk) (Some desk) None (le-leb 1 desk lo)
 
 pub line_shape : (version : ℕ) (e : Entry)
-    → entry_line version e ≡ decimal version ++ 32 ∷ (decimal e.desk ++ 32 ∷ change_text e.change)
+    → entry_line version e ≡ decimal version ++ SPACE ∷ (decimal e.desk ++ SPACE ∷ change_text e.change)
 unfolding entry_line
 line_shape version e =
     let text : List ℕ = change_text e.change in
     append_assoc (decimal version ++ codes " " ++ decimal e.desk) (codes " ") text
-    ∙ append_assoc (decimal version ++ codes " ") (decimal e.desk) (32 ∷ text)
-    ∙ append_assoc (decimal version) (codes " ") (decimal e.desk ++ 32 ∷ text)
+    ∙ append_assoc (decimal version ++ codes " ") (decimal e.desk) (SPACE ∷ text)
+    ∙ append_assoc (decimal version) (codes " ") (decimal e.desk ++ SPACE ∷ text)
 
 -- the entry of a line is found, whatever version it makes
 pub entry_again : (version : ℕ) (e : Entry) → version < 2 ^ 64 → IsEntry e → entry_in (entry_line version e) ≡ Some e
@@ -225,17 +232,18 @@ unfolding entry_in
 entry_again version e fits is =
     let s = is.spellable in
     let low : 1 ≤ e.desk = s.desk_from in
-    let high : e.desk ≤ 64 = s.desk_to in
+    let high : e.desk ≤ MOST_DESKS = s.desk_to in
     let text : List ℕ = change_text e.change in
     ap entry_in (line_shape version e)
     ∙ ap (λ (o : Option (List ℕ × List ℕ)). o >>=
     (λ version.
-    cut 32 version.1 >>=
+    cut SPACE version.1 >>=
     (λ p. desk_in p.0 >>= (λ desk. change_in p.1 >>= (λ change. Some (record { desk = desk; change = change }))))))
-    (cut_again 32 (decimal version) (decimal e.desk ++ 32 ∷ text) (decimal_lacks 32 version (omega arith) fits))
+    (cut_again SPACE (decimal version) (decimal e.desk ++ SPACE ∷ text)
+    (decimal_lacks SPACE version (omega arith) fits))
     ∙ ap (λ (o : Option (List ℕ × List ℕ)). o >>=
     (λ p. desk_in p.0 >>= (λ desk. change_in p.1 >>= (λ change. Some (record { desk = desk; change = change })))))
-    (cut_again 32 (decimal e.desk) text (decimal_lacks 32 e.desk (omega arith) (omega arith)))
+    (cut_again SPACE (decimal e.desk) text (decimal_lacks SPACE e.desk (omega arith) (omega arith)))
     ∙ ap (λ (o : Option ℕ). o >>=
     (λ desk. change_in text >>= (λ change. Some (record { desk = desk; change = change }))))
     (desk_again e.desk low high)
@@ -245,7 +253,7 @@ entry_again version e fits is =
 
 -- ---- bytes
 
-plain_number : (n : ℕ) → n ≤ 8191 → list_all plain (number_text n) ≡ true
+plain_number : (n : ℕ) → n ≤ LAST_NUMBER → list_all plain (number_text n) ≡ true
 plain_number n h = plain_decimal n (omega arith)
 
 plain_back : (back : Option (List (List ℕ))) → AreBackNames back → list_all plain (back_text back) ≡ true
@@ -255,7 +263,7 @@ plain_back (Some names) h = plain_names names h
 plain_doors : (doors : Option Doors) → AreDoors doors → list_all plain (doors_text doors) ≡ true
 plain_doors None h = refl
 plain_doors (Some doors) h =
-    both plain (quoted doors.out) (back_text doors.back) (plain_names doors.out h.0) (plain_back doors.back h.1)
+    both plain (in_quotes doors.out) (back_text doors.back) (plain_names doors.out h.0) (plain_back doors.back h.1)
 
 plain_target : (target : Target) (doors : Option Doors) → IsInRange (Dig target doors) → IsTarget target
     → list_all plain (target_text target) ≡ true
@@ -265,8 +273,8 @@ plain_target (Old room) (Some doors) r h = plain_number room r
 
 -- an actor, a space and the rest
 plain_behind : (actor rest : List ℕ) → list_all plain actor ≡ true → list_all plain rest ≡ true
-    → list_all plain (actor ++ 32 ∷ rest) ≡ true
-plain_behind actor rest h k = both plain actor (32 ∷ rest) h k
+    → list_all plain (actor ++ SPACE ∷ rest) ≡ true
+plain_behind actor rest h k = both plain actor (SPACE ∷ rest) h k
 
 plain_rest : (d : Deed) → IsInRange d → HasParts d → list_all plain (rest_of d) ≡ true
 plain_rest (Dig target doors) r h =
@@ -282,7 +290,7 @@ plain_rest (Walk exit) r h = plain_number exit r
 plain_rest (Cost exit cost) r h =
     plain_behind (number_text exit) (decimal cost) (plain_number exit r.0) (plain_decimal cost (omega (arith, r.1)))
 plain_rest (Rename object names) r h =
-    plain_behind (number_text object) (quoted names) (plain_number object r) (plain_names names h)
+    plain_behind (number_text object) (in_quotes names) (plain_number object r) (plain_names names h)
 plain_rest (Recycle object) r h = plain_number object r
 plain_rest (Say text) r h = plain_speech text h
 plain_rest (Emote text) r h = plain_speech text h
@@ -305,16 +313,16 @@ plain_deed : (actor : List ℕ) (d : Deed) → list_all plain actor ≡ true →
     → list_all plain (deed_text actor d) ≡ true
 plain_deed actor d a r h =
     ap (list_all plain) (shape actor d)
-    ∙ plain_behind (deed_word d) (actor ++ 32 ∷ rest_of d) (plain_word d)
+    ∙ plain_behind (deed_word d) (actor ++ SPACE ∷ rest_of d) (plain_word d)
     (plain_behind actor (rest_of d) a (plain_rest d r h))
 
--- a line has only bytes from 32 to 126
+-- a line has only bytes from the space to the tilde
 pub plain_line : (version : ℕ) (e : Entry) → version < 2 ^ 64 → IsEntry e
     → list_all plain (entry_line version e) ≡ true
 plain_line version e fits is =
     let s = is.spellable in
-    let high : e.desk ≤ 64 = s.desk_to in
+    let high : e.desk ≤ MOST_DESKS = s.desk_to in
     ap (list_all plain) (line_shape version e)
-    ∙ plain_behind (decimal version) (decimal e.desk ++ 32 ∷ change_text e.change) (plain_decimal version fits)
+    ∙ plain_behind (decimal version) (decimal e.desk ++ SPACE ∷ change_text e.change) (plain_decimal version fits)
     (plain_behind (decimal e.desk) (change_text e.change) (plain_decimal e.desk (omega arith))
     (plain_deed (number_text e.change.actor) e.change.deed (plain_number e.change.actor s.actor) s.deed is.parts))

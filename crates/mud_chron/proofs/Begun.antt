@@ -3,6 +3,7 @@ use Rattle.std.proofs.Common.{◌≡◌, ℕ, ◌+◌, ◌<◌, List, [], ◌∷
 use Rattle.std.proofs.lemmas.List.{append-nil, length-append}
 use Rattle.std.specs.List.{AllByRecursion}
 use Rattle.mud_chron.specs.declared.format.Format.{Format}
+use Rattle.mud_chron.specs.declared.limits.TheConstants.{MOST_ENTRIES}
 use Rattle.mud_chron.specs.declared.line.Line.TheVariants as lines
 use Rattle.mud_chron.specs.Entry.{Entry}
 use Rattle.mud_chron.specs.Text.{line_feed, head_line, entry_line, entries_text}
@@ -42,7 +43,7 @@ begun-push format es e more =
 -- after an entry's line the text has begun with that entry too
 pub next_entry : (format : Format) (es : List Entry) (bytes rest line more : List ℕ) (count : ℕ) (e : Entry)
     → Begins format es bytes rest → rest ≡ line ++ line_feed ++ more
-    → count ≡ length es → IsLine format count line (lines.Entry e) → length es < 65536
+    → count ≡ length es → IsLine format count line (lines.Entry e) → length es < MOST_ENTRIES
     → Begins format (es ++ e ∷ []) bytes more
 next_entry format es bytes rest line more count e b cut counted is few = record {
   allowed = record { each = each-push format es e b.allowed.each is.0; few = omega (arith, length-append es (e ∷ [])) };
@@ -56,7 +57,7 @@ next_entry format es bytes rest line more count e b cut counted is few = record 
 -- after the last entry that a text can have stands one more
 pub too_long : (format : Format) (es : List Entry) (bytes rest line more : List ℕ) (count : ℕ) (e : Entry)
     → Begins format es bytes rest → rest ≡ line ++ line_feed ++ more
-    → count ≡ length es → IsLine format count line (lines.Entry e) → length es ≡ 65536 → IsTooLong bytes
+    → count ≡ length es → IsLine format count line (lines.Entry e) → length es ≡ MOST_ENTRIES → IsTooLong bytes
 too_long format es bytes rest line more count e b cut counted is full = record {
   format = format;
   entries = es;
@@ -64,7 +65,7 @@ too_long format es bytes rest line more count e b cut counted is full = record {
   rest = more;
   begins = record {
     allowed = b.allowed;
-    spelled = let now : count + 1 ≡ 65537 = omega arith in
+    spelled = let now : count + 1 ≡ MOST_ENTRIES + 1 = omega arith in
         b.spelled
         ∙ ap (begun_text format es)
         (cut ∙ ap (λ (l : List ℕ). l ++ line_feed ++ more) (is.1 ∙ ap (λ n. entry_line n e) now));

@@ -8,9 +8,11 @@ use Rattle.std.specs.List.{AllByRecursion}
 use Rattle.std.proofs.lemmas.List.{append-nil, length-append, length-take}
 use Rattle.std.proofs.lemmas.List.Elements.{recursion_from_All}
 use mathlib.Core.List.{IsPrefix}
+use Rattle.mud_chron.specs.declared.codes.TheConstants.{LF}
 use Rattle.mud_chron.specs.declared.fault.ChronFault.TheVariants as fault
 use Rattle.mud_chron.specs.declared.format.Format.{Format}
 use Rattle.mud_chron.specs.declared.format.Format.TheVariants.{One, Two}
+use Rattle.mud_chron.specs.declared.limits.TheConstants.{MOST_ENTRIES}
 use Rattle.mud_chron.specs.Entry.{Entry, IsEntry}
 use Rattle.mud_chron.specs.Text.{line_feed, head_line, entry_line, entries_text, end_line, journal_text}
 use Rattle.mud_chron.specs.inner.Texts.{entry_text}
@@ -26,13 +28,13 @@ use Rattle.mud_chron.proofs.Telling.{entry_lacks, end_apart}
 -- ---- one line
 
 abbrev IsPlain : List ℕ → Type 0
-IsPlain text = AllByRecursion (λ b. b ≢ 10) text
+IsPlain text = AllByRecursion (λ b. b ≢ LF) text
 
 plain_of : (text : List ℕ) → HasNoLineFeed text → IsPlain text
-plain_of text h = recursion_from_All (λ b. b ≢ 10) text h
+plain_of text h = recursion_from_All (λ b. b ≢ LF) text h
 
 plain_entry : (version : ℕ) (e : Entry) → version < 2 ^ 64 → IsEntry e → IsPlain (entry_line version e)
-plain_entry version e fits is = lacks_all 10 (entry_line version e) (entry_lacks version e fits is)
+plain_entry version e fits is = lacks_all LF (entry_line version e) (entry_lacks version e fits is)
 
 -- two lines that end, of which the second may be cut
 record SameLine (x y r s : List ℕ) (n : ℕ) : Type 0 where
@@ -40,18 +42,18 @@ record SameLine (x y r s : List ℕ) (n : ℕ) : Type 0 where
   fits : length y < n
   behind : r ≡ take (n - suc (length y)) s
 
-same_line : (x y r s : List ℕ) (n : ℕ) → IsPlain x → IsPlain y → x ++ 10 ∷ r ≡ take n (y ++ 10 ∷ s) → SameLine x y r s n
+same_line : (x y r s : List ℕ) (n : ℕ) → IsPlain x → IsPlain y → x ++ LF ∷ r ≡ take n (y ++ LF ∷ s) → SameLine x y r s n
 same_line [] y r s zero hx hy e = absurd (cc)
 same_line (a ∷ x) y r s zero hx hy e = absurd (cc)
 same_line [] [] r s (suc n) hx hy e =
     let t : r ≡ take n s = cc in
     let k : n ≡ suc n - suc 0 = omega arith in
     record { same = refl; fits = omega arith; behind = t ∙ ap (λ m. take m s) k }
-same_line [] (b ∷ y) r s (suc n) hx hy e = let t : b ≡ 10 = cc in absurd (hy.0 t)
-same_line (a ∷ x) [] r s (suc n) hx hy e = let t : a ≡ 10 = cc in absurd (hx.0 t)
+same_line [] (b ∷ y) r s (suc n) hx hy e = let t : b ≡ LF = cc in absurd (hy.0 t)
+same_line (a ∷ x) [] r s (suc n) hx hy e = let t : a ≡ LF = cc in absurd (hx.0 t)
 same_line (a ∷ x) (b ∷ y) r s (suc n) hx hy e =
     let head : a ≡ b = cc in
-    let tail : x ++ 10 ∷ r ≡ take n (y ++ 10 ∷ s) = cc in
+    let tail : x ++ LF ∷ r ≡ take n (y ++ LF ∷ s) = cc in
     let more = same_line x y r s n hx.1 hy.1 tail in
     let k : n - suc (length y) ≡ suc n - suc (length (b ∷ y)) = omega arith in
     record {
@@ -61,29 +63,29 @@ same_line (a ∷ x) (b ∷ y) r s (suc n) hx hy e =
     }
 
 -- a line that has not ended is cut in front of its end
-torn_line : (t y s : List ℕ) (n : ℕ) → IsPlain t → t ≡ take n (y ++ 10 ∷ s) → n ≤ length y
+torn_line : (t y s : List ℕ) (n : ℕ) → IsPlain t → t ≡ take n (y ++ LF ∷ s) → n ≤ length y
 torn_line t y s zero h e = omega arith
 torn_line t [] s (suc n) h e = absurd ((subst IsPlain e h).0 refl)
 torn_line t (b ∷ y) s (suc n) h e =
     let k = subst IsPlain e h in
-    let more = torn_line (take n (y ++ 10 ∷ s)) y s n k.1 refl in
+    let more = torn_line (take n (y ++ LF ∷ s)) y s n k.1 refl in
     omega (arith, more)
 
 -- ---- the lines of entries
 
 -- an entry's line in front
 entry_front : (version : ℕ) (e : Entry) (text : List ℕ)
-    → entry_text version e ++ text ≡ entry_line version e ++ 10 ∷ text
+    → entry_text version e ++ text ≡ entry_line version e ++ LF ∷ text
 entry_front version e text = append_assoc (entry_line version e) line_feed text
 
 line_front : (version : ℕ) (e : Entry) (text rest : List ℕ)
-    → (entry_text version e ++ text) ++ rest ≡ entry_line version e ++ 10 ∷ (text ++ rest)
+    → (entry_text version e ++ text) ++ rest ≡ entry_line version e ++ LF ∷ (text ++ rest)
 line_front version e text rest = append_assoc (entry_text version e) text rest ∙ entry_front version e (text ++ rest)
 
 length_entry : (version : ℕ) (e : Entry) (text : List ℕ)
     → length (entry_text version e ++ text) ≡ suc (length (entry_line version e)) + length text
 length_entry version e text =
-    omega (arith, ap length (entry_front version e text), length-append (entry_line version e) (10 ∷ text))
+    omega (arith, ap length (entry_front version e text), length-append (entry_line version e) (LF ∷ text))
 
 -- the lines of the entries got, and then this rest, are a front of the lines of these entries
 record Cuts (version : ℕ) (entries got : List Entry) (n : ℕ) (rest : List ℕ) : Type 0 where
@@ -92,7 +94,7 @@ record Cuts (version : ℕ) (entries got : List Entry) (n : ℕ) (rest : List �
   fits : length (entries_text version got) ≤ n
   behind : rest ≡ take (n - length (entries_text version got)) (entries_text (version + length got) more)
 
-nothing_taken : (n : ℕ) (line rest : List ℕ) → line ++ 10 ∷ rest ≡ take n [] → ⊥
+nothing_taken : (n : ℕ) (line rest : List ℕ) → line ++ LF ∷ rest ≡ take n [] → ⊥
 nothing_taken zero [] rest e = cc
 nothing_taken zero (a ∷ line) rest e = cc
 nothing_taken (suc n) [] rest e = cc
@@ -246,8 +248,8 @@ begun_front f g entries got bytes rest n allowed begins e = go (one_format g f h
 
     go : g ≡ f → BegunFront f g entries got n rest
     go is =
-        let few : length entries ≤ 65536 = allowed.few in
-        let some : length got ≤ 65536 = begins.allowed.few in
+        let few : length entries ≤ MOST_ENTRIES = allowed.few in
+        let some : length got ≤ MOST_ENTRIES = begins.allowed.few in
         let these : AllByRecursion (IsEntryOf f) got =
         subst (λ x. AllByRecursion (IsEntryOf x) got) is begins.allowed.each in
         let b =
@@ -324,7 +326,7 @@ whole_line format found entries got n keep bytes allowed these cut s =
       left_out = c.more;
       front = c.front;
       next = λ f rest is.
-          let torn : s.torn ≡ take at (entry_line (1 + length got) f ++ 10 ∷ entries_text (1 + length got + 1) rest) =
+          let torn : s.torn ≡ take at (entry_line (1 + length got) f ++ LF ∷ entries_text (1 + length got + 1) rest) =
           c.behind ∙ ap (λ m. take at (entries_text (1 + length got) m)) is
           ∙ ap (take at) (entry_front (1 + length got) f (entries_text (1 + length got + 1) rest)) in
           omega (
@@ -374,26 +376,26 @@ last_one format (g ∷ got) more f h = last_one format got more f h.1
 
 -- the rest by its line
 cut_begins : (g : Format) (got : List Entry) (bytes line more : List ℕ)
-    → Begins g got bytes (line ++ line_feed ++ more) → Begins g got bytes (line ++ 10 ∷ more)
+    → Begins g got bytes (line ++ line_feed ++ more) → Begins g got bytes (line ++ LF ∷ more)
 cut_begins g got bytes line more = subst (Begins g got bytes) (append_assoc line line_feed more)
 
 -- a line that is none of the next entry's
 no_line : (bytes : List ℕ) (n : ℕ) → HasOtherLine bytes n → IsNoFront bytes
 no_line bytes n h = λ format entries n allowed e.
     let p =
-    begun_front format h.format entries h.entries bytes (h.line ++ 10 ∷ h.rest) n allowed
+    begun_front format h.format entries h.entries bytes (h.line ++ LF ∷ h.rest) n allowed
     (cut_begins h.format h.entries bytes h.line h.rest h.begins) e in
     go format p.same entries (n - length (head_text format) - length (entries_text 1 h.entries)) allowed p.cut.more
     p.cut.front p.cut.behind
   where
     go : (format : Format) → format ≡ h.format → (entries : List Entry) (at : ℕ) → AreEntriesOf format entries
         → (es : List Entry) → entries ≡ h.entries ++ es
-        → h.line ++ 10 ∷ h.rest ≡ take at (entries_text (1 + length h.entries) es) → ⊥
+        → h.line ++ LF ∷ h.rest ≡ take at (entries_text (1 + length h.entries) es) → ⊥
     go format same entries at allowed [] front e = nothing_taken at h.line h.rest e
     go format same entries at allowed (f ∷ es) front e =
         let is : IsEntryOf format f =
         last_one format h.entries es f (subst (AllByRecursion (IsEntryOf format)) front allowed.each) in
-        let some : length h.entries ≤ 65536 = h.begins.allowed.few in
+        let some : length h.entries ≤ MOST_ENTRIES = h.begins.allowed.few in
         let one =
         same_line h.line (entry_line (1 + length h.entries) f) h.rest (entries_text (1 + length h.entries + 1) es) at
         (plain_of h.line h.whole) (plain_entry (1 + length h.entries) f (omega arith) is.0)
@@ -403,15 +405,15 @@ no_line bytes n h = λ format entries n allowed e.
 
 -- after the last entry that a text can have stands one more
 past_end : (g : Format) (got : List Entry) (bytes line more : List ℕ)
-    → Begins g got bytes (line ++ line_feed ++ more) → length got ≡ 65536 → IsNoFront bytes
+    → Begins g got bytes (line ++ line_feed ++ more) → length got ≡ MOST_ENTRIES → IsNoFront bytes
 past_end g got bytes line more begins full = λ format entries n allowed e.
     let p =
-    begun_front format g entries got bytes (line ++ 10 ∷ more) n allowed (cut_begins g got bytes line more begins) e in
+    begun_front format g entries got bytes (line ++ LF ∷ more) n allowed (cut_begins g got bytes line more begins) e in
     go entries (n - length (head_text format) - length (entries_text 1 got)) allowed.few p.cut.more p.cut.front
     p.cut.behind
   where
-    go : (entries : List Entry) (at : ℕ) → length entries ≤ 65536 → (es : List Entry) → entries ≡ got ++ es
-        → line ++ 10 ∷ more ≡ take at (entries_text (1 + length got) es) → ⊥
+    go : (entries : List Entry) (at : ℕ) → length entries ≤ MOST_ENTRIES → (es : List Entry) → entries ≡ got ++ es
+        → line ++ LF ∷ more ≡ take at (entries_text (1 + length got) es) → ⊥
     go entries at few [] front e = nothing_taken at line more e
     go entries at few (f ∷ es) front e = absurd (omega (arith, full, ap length front, length-append got (f ∷ es)))
 
@@ -419,7 +421,7 @@ pub faults_are_no_fronts : FaultsAreNoFronts
 faults_are_no_fronts bytes fault.NotHistory h = not_history bytes h.0 h.1
 faults_are_no_fronts bytes (fault.BadLine n) h = no_line bytes n h
 faults_are_no_fronts bytes fault.TooLong h =
-    past_end h.format h.entries bytes (entry_line 65537 h.next) h.rest h.begins h.full
+    past_end h.format h.entries bytes (entry_line (MOST_ENTRIES + 1) h.next) h.rest h.begins h.full
 faults_are_no_fronts bytes fault.OutOfMemory h = absurd h
 faults_are_no_fronts bytes (fault.BadChange n) h = absurd h
 faults_are_no_fronts bytes fault.NoEnd h = absurd h
@@ -526,7 +528,7 @@ other_line g got bytes rest line more count n begins cut plain counted other num
 }
 
 -- the last line of a history is that of no entry
-pub end_is_other : (g : Format) (count : ℕ) (line : List ℕ) → count ≤ 65536 → line ≡ end_line count
+pub end_is_other : (g : Format) (count : ℕ) (line : List ℕ) → count ≤ MOST_ENTRIES → line ≡ end_line count
     → IsNoEntryLine g (count + 1) line
 end_is_other g count line few is = λ e entry same. end_apart count (count + 1) e (omega arith) (sym is ∙ same)
 

@@ -4,22 +4,23 @@ use Rattle.std.proofs.Common.{sym, ap, ◌∙◌, arith, length-take}
 use Rattle.std.proofs.lemmas.Grind.{common_steps}
 use Rattle.std.proofs.lemmas.List.Elements.{All-from_get_or}
 use Rattle.memchr.specs.Find.{IsFirstByte, is_byte}
+use Rattle.mud_chron.specs.declared.codes.TheConstants.{LF}
 use Rattle.mud_chron.specs.Faults.{HasNoLineFeed as IsLine}
 
 in-front : (bytes : List ℕ) (at i : ℕ) → i < length (take at bytes) → get_or (take at bytes) i 0 ≡ slice_index bytes i
 in-front bytes at i lt = grind (arith, common_steps)
 
 -- what stands before the first LF is a line, and the bytes go on with that LF
-pub cut-at : (bytes line ended : List ℕ) (at : ℕ) → IsFirstByte (is_byte 10) bytes (Some at) → line ≡ take at bytes
+pub cut-at : (bytes line ended : List ℕ) (at : ℕ) → IsFirstByte (is_byte LF) bytes (Some at) → line ≡ take at bytes
     → ended ≡ drop at bytes
-    → IsLine line × (bytes ≡ line ++ 10 ∷ drop 1 ended)
+    → IsLine line × (bytes ≡ line ++ LF ∷ drop 1 ended)
 cut-at bytes line ended at first line_is ended_is = rw (line_is, ended_is) (
-  All-from_get_or (λ b. b ≢ 10) (take at bytes) 0 (λ i lt is.
+  All-from_get_or (λ b. b ≢ LF) (take at bytes) 0 (λ i lt is.
       first.0.before i (omega arith) (omega (arith, lt, length-take at bytes))
-      (ap (is_byte 10) (sym (in-front bytes at i lt) ∙ is))),
+      (ap (is_byte LF) (sym (in-front bytes at i lt) ∙ is))),
   grind (arith, common_steps),
 )
 
 -- bytes without LF are a line
-pub line-whole : (bytes : List ℕ) → IsFirstByte (is_byte 10) bytes None → IsLine bytes
-line-whole bytes none = All-from_get_or (λ b. b ≢ 10) bytes 0 (λ i lt is. none i (omega arith) lt (ap (is_byte 10) is))
+pub line-whole : (bytes : List ℕ) → IsFirstByte (is_byte LF) bytes None → IsLine bytes
+line-whole bytes none = All-from_get_or (λ b. b ≢ LF) bytes 0 (λ i lt is. none i (omega arith) lt (ap (is_byte LF) is))

@@ -5,6 +5,7 @@ use Rattle.std.specs.List.{list_all}
 use Rattle.std.specs.Str.{IsUtf8}
 use Rattle.std.proofs.lemmas.Str.{IsUtf8-from_ascii}
 use Rattle.std.proofs.lemmas.Bool.{and_parts, ltb-false}
+use Rattle.mud_key.specs.declared.codes.TheConstants.{SPACE, TILDE}
 use Rattle.mud_chron.specs.Entry.{Entry, IsEntry}
 use Rattle.mud_chron.specs.Text.{entry_line}
 use Rattle.mud_chron.proofs.Cutting.{not_true}
@@ -19,8 +20,8 @@ use Rattle.mud_chron.proofs.Again.{plain_line, entry_again}
 ascii : (text : List ℕ) → list_all plain text ≡ true → (i : ℕ) → get_or text i 0 < 128
 ascii [] h i = omega arith
 ascii (b ∷ text) h zero =
-    let p = and_parts (not (ltb b 32)) (not (ltb 126 b)) (and_parts (plain b) (list_all plain text) h).0 in
-    omega (arith, ltb-false 126 b (not_true (ltb 126 b) p.1))
+    let p = and_parts (not (ltb b SPACE)) (not (ltb TILDE b)) (and_parts (plain b) (list_all plain text) h).0 in
+    omega (arith, ltb-false TILDE b (not_true (ltb TILDE b) p.1))
 ascii (b ∷ text) h (suc i) = ascii text (and_parts (plain b) (list_all plain text) h).1 i
 
 pub utf8_line : (version : ℕ) (e : Entry) → version < 2 ^ 64 → IsEntry e → IsUtf8 (entry_line version e)

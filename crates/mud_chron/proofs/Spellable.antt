@@ -12,8 +12,10 @@ use Rattle.mud_world.specs.declared.change.Deed.TheVariants.{Dig, Make, Lock, Un
 use Rattle.mud_world.specs.declared.change.Deed.TheVariants.{Recycle, Say, Emote}
 use Rattle.mud_world.specs.declared.refusal.Refusal.{Refusal}
 use Rattle.mud_world.specs.declared.refusal.Refusal.TheVariants.{NoSuch, WrongKind, BadCost, WorldFull}
+use Rattle.mud_world.specs.declared.limits.TheConstants.{NUMBERS, MOST_COST}
 use Rattle.mud_world.proofs.Records.{in_bounds, record_cases}
 use Rattle.mud_world.proofs.Least.{refusals_law}
+use Rattle.mud_chron.specs.declared.limits.TheConstants.{MOST_DESKS}
 use Rattle.mud_chron.specs.Entry.{IsNumber, IsInRange, IsSpellable}
 
 or_no : (x y : Bool) → (x || y) ≡ false → (x ≡ false) × (y ≡ false)
@@ -30,7 +32,7 @@ number_of w sound n h = record_cases (record_at w n)
     (λ none. absurd (true≢false (sym (not_no (exists w n) h) ∙ ap is_some none)))
     (λ r at.
     let within = in_bounds 0 w.next n r w.objects sound.rising at in
-    let limit : w.next ≤ 8192 = sound.limit in
+    let limit : w.next ≤ NUMBERS = sound.limit in
     omega (arith, within.1))
 
 -- no refusal's condition holds
@@ -43,7 +45,7 @@ actor_number : (w : State) → IsSound w → (actor : ℕ) (d : Deed)
 actor_number w sound actor (Player name) h =
     let is_next : actor ≡ w.next =
     eqb-true actor w.next (not_no (eqb actor w.next) (or_no false (not (eqb actor w.next)) (h NoSuch)).1) in
-    let room : w.next + 1 ≤ 8192 = ltb-false 8192 (w.next + 1) (h WorldFull) in
+    let room : w.next + 1 ≤ NUMBERS = ltb-false NUMBERS (w.next + 1) (h WorldFull) in
     omega arith
 actor_number w sound actor (Dig target doors) h = number_of w sound actor (or_no (not (exists w actor)) _ (h NoSuch)).0
 actor_number w sound actor (Make names) h = number_of w sound actor (or_no (not (exists w actor)) _ (h NoSuch)).0
@@ -79,8 +81,8 @@ in_range w sound actor (Walk exit) h =
     number_of w sound exit (or_no (not (exists w actor)) (not (exists w exit)) (h NoSuch)).1
 in_range w sound actor (Cost exit cost) h = (
   number_of w sound exit (or_no (not (exists w actor)) (not (exists w exit)) (h NoSuch)).1,
-  ltb-false 10000 cost
-      (or_no false (ltb 10000 cost) (h BadCost)).1,
+  ltb-false MOST_COST cost
+      (or_no false (ltb MOST_COST cost) (h BadCost)).1,
 )
 in_range w sound actor (Rename object names) h =
     number_of w sound object (or_no (not (exists w actor)) (not (exists w object)) (h NoSuch)).1
@@ -91,7 +93,7 @@ in_range w sound actor (Emote text) h = tt
 
 -- a legal change of a sound world can be spelled for any desk
 pub legal_is_spellable : (w : State) (desk : ℕ) (change : Change) → IsSound w → refusal w change ≡ None → 1 ≤ desk
-    → desk ≤ 64 → IsSpellable desk change
+    → desk ≤ MOST_DESKS → IsSpellable desk change
 legal_is_spellable w desk change sound legal from to =
     let h = none_of w change.actor change.deed legal in
     record {

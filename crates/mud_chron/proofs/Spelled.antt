@@ -9,13 +9,15 @@ use Rattle.std.proofs.lemmas.List.{append-nil}
 use Rattle.std.proofs.lemmas.List.Folds.{list_all-append}
 use Rattle.std.proofs.lemmas.List.Elements.{recursion_from_All}
 use Rattle.std.specs.Fmt.{decimal}
+use Rattle.mud_key.specs.declared.codes.TheConstants.{SPACE, COMMA, ZERO, NINE, TILDE}
+use Rattle.mud_key.specs.declared.limits.TheConstants.{LAST_NUMBER}
 use Rattle.mud_key.specs.Name.{IsName, IsNameByte}
 use Rattle.mud_key.specs.Names.{AreNames}
 use Rattle.mud_key.specs.inner.NamesTexts.{SpellsName, SpellsNames, one, more}
 use Rattle.mud_key.specs.Reading.{names_in, name_in}
 use Rattle.mud_key.specs.Tree.{Tree, Has, Asks, Not, Join, objects_of, nots_of, AllObjects, IsWithinLimits, IsKey}
 use Rattle.mud_key.specs.KeyText.{sign, SpellsKey}
-use Rattle.mud_key.specs.Printed.{number_text, by_text, enclosed, printed}
+use Rattle.mud_key.specs.Printed.{number_text, by_text, in_parentheses, printed}
 use Rattle.mud_key.specs.Namer.{resolved}
 use Rattle.mud_key.specs.declared.namer.Miss.TheVariants.{NoSuch}
 use Rattle.std.specs.Option.{ok_or}
@@ -24,9 +26,11 @@ use Rattle.mud_key.specs.declared.operator.Operator.TheVariants.{And, Or}
 use Rattle.mud_key.proofs.Found.{names_law, name_law, key_law}
 use Rattle.mud_key.proofs.LeastParentheses.{reads_back}
 use Rattle.mud_key.proofs.Resolving.{CountsAs, resolved_counts}
+use Rattle.mud_world.specs.declared.limits.TheConstants.{MOST_SPEECH}
 use Rattle.mud_world.specs.Speech.{is_trimmed, is_speech}
 use Rattle.mud_world.specs.inner.Parts.{is_printable}
-use Rattle.mud_chron.specs.Text.{listed, quoted}
+use Rattle.mud_chron.specs.declared.codes.TheConstants.{QUOTE}
+use Rattle.mud_chron.specs.Text.{with_commas, in_quotes}
 use Rattle.mud_chron.specs.inner.Fields.{Lacks, is_digit}
 use Rattle.mud_chron.specs.inner.Reader.{◌>>=◌, cut, without_miss, number_key_in, speech_in, meaning, names_before}
 use Rattle.mud_chron.specs.inner.Reader.{quoted_in, quoted_name_in}
@@ -35,12 +39,13 @@ use Rattle.mud_chron.proofs.Digits.{digits, object_again}
 
 -- ---- bytes
 
--- a byte from 32 to 126
+-- a byte from the space to the tilde
 abbrev pub plain : ℕ → Bool
-plain b = not (ltb b 32) && not (ltb 126 b)
+plain b = not (ltb b SPACE) && not (ltb TILDE b)
 
-pub plain_from : (b : ℕ) → 32 ≤ b → b ≤ 126 → plain b ≡ true
-plain_from b lo hi = and_from (not (ltb b 32)) (not (ltb 126 b)) (ap not (le-ltb b 32 lo)) (ap not (le-ltb 126 b hi))
+pub plain_from : (b : ℕ) → SPACE ≤ b → b ≤ TILDE → plain b ≡ true
+plain_from b lo hi =
+    and_from (not (ltb b SPACE)) (not (ltb TILDE b)) (ap not (le-ltb b SPACE lo)) (ap not (le-ltb TILDE b hi))
 
 pub both : (p : ℕ → Bool) (x y : List ℕ) → list_all p x ≡ true → list_all p y ≡ true → list_all p (x ++ y) ≡ true
 both p x y h k = list_all-append p x y ∙ and_from (list_all p x) (list_all p y) h k
@@ -48,8 +53,8 @@ both p x y h k = list_all-append p x y ∙ and_from (list_all p x) (list_all p y
 pub plain_decimal : (n : ℕ) → n < 2 ^ 64 → list_all plain (decimal n) ≡ true
 plain_decimal n fits =
     implied is_digit plain
-    (λ b e. let p = and_parts (leb 48 b) (leb b 57) e in
-    plain_from b (omega (arith, leb-true 48 b p.0)) (omega (arith, leb-true b 57 p.1))) (decimal n) (digits n fits)
+    (λ b e. let p = and_parts (leb ZERO b) (leb b NINE) e in
+    plain_from b (omega (arith, leb-true ZERO b p.0)) (omega (arith, leb-true b NINE p.1))) (decimal n) (digits n fits)
 
 -- ---- names
 
@@ -58,15 +63,15 @@ all_names : (p : ℕ → Bool) → ((b : ℕ) → IsNameByte b → p b ≡ true)
     → list_all p name ≡ true
 all_names p f name is = tested IsNameByte p f name (recursion_from_All IsNameByte name is.text.bytes)
 
-others_pass : (p : ℕ → Bool) → ((b : ℕ) → IsNameByte b → p b ≡ true) → p 44 ≡ true → (names : List (List ℕ))
+others_pass : (p : ℕ → Bool) → ((b : ℕ) → IsNameByte b → p b ≡ true) → p COMMA ≡ true → (names : List (List ℕ))
     → AllByRecursion IsName names → list_all p (flat_map (λ other. codes "," ++ other) names) ≡ true
 others_pass p f comma [] h = refl
 others_pass p f comma (name ∷ names) h =
     both p (codes "," ++ name) (flat_map (λ other. codes "," ++ other) names)
-    (and_from (p 44) (list_all p name) comma (all_names p f name h.0)) (others_pass p f comma names h.1)
+    (and_from (p COMMA) (list_all p name) comma (all_names p f name h.0)) (others_pass p f comma names h.1)
 
-pub listed_pass : (p : ℕ → Bool) → ((b : ℕ) → IsNameByte b → p b ≡ true) → p 44 ≡ true → (names : List (List ℕ))
-    → AllByRecursion IsName names → list_all p (listed names) ≡ true
+pub listed_pass : (p : ℕ → Bool) → ((b : ℕ) → IsNameByte b → p b ≡ true) → p COMMA ≡ true → (names : List (List ℕ))
+    → AllByRecursion IsName names → list_all p (with_commas names) ≡ true
 listed_pass p f comma [] h = refl
 listed_pass p f comma (name ∷ names) h =
     both p name (flat_map (λ other. codes "," ++ other) names) (all_names p f name h.0)
@@ -75,68 +80,68 @@ listed_pass p f comma (name ∷ names) h =
 plain_byte : (b : ℕ) → IsNameByte b → plain b ≡ true
 plain_byte b h = plain_from b h.from h.to
 
-no_quote : (b : ℕ) → IsNameByte b → not (eqb b 34) ≡ true
-no_quote b h = ap not (ne_eqb b 34 h.plain.0)
+no_quote : (b : ℕ) → IsNameByte b → not (eqb b QUOTE) ≡ true
+no_quote b h = ap not (ne_eqb b QUOTE h.plain.0)
 
-listed_lacks : (names : List (List ℕ)) → AllByRecursion IsName names → lacks 34 (listed names) ≡ true
-listed_lacks names h = listed_pass (λ b. not (eqb b 34)) no_quote refl names h
+listed_lacks : (names : List (List ℕ)) → AllByRecursion IsName names → lacks QUOTE (with_commas names) ≡ true
+listed_lacks names h = listed_pass (λ b. not (eqb b QUOTE)) no_quote refl names h
 
-pub plain_quoted : (names : List (List ℕ)) → AllByRecursion IsName names → list_all plain (quoted names) ≡ true
-plain_quoted names h = both plain (listed names) (codes "\"") (listed_pass plain plain_byte refl names h) refl
+pub plain_quoted : (names : List (List ℕ)) → AllByRecursion IsName names → list_all plain (in_quotes names) ≡ true
+plain_quoted names h = both plain (with_commas names) (codes "\"") (listed_pass plain plain_byte refl names h) refl
 
 each_of : (names : List (List ℕ)) → AreNames names → AllByRecursion IsName names
 each_of names h = recursion_from_All IsName names h.each
 
-pub plain_names : (names : List (List ℕ)) → AreNames names → list_all plain (quoted names) ≡ true
+pub plain_names : (names : List (List ℕ)) → AreNames names → list_all plain (in_quotes names) ≡ true
 plain_names names h = plain_quoted names (each_of names h)
 
 alone : (name : List ℕ) → IsName name → SpellsName name name
 alone name is = record { before = 0; behind = 0; spaces = sym (append-nil name); is_name = is }
 
 spells : (name : List ℕ) (names : List (List ℕ)) → AllByRecursion IsName (name ∷ names)
-    → SpellsNames (listed (name ∷ names)) (name ∷ names)
+    → SpellsNames (with_commas (name ∷ names)) (name ∷ names)
 spells name [] h = subst (λ x. SpellsNames x (name ∷ [])) (sym (append-nil name)) (one (alone name h.0))
 spells name (next ∷ names) h =
-    let same : name ++ codes "," ++ listed (next ∷ names) ≡ listed (name ∷ next ∷ names) =
-    append_assoc name (codes ",") (listed (next ∷ names)) in
+    let same : name ++ codes "," ++ with_commas (next ∷ names) ≡ with_commas (name ∷ next ∷ names) =
+    append_assoc name (codes ",") (with_commas (next ∷ names)) in
     subst (λ x. SpellsNames x (name ∷ next ∷ names)) same (more (alone name h.0) (spells next names h.1))
 
-pub names_again : (names : List (List ℕ)) → AreNames names → names_in (listed names) ≡ Some names
+pub names_again : (names : List (List ℕ)) → AreNames names → names_in (with_commas names) ≡ Some names
 names_again [] h = absurd (omega (arith, h.some))
 names_again (name ∷ names) h =
-    (names_law (listed (name ∷ names)) (name ∷ names)).1
+    (names_law (with_commas (name ∷ names)) (name ∷ names)).1
     (record { spells = spells name names (each_of (name ∷ names) h); few = h.few })
 
 pub names_before_again : (names : List (List ℕ)) (rest : List ℕ) → AreNames names
-    → names_before ((listed names ++ codes "\"") ++ rest) ≡ Some (names, rest)
+    → names_before ((with_commas names ++ codes "\"") ++ rest) ≡ Some (names, rest)
 unfolding names_before
 names_before_again names rest h =
     ap (λ (o : Option (List ℕ × List ℕ)). o >>= (λ p. names_in p.0 >>= (λ names. Some (names, p.1))))
-    (ap (cut 34) (append_assoc (listed names) (codes "\"") rest)
-    ∙ cut_again 34 (listed names) rest (listed_lacks names (each_of names h)))
+    (ap (cut QUOTE) (append_assoc (with_commas names) (codes "\"") rest)
+    ∙ cut_again QUOTE (with_commas names) rest (listed_lacks names (each_of names h)))
     ∙ ap (λ (o : Option (List (List ℕ))). o >>= (λ names. Some (names, rest))) (names_again names h)
 
 pub quoted_again : (names : List (List ℕ)) (rest : List ℕ) → AreNames names
-    → quoted_in (quoted names ++ rest) ≡ Some (names, rest)
+    → quoted_in (in_quotes names ++ rest) ≡ Some (names, rest)
 unfolding quoted_in
 quoted_again names rest h = names_before_again names rest h
 
-pub quoted_end : (names : List (List ℕ)) → AreNames names → quoted_in (quoted names) ≡ Some (names, [])
-quoted_end names h = ap quoted_in (sym (append-nil (quoted names))) ∙ quoted_again names [] h
+pub quoted_end : (names : List (List ℕ)) → AreNames names → quoted_in (in_quotes names) ≡ Some (names, [])
+quoted_end names h = ap quoted_in (sym (append-nil (in_quotes names))) ∙ quoted_again names [] h
 
-pub name_again : (name : List ℕ) → IsName name → quoted_name_in (quoted (name ∷ [])) ≡ Some name
+pub name_again : (name : List ℕ) → IsName name → quoted_name_in (in_quotes (name ∷ [])) ≡ Some name
 unfolding quoted_name_in
 name_again name is =
     ap (λ (o : Option (List ℕ × List ℕ)). o >>= (λ q. name_in q.0))
-    (cut_again 34 (listed (name ∷ [])) [] (listed_lacks (name ∷ []) (is, tt)))
+    (cut_again QUOTE (with_commas (name ∷ [])) [] (listed_lacks (name ∷ []) (is, tt)))
     ∙ ap name_in (append-nil name) ∙ (name_law name name).1 (refl, is)
 
 -- no quote stands among names
-pub names_lack : (names : List (List ℕ)) → AreNames names → Lacks 34 (listed names)
-names_lack names h = lacks_all 34 (listed names) (listed_lacks names (each_of names h))
+pub names_lack : (names : List (List ℕ)) → AreNames names → Lacks QUOTE (with_commas names)
+names_lack names h = lacks_all QUOTE (with_commas names) (listed_lacks names (each_of names h))
 
-pub name_lacks : (name : List ℕ) → IsName name → Lacks 34 name
-name_lacks name is = lacks_all 34 name (all_names (λ b. not (eqb b 34)) no_quote name is)
+pub name_lacks : (name : List ℕ) → IsName name → Lacks QUOTE name
+name_lacks name is = lacks_all QUOTE name (all_names (λ b. not (eqb b QUOTE)) no_quote name is)
 
 -- ---- keys
 
@@ -145,22 +150,22 @@ plain_sign And = refl
 plain_sign Or = refl
 
 plain_enclosed : (k : Tree (List ℕ)) (text : List ℕ) → list_all plain text ≡ true
-    → list_all plain (enclosed k text) ≡ true
+    → list_all plain (in_parentheses k text) ≡ true
 plain_enclosed (Has o) text h = h
 plain_enclosed (Asks o) text h = h
 plain_enclosed (Not k) text h = h
 plain_enclosed (Join op a b) text h = both plain text (codes ")") h refl
 
-plain_number : (n : ℕ) → n ≤ 8191 → list_all plain (number_text n) ≡ true
+plain_number : (n : ℕ) → n ≤ LAST_NUMBER → list_all plain (number_text n) ≡ true
 plain_number n h = plain_decimal n (omega arith)
 
-pub plain_key : (k : Tree ℕ) → AllObjects (λ n. n ≤ 8191) k → list_all plain (printed (by_text k)) ≡ true
+pub plain_key : (k : Tree ℕ) → AllObjects (λ n. n ≤ LAST_NUMBER) k → list_all plain (printed (by_text k)) ≡ true
 plain_key (Has n) h = plain_number n h
 plain_key (Asks n) h = plain_number n h
 plain_key (Not k) h = plain_enclosed (by_text k) (printed (by_text k)) (plain_key k h)
 plain_key (Join op a b) h =
     let left : List ℕ = printed (by_text a) in
-    let right : List ℕ = enclosed (by_text b) (printed (by_text b)) in
+    let right : List ℕ = in_parentheses (by_text b) (printed (by_text b)) in
     both plain (left ++ codes " " ++ sign op ++ codes " ") right
     (both plain (left ++ codes " " ++ sign op) (codes " ")
     (both plain (left ++ codes " ") (sign op) (both plain left (codes " ") (plain_key a h.0) refl)
@@ -207,5 +212,5 @@ speech_again text h = ap (λ b. cond b (Some text) None) h
 pub plain_speech : (text : List ℕ) → is_speech text ≡ true → list_all plain text ≡ true
 plain_speech text h =
     let some : Bool = not (eqb (length text) 0) in
-    let few : Bool = not (ltb 900 (length text)) in
+    let few : Bool = not (ltb MOST_SPEECH (length text)) in
     (and_parts (some && few) (is_printable text) (and_parts (some && few && is_printable text) (is_trimmed text) h).0).1

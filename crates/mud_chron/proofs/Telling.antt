@@ -7,14 +7,17 @@ use Rattle.std.specs.List.{AllByRecursion, list_all}
 use Rattle.std.specs.Fmt.{decimal}
 use Rattle.std.proofs.lemmas.Bool.{true≢false}
 use Rattle.std.proofs.lemmas.List.Elements.{recursion_from_All}
+use Rattle.mud_key.specs.declared.codes.TheConstants.{SPACE, TILDE}
 use Rattle.mud_world.specs.declared.change.Deed.{Deed}
 use Rattle.mud_world.specs.declared.change.Deed.TheVariants.{Dig, Make, Lock, Unlock, Move, Walk, Cost, Player, Rename}
 use Rattle.mud_world.specs.declared.change.Deed.TheVariants.{Recycle, Say, Emote}
+use Rattle.mud_chron.specs.declared.codes.TheConstants.{LF}
 use Rattle.mud_chron.specs.declared.fault.ChronFault.{ChronFault}
 use Rattle.mud_chron.specs.declared.fault.ChronFault.TheVariants.{OutOfMemory, NotHistory, BadLine, BadChange, TooLong}
 use Rattle.mud_chron.specs.declared.fault.ChronFault.TheVariants.{NoEnd}
 use Rattle.mud_chron.specs.declared.format.Format.{Format}
 use Rattle.mud_chron.specs.declared.format.Format.TheVariants.{One, Two}
+use Rattle.mud_chron.specs.declared.limits.TheConstants.{MOST_ENTRIES}
 use Rattle.mud_chron.specs.Entry.{Entry, IsEntry}
 use Rattle.mud_chron.specs.Text.{line_feed, head_line, entry_line, entries_text, end_line}
 use Rattle.mud_chron.specs.Text.{history_text}
@@ -39,125 +42,126 @@ fronts cut_of a b x y h k =
     let pair : ◌≡◌ {A = List ℕ × List ℕ} (a, x) (b, y) = cc in
     (ap (λ (p : List ℕ × List ℕ). p.0) pair, ap (λ (p : List ℕ × List ℕ). p.1) pair)
 
-pub line_cut : (line rest : List ℕ) → lacks 10 line ≡ true → cut 10 (line ++ line_feed ++ rest) ≡ Some (line, rest)
-line_cut line rest h = ap (cut 10) (append_assoc line line_feed rest) ∙ cut_again 10 line rest h
+pub line_cut : (line rest : List ℕ) → lacks LF line ≡ true → cut LF (line ++ line_feed ++ rest) ≡ Some (line, rest)
+line_cut line rest h = ap (cut LF) (append_assoc line line_feed rest) ∙ cut_again LF line rest h
 
-plain_lacks : (b : ℕ) → plain b ≡ true → not (eqb b 10) ≡ true
-plain_lacks b h = go (ltb b 32) (ltb 126 b) (eqb b 10) refl refl refl h
+plain_lacks : (b : ℕ) → plain b ≡ true → not (eqb b LF) ≡ true
+plain_lacks b h = go (ltb b SPACE) (ltb TILDE b) (eqb b LF) refl refl refl h
   where
-    go : (x y z : Bool) → ltb b 32 ≡ x → ltb 126 b ≡ y → eqb b 10 ≡ z → (not x && not y) ≡ true → not z ≡ true
+    go : (x y z : Bool) → ltb b SPACE ≡ x → ltb TILDE b ≡ y → eqb b LF ≡ z → (not x && not y) ≡ true → not z ≡ true
     go x y z e f g p = grind arith
 
-pub entry_lacks : (version : ℕ) (e : Entry) → version < 2 ^ 64 → IsEntry e → lacks 10 (entry_line version e) ≡ true
+pub entry_lacks : (version : ℕ) (e : Entry) → version < 2 ^ 64 → IsEntry e → lacks LF (entry_line version e) ≡ true
 entry_lacks version e fits is =
-    implied plain (λ b. not (eqb b 10)) plain_lacks (entry_line version e) (plain_line version e fits is)
+    implied plain (λ b. not (eqb b LF)) plain_lacks (entry_line version e) (plain_line version e fits is)
 
-end_lacks : (count : ℕ) → count < 2 ^ 64 → lacks 10 (end_line count) ≡ true
+end_lacks : (count : ℕ) → count < 2 ^ 64 → lacks LF (end_line count) ≡ true
 unfolding end_line
-end_lacks count fits = decimal_lacks 10 count (omega arith) fits
+end_lacks count fits = decimal_lacks LF count (omega arith) fits
 
 -- the last line is no entry's
 pub end_apart : (count version : ℕ) (e : Entry) → version < 2 ^ 64 → end_line count ≡ entry_line version e → ⊥
 unfolding end_line
 end_apart count version e fits same =
-    let one : cut 32 (end_line count) ≡ Some (codes "end", decimal count) = refl in
-    let text : List ℕ = decimal e.desk ++ 32 ∷ change_text e.change in
-    let two : cut 32 (entry_line version e) ≡ Some (decimal version, text) =
-    ap (cut 32) (line_shape version e)
-    ∙ cut_again 32 (decimal version) text (decimal_lacks 32 version (omega arith) fits) in
+    let one : cut SPACE (end_line count) ≡ Some (codes "end", decimal count) = refl in
+    let text : List ℕ = decimal e.desk ++ SPACE ∷ change_text e.change in
+    let two : cut SPACE (entry_line version e) ≡ Some (decimal version, text) =
+    ap (cut SPACE) (line_shape version e)
+    ∙ cut_again SPACE (decimal version) text (decimal_lacks SPACE version (omega arith) fits) in
     let words : codes "end" ≡ decimal version =
-    (fronts (cut 32 (end_line count)) (codes "end") (decimal version) (decimal count) text one
-    (ap (cut 32) same ∙ two)).0 in
+    (fronts (cut SPACE (end_line count)) (codes "end") (decimal version) (decimal count) text one
+    (ap (cut SPACE) same ∙ two)).0 in
     true≢false (sym (digits version fits) ∙ ap (list_all is_digit) (sym words))
 
 -- ---- what stands after the entries
 
 data View (format : Format) (entries : List Entry) (rest : List ℕ) : Result (List Entry) ChronFault → Type 0 where
-  unended : cut 10 rest ≡ None → View format entries rest (Err NoEnd)
-  whole : (line : List ℕ) → cut 10 rest ≡ Some (line, []) → line ≡ end_line (length entries)
+  unended : cut LF rest ≡ None → View format entries rest (Err NoEnd)
+  whole : (line : List ℕ) → cut LF rest ≡ Some (line, []) → line ≡ end_line (length entries)
       → View format entries rest (Ok entries)
-  more : (line behind : List ℕ) (n : ℕ) → cut 10 rest ≡ Some (line, behind) → line ≡ end_line (length entries)
+  more : (line behind : List ℕ) (n : ℕ) → cut LF rest ≡ Some (line, behind) → line ≡ end_line (length entries)
       → behind ≢ [] → n ≡ length entries + 3 → View format entries rest (Err (BadLine n))
-  long : (line behind : List ℕ) (e : Entry) → cut 10 rest ≡ Some (line, behind) → IsEntryOf format e
-      → length entries ≡ 65536 → line ≡ entry_line (length entries + 1) e → View format entries rest (Err TooLong)
-  bad : (line behind : List ℕ) (n : ℕ) → cut 10 rest ≡ Some (line, behind) → IsBad format (length entries) line
+  long : (line behind : List ℕ) (e : Entry) → cut LF rest ≡ Some (line, behind) → IsEntryOf format e
+      → length entries ≡ MOST_ENTRIES → line ≡ entry_line (length entries + 1) e
+      → View format entries rest (Err TooLong)
+  bad : (line behind : List ℕ) (n : ℕ) → cut LF rest ≡ Some (line, behind) → IsBad format (length entries) line
       → n ≡ length entries + 2 → View format entries rest (Err (BadLine n))
 
 -- the line of one more entry stands only after 65,536
 abbrev Stops : Format → ℕ → List ℕ → Type 0
 Stops format version rest =
     (e : Entry) (more : List ℕ) → IsEntryOf format e → rest ≡ entry_line version e ++ line_feed ++ more
-    → version ≡ 65537
+    → version ≡ MOST_ENTRIES + 1
 
 uncut : (cut_of : Option (List ℕ × List ℕ)) (p : List ℕ × List ℕ) → cut_of ≡ None → cut_of ≡ Some p → ⊥
 uncut cut_of p h k = let both : ◌≡◌ {A = Option (List ℕ × List ℕ)} None (Some p) = sym h ∙ k in absurd (cc)
 
 stops : (format : Format) (entries : List Entry) (rest : List ℕ) (a : Result (List Entry) ChronFault)
-    → length entries ≤ 65536 → View format entries rest a → Stops format (length entries + 1) rest
+    → length entries ≤ MOST_ENTRIES → View format entries rest a → Stops format (length entries + 1) rest
 stops format entries rest a few view e behind is same = go view
   where
-    there : cut 10 rest ≡ Some (entry_line (length entries + 1) e, behind)
-    there = ap (cut 10) same
+    there : cut LF rest ≡ Some (entry_line (length entries + 1) e, behind)
+    there = ap (cut LF) same
         ∙ line_cut (entry_line (length entries + 1) e) behind (entry_lacks (length entries + 1) e (omega arith) is.0)
 
-    go : {a : Result (List Entry) ChronFault} → View format entries rest a → length entries + 1 ≡ 65537
-    go (unended h) = absurd (uncut (cut 10 rest) (entry_line (length entries + 1) e, behind) h there)
+    go : {a : Result (List Entry) ChronFault} → View format entries rest a → length entries + 1 ≡ MOST_ENTRIES + 1
+    go (unended h) = absurd (uncut (cut LF rest) (entry_line (length entries + 1) e, behind) h there)
     go (whole line h end) =
         absurd (end_apart (length entries) (length entries + 1) e (omega arith)
-        (sym end ∙ (fronts (cut 10 rest) line (entry_line (length entries + 1) e) [] behind h there).0))
+        (sym end ∙ (fronts (cut LF rest) line (entry_line (length entries + 1) e) [] behind h there).0))
     go (more line rest' n h end some is') =
         absurd (end_apart (length entries) (length entries + 1) e (omega arith)
-        (sym end ∙ (fronts (cut 10 rest) line (entry_line (length entries + 1) e) rest' behind h there).0))
+        (sym end ∙ (fronts (cut LF rest) line (entry_line (length entries + 1) e) rest' behind h there).0))
     go (long line rest' f h is' full l) = omega arith
     go (bad line rest' n h b is') =
-        absurd (b.0 e is (fronts (cut 10 rest) line (entry_line (length entries + 1) e) rest' behind h there).0)
+        absurd (b.0 e is (fronts (cut LF rest) line (entry_line (length entries + 1) e) rest' behind h there).0)
 
 one_view : (format : Format) (entries : List Entry) (rest : List ℕ) (a b : Result (List Entry) ChronFault)
-    → length entries ≤ 65536 → View format entries rest a → View format entries rest b → a ≡ b
+    → length entries ≤ MOST_ENTRIES → View format entries rest a → View format entries rest b → a ≡ b
 one_view format entries rest a b few v w = go v w
   where
-    apart : (l m x y : List ℕ) (e : Entry) → cut 10 rest ≡ Some (l, x) → cut 10 rest ≡ Some (m, y)
+    apart : (l m x y : List ℕ) (e : Entry) → cut LF rest ≡ Some (l, x) → cut LF rest ≡ Some (m, y)
         → l ≡ end_line (length entries) → m ≡ entry_line (length entries + 1) e → ⊥
     apart l m x y e h k end is =
         end_apart (length entries) (length entries + 1) e (omega arith)
-        (sym end ∙ (fronts (cut 10 rest) l m x y h k).0 ∙ is)
+        (sym end ∙ (fronts (cut LF rest) l m x y h k).0 ∙ is)
 
-    ended : (l m x y : List ℕ) → cut 10 rest ≡ Some (l, x) → cut 10 rest ≡ Some (m, y) → l ≡ end_line (length entries)
+    ended : (l m x y : List ℕ) → cut LF rest ≡ Some (l, x) → cut LF rest ≡ Some (m, y) → l ≡ end_line (length entries)
         → IsBad format (length entries) m → ⊥
-    ended l m x y h k end b = b.1 ((fronts (cut 10 rest) m l y x k h).0 ∙ end)
+    ended l m x y h k end b = b.1 ((fronts (cut LF rest) m l y x k h).0 ∙ end)
 
-    extra : (l m y : List ℕ) → cut 10 rest ≡ Some (l, []) → cut 10 rest ≡ Some (m, y) → y ≢ [] → ⊥
-    extra l m y h k some = some ((fronts (cut 10 rest) m l y [] k h).1)
+    extra : (l m y : List ℕ) → cut LF rest ≡ Some (l, []) → cut LF rest ≡ Some (m, y) → y ≢ [] → ⊥
+    extra l m y h k some = some ((fronts (cut LF rest) m l y [] k h).1)
 
-    entered : (l m x y : List ℕ) (e : Entry) → cut 10 rest ≡ Some (l, x) → cut 10 rest ≡ Some (m, y)
+    entered : (l m x y : List ℕ) (e : Entry) → cut LF rest ≡ Some (l, x) → cut LF rest ≡ Some (m, y)
         → IsEntryOf format e → l ≡ entry_line (length entries + 1) e → IsBad format (length entries) m → ⊥
-    entered l m x y e h k is same b = b.0 e is ((fronts (cut 10 rest) m l y x k h).0 ∙ same)
+    entered l m x y e h k is same b = b.0 e is ((fronts (cut LF rest) m l y x k h).0 ∙ same)
 
     numbers : (n m : ℕ) → n ≡ m → ◌≡◌ {A = Result (List Entry) ChronFault} (Err (BadLine n)) (Err (BadLine m))
     numbers n m same = ap (λ k. Err (BadLine k)) same
 
     go : {a b : Result (List Entry) ChronFault} → View format entries rest a → View format entries rest b → a ≡ b
     go (unended h) (unended k) = refl
-    go (unended h) (whole m k end) = absurd (uncut (cut 10 rest) (m, []) h k)
-    go (unended h) (more m y n k end some is) = absurd (uncut (cut 10 rest) (m, y) h k)
-    go (unended h) (long m y e k is full l) = absurd (uncut (cut 10 rest) (m, y) h k)
-    go (unended h) (bad m y n k b is) = absurd (uncut (cut 10 rest) (m, y) h k)
-    go (whole l h end) (unended k) = absurd (uncut (cut 10 rest) (l, []) k h)
+    go (unended h) (whole m k end) = absurd (uncut (cut LF rest) (m, []) h k)
+    go (unended h) (more m y n k end some is) = absurd (uncut (cut LF rest) (m, y) h k)
+    go (unended h) (long m y e k is full l) = absurd (uncut (cut LF rest) (m, y) h k)
+    go (unended h) (bad m y n k b is) = absurd (uncut (cut LF rest) (m, y) h k)
+    go (whole l h end) (unended k) = absurd (uncut (cut LF rest) (l, []) k h)
     go (whole l h end) (whole m k end') = refl
     go (whole l h end) (more m y n k end' some is) = absurd (extra l m y h k some)
     go (whole l h end) (long m y e k is full same) = absurd (apart l m [] y e h k end same)
     go (whole l h end) (bad m y n k b is) = absurd (ended l m [] y h k end b)
-    go (more l x n h end some is) (unended k) = absurd (uncut (cut 10 rest) (l, x) k h)
+    go (more l x n h end some is) (unended k) = absurd (uncut (cut LF rest) (l, x) k h)
     go (more l x n h end some is) (whole m k end') = absurd (extra m l x k h some)
     go (more l x n h end some is) (more m y n' k end' some' is') = numbers n n' (is ∙ sym is')
     go (more l x n h end some is) (long m y e k is' full same) = absurd (apart l m x y e h k end same)
     go (more l x n h end some is) (bad m y n' k b is') = absurd (ended l m x y h k end b)
-    go (long l x e h is full same) (unended k) = absurd (uncut (cut 10 rest) (l, x) k h)
+    go (long l x e h is full same) (unended k) = absurd (uncut (cut LF rest) (l, x) k h)
     go (long l x e h is full same) (whole m k end) = absurd (apart m l [] x e k h end same)
     go (long l x e h is full same) (more m y n k end some is') = absurd (apart m l y x e k h end same)
     go (long l x e h is full same) (long m y e' k is' full' same') = refl
     go (long l x e h is full same) (bad m y n k b is') = absurd (entered l m x y e h k is same b)
-    go (bad l x n h b is) (unended k) = absurd (uncut (cut 10 rest) (l, x) k h)
+    go (bad l x n h b is) (unended k) = absurd (uncut (cut LF rest) (l, x) k h)
     go (bad l x n h b is) (whole m k end) = absurd (ended m l [] x k h end b)
     go (bad l x n h b is) (more m y n' k end some is') = absurd (ended m l y x k h end b)
     go (bad l x n h b is) (long m y e k is' full same) = absurd (entered m l y x e k h is' same b)
@@ -168,7 +172,8 @@ one_view format entries rest a b few v w = go v w
 -- two lists of entries that begin one text, with nothing more after them, are one
 same_entries : (format : Format) (version u w : ℕ) (es fs : List Entry) (r s : List ℕ)
     → AllByRecursion (IsEntryOf format) es → AllByRecursion (IsEntryOf format) fs
-    → version + length es ≡ u → version + length fs ≡ w → u ≤ 65537 → w ≤ 65537 → Stops format u r → Stops format w s
+    → version + length es ≡ u → version + length fs ≡ w → u ≤ MOST_ENTRIES + 1 → w ≤ MOST_ENTRIES + 1
+    → Stops format u r → Stops format w s
     → entries_text version es ++ r ≡ entries_text version fs ++ s → (es ≡ fs) × (r ≡ s)
 same_entries format version u w [] [] r s h k ue we ul wl p q same = (refl, same)
 same_entries format version u w [] (f ∷ fs) r s h k ue we ul wl p q same =
@@ -176,14 +181,14 @@ same_entries format version u w [] (f ∷ fs) r s h k ue we ul wl p q same =
     let there : r ≡ entry_line u f ++ line_feed ++ (entries_text (version + 1) fs ++ s) =
     same ∙ append_assoc (entry_text version f) (entries_text (version + 1) fs) s
     ∙ ap (λ v. entry_line v f ++ line_feed ++ (entries_text (version + 1) fs ++ s)) (sym now) in
-    let full : u ≡ 65537 = p f (entries_text (version + 1) fs ++ s) k.0 there in
+    let full : u ≡ MOST_ENTRIES + 1 = p f (entries_text (version + 1) fs ++ s) k.0 there in
     absurd (omega arith)
 same_entries format version u w (e ∷ es) [] r s h k ue we ul wl p q same =
     let now : w ≡ version = omega arith in
     let there : s ≡ entry_line w e ++ line_feed ++ (entries_text (version + 1) es ++ r) =
     sym same ∙ append_assoc (entry_text version e) (entries_text (version + 1) es) r
     ∙ ap (λ v. entry_line v e ++ line_feed ++ (entries_text (version + 1) es ++ r)) (sym now) in
-    let full : w ≡ 65537 = q e (entries_text (version + 1) es ++ r) h.0 there in
+    let full : w ≡ MOST_ENTRIES + 1 = q e (entries_text (version + 1) es ++ r) h.0 there in
     absurd (omega arith)
 same_entries format version u w (e ∷ es) (f ∷ fs) r s h k ue we ul wl p q same =
     let fits : version < 2 ^ 64 = omega arith in
@@ -193,9 +198,9 @@ same_entries format version u w (e ∷ es) (f ∷ fs) r s h k ue we ul wl p q sa
     sym (append_assoc (entry_text version e) (entries_text (version + 1) es) r) ∙ same
     ∙ append_assoc (entry_text version f) (entries_text (version + 1) fs) s in
     let parts =
-    fronts (cut 10 (entry_line version e ++ line_feed ++ x)) (entry_line version e) (entry_line version f) x y
+    fronts (cut LF (entry_line version e ++ line_feed ++ x)) (entry_line version e) (entry_line version f) x y
     (line_cut (entry_line version e) x (entry_lacks version e fits h.0.0))
-    (ap (cut 10) lines ∙ line_cut (entry_line version f) y (entry_lacks version f fits k.0.0)) in
+    (ap (cut LF) lines ∙ line_cut (entry_line version f) y (entry_lacks version f fits k.0.0)) in
     let found : ◌≡◌ {A = Option Entry} (Some e) (Some f) =
     sym (entry_again version e fits h.0.0) ∙ ap entry_in parts.0 ∙ entry_again version f fits k.0.0 in
     let first : e ≡ f = cc in
@@ -214,14 +219,14 @@ record Told (bytes : List ℕ) (a : Result (List Entry) ChronFault) : Type 0 whe
 
 told_text : (bytes : List ℕ) (entries : List Entry) → SpellsHistory bytes entries → Told bytes (Ok entries)
 told_text bytes entries (format, are, spelled) =
-    let few : length entries ≤ 65536 = are.few in
+    let few : length entries ≤ MOST_ENTRIES = are.few in
     record {
       format = format;
       entries = entries;
       rest = end_line (length entries) ++ line_feed;
       begins = record { allowed = are; spelled = spelled };
       view = whole (end_line (length entries))
-          (cut_again 10 (end_line (length entries)) [] (end_lacks (length entries) (omega arith))) refl;
+          (cut_again LF (end_line (length entries)) [] (end_lacks (length entries) (omega arith))) refl;
     }
 
 told_fault : (bytes : List ℕ) (fault : ChronFault) → HasFault bytes fault → IsNoHistory bytes ⊎ Told bytes (Err fault)
@@ -234,10 +239,10 @@ told_fault bytes (BadLine n) (inl h) = inr (record {
   rest = h.line ++ line_feed ++ h.rest;
   begins = h.begins;
   view = bad h.line h.rest n
-      (line_cut h.line h.rest (lacks_from 10 h.line (recursion_from_All (λ b. b ≢ 10) h.line h.whole))) h.bad h.number;
+      (line_cut h.line h.rest (lacks_from LF h.line (recursion_from_All (λ b. b ≢ LF) h.line h.whole))) h.bad h.number;
 })
 told_fault bytes (BadLine n) (inr h) =
-    let few : length h.entries ≤ 65536 = h.begins.allowed.few in
+    let few : length h.entries ≤ MOST_ENTRIES = h.begins.allowed.few in
     inr (record {
       format = h.format;
       entries = h.entries;
@@ -248,22 +253,23 @@ told_fault bytes (BadLine n) (inr h) =
           (end_lacks (length h.entries) (omega arith))) refl h.more h.number;
     })
 told_fault bytes TooLong h =
-    let next : 65537 ≡ length h.entries + 1 = omega (arith, h.full) in
+    let next : MOST_ENTRIES + 1 ≡ length h.entries + 1 = omega (arith, h.full) in
     inr (record {
       format = h.format;
       entries = h.entries;
-      rest = entry_line 65537 h.next ++ line_feed ++ h.rest;
+      rest = entry_line (MOST_ENTRIES + 1) h.next ++ line_feed ++ h.rest;
       begins = h.begins;
-      view = long (entry_line 65537 h.next) h.rest h.next
-          (line_cut (entry_line 65537 h.next) h.rest
-          (entry_lacks 65537 h.next (omega arith) h.has_line.0)) h.has_line h.full (ap (λ v. entry_line v h.next) next);
+      view = long (entry_line (MOST_ENTRIES + 1) h.next) h.rest h.next
+          (line_cut (entry_line (MOST_ENTRIES + 1) h.next) h.rest
+          (entry_lacks (MOST_ENTRIES + 1) h.next (omega arith) h.has_line.0)) h.has_line h.full
+          (ap (λ v. entry_line v h.next) next);
     })
 told_fault bytes NoEnd h = inr (record {
   format = h.format;
   entries = h.entries;
   rest = h.rest;
   begins = h.begins;
-  view = unended (cut_lacks 10 h.rest (lacks_from 10 h.rest (recursion_from_All (λ b. b ≢ 10) h.rest h.unended)));
+  view = unended (cut_lacks LF h.rest (lacks_from LF h.rest (recursion_from_All (λ b. b ≢ LF) h.rest h.unended)));
 })
 
 formats_apart : (es fs : List Entry) (r s : List ℕ) → begun_text One es r ≡ begun_text Two fs s → ⊥
@@ -279,8 +285,8 @@ one_format : (format : Format) (es fs : List Entry) (r s : List ℕ) (a b : Resu
     → AreEntriesOf format es → AreEntriesOf format fs
     → View format es r a → View format fs s b → begun_text format es r ≡ begun_text format fs s → a ≡ b
 one_format format es fs r s a b h k v w same =
-    let few : length es ≤ 65536 = h.few in
-    let few' : length fs ≤ 65536 = k.few in
+    let few : length es ≤ MOST_ENTRIES = h.few in
+    let few' : length fs ≤ MOST_ENTRIES = k.few in
     let one =
     same_entries format 1 (length es + 1) (length fs + 1) es fs r s h.each k.each (omega arith) (omega arith)
     (omega arith) (omega arith) (stops format es r a few v) (stops format fs s b few' w)
@@ -340,10 +346,10 @@ alone bytes (BadLine n) none (inr h) =
     ∙ append_assoc (head_line h.format ++ line_feed) (entries_text 1 h.entries)
     (end_line (length h.entries) ++ line_feed ++ h.rest)))
 alone bytes TooLong none h =
-    absurd (none h.format (entries_text 1 h.entries ++ (entry_line 65537 h.next ++ line_feed ++ h.rest))
+    absurd (none h.format (entries_text 1 h.entries ++ (entry_line (MOST_ENTRIES + 1) h.next ++ line_feed ++ h.rest))
     (h.begins.spelled
     ∙ append_assoc (head_line h.format ++ line_feed) (entries_text 1 h.entries)
-    (entry_line 65537 h.next ++ line_feed ++ h.rest)))
+    (entry_line (MOST_ENTRIES + 1) h.next ++ line_feed ++ h.rest)))
 alone bytes NoEnd none h =
     absurd (none h.format (entries_text 1 h.entries ++ h.rest)
     (h.begins.spelled ∙ append_assoc (head_line h.format ++ line_feed) (entries_text 1 h.entries) h.rest))

@@ -1,11 +1,14 @@
 -- Entries of a history, and which there are.
 pub use Rattle.mud_world.specs.Parts.{IsTarget, HasParts}
 use Rattle.std.specs.Prelude.{ℕ, ◌≤◌, Some, None}
+use Rattle.mud_key.specs.declared.limits.TheConstants.{LAST_NUMBER}
 use Rattle.mud_world.specs.declared.change.Change.{Change}
 use Rattle.mud_world.specs.declared.change.Target.TheVariants.{Old}
 use Rattle.mud_world.specs.declared.change.Deed.{Deed}
 use Rattle.mud_world.specs.declared.change.Deed.TheVariants.{Dig, Lock, Unlock, Move, Walk, Cost, Rename}
 use Rattle.mud_world.specs.declared.change.Deed.TheVariants.{Recycle}
+use Rattle.mud_world.specs.declared.limits.TheConstants.{MOST_COST}
+use Rattle.mud_chron.specs.declared.limits.TheConstants.{MOST_DESKS}
 
 -- an accepted change, and the number of the desk that made it
 pub record Entry : Type 0 where
@@ -14,7 +17,7 @@ pub record Entry : Type 0 where
 
 -- the number of an object
 abbrev pub IsNumber : ℕ → Type 0
-IsNumber n = n ≤ 8191
+IsNumber n = n ≤ LAST_NUMBER
 
 -- the numbers of a deed are in their ranges, and a way to an old room has an exit
 abbrev pub IsInRange : Deed → Type 0
@@ -24,7 +27,7 @@ IsInRange (Lock object key) = IsNumber object
 IsInRange (Unlock object) = IsNumber object
 IsInRange (Move thing to) = IsNumber thing × IsNumber to
 IsInRange (Walk exit) = IsNumber exit
-IsInRange (Cost exit cost) = IsNumber exit × (cost ≤ 10000)
+IsInRange (Cost exit cost) = IsNumber exit × (cost ≤ MOST_COST)
 IsInRange (Rename object names) = IsNumber object
 IsInRange (Recycle object) = IsNumber object
 IsInRange other = Unit {0}
@@ -32,7 +35,7 @@ IsInRange other = Unit {0}
 -- what a text can spell: the desk is 1 to 64, and all other numbers are in their ranges
 pub record IsSpellable (desk : ℕ) (change : Change) : Type 0 where
   pub desk_from : 1 ≤ desk
-  pub desk_to : desk ≤ 64
+  pub desk_to : desk ≤ MOST_DESKS
   pub actor : IsNumber change.actor
   pub deed : IsInRange change.deed
 

@@ -3,13 +3,15 @@ use Rattle.std.specs.Prelude.{◌≡◌, ◌≢◌, ◌⊎◌, ℕ, ◌+◌, Lis
 use Rattle.mud_chron.specs.declared.fault.ChronFault.{ChronFault}
 use Rattle.mud_chron.specs.declared.fault.ChronFault.TheVariants.{NotHistory, BadLine, TooLong, NoEnd}
 use Rattle.mud_chron.specs.declared.format.Format.{Format}
+use Rattle.mud_chron.specs.declared.codes.TheConstants.{LF}
+use Rattle.mud_chron.specs.declared.limits.TheConstants.{MOST_ENTRIES}
 use Rattle.mud_chron.specs.Entry.{Entry}
 use Rattle.mud_chron.specs.Text.{line_feed, head_line, entry_line, end_line, journal_text}
 use Rattle.mud_chron.specs.History.{IsEntryOf, AreEntriesOf}
 
 -- bytes without a line feed
 abbrev pub HasNoLineFeed : List ℕ → Type 0
-HasNoLineFeed bytes = All (λ b. b ≢ 10) bytes
+HasNoLineFeed bytes = All (λ b. b ≢ LF) bytes
 
 -- the bytes begin with no first line
 abbrev pub IsNoHistory : List ℕ → Type 0
@@ -50,8 +52,8 @@ pub record IsTooLong (bytes : List ℕ) : Type 0 where
   pub entries : List Entry
   pub next : Entry
   pub rest : List ℕ
-  pub begins : Begins format entries bytes (entry_line 65537 next ++ line_feed ++ rest)
-  pub full : length entries ≡ 65536
+  pub begins : Begins format entries bytes (entry_line (MOST_ENTRIES + 1) next ++ line_feed ++ rest)
+  pub full : length entries ≡ MOST_ENTRIES
   pub has_line : IsEntryOf format next
 
 -- after the lines of some entries stands no further line feed

@@ -5,6 +5,7 @@ use Rattle.mud_world.specs.declared.change.Deed.{Deed}
 use Rattle.mud_world.specs.declared.change.Deed.TheVariants.{Cost}
 use Rattle.mud_chron.specs.declared.format.Format.{Format}
 use Rattle.mud_chron.specs.declared.format.Format.TheVariants.{One}
+use Rattle.mud_chron.specs.declared.limits.TheConstants.{MOST_ENTRIES}
 use Rattle.mud_chron.specs.Entry.{Entry, IsEntry}
 use Rattle.mud_chron.specs.Text.{history_text}
 
@@ -20,7 +21,7 @@ IsEntryOf format e = IsEntry e × HasLine format e.change.deed
 -- entries that a text can have: each has a line in this format, and there are at most 65,536
 pub record AreEntriesOf (format : Format) (entries : List Entry) : Type 0 where
   pub each : AllByRecursion (IsEntryOf format) entries
-  pub few : length entries ≤ 65536
+  pub few : length entries ≤ MOST_ENTRIES
 
 -- the bytes are the text of these entries, in one of the formats
 abbrev pub SpellsHistory : List ℕ → List Entry → Type 0

@@ -9,6 +9,8 @@ use Rattle.mud_world.specs.declared.change.Change.{Change}
 use Rattle.mud_chron.specs.declared.fault.ChronFault.{ChronFault}
 use Rattle.mud_chron.specs.declared.format.Format.{Format}
 use Rattle.mud_chron.specs.declared.format.Format.TheVariants.{Two}
+use Rattle.mud_chron.specs.declared.codes.TheConstants.{CR}
+use Rattle.mud_chron.specs.declared.limits.TheConstants.{MOST_ENTRIES, MOST_DESKS}
 use Rattle.mud_chron.specs.Entry.{Entry, IsEntry, IsSpellable}
 use Rattle.mud_chron.specs.Text.{line_feed, head_line, history_text, journal_text}
 use Rattle.mud_chron.specs.History.{AreEntriesOf, SpellsHistory}
@@ -18,7 +20,7 @@ use Rattle.mud_chron.specs.Fronts.{Recovers, HasFrontFault}
 -- a change that is legal in a sound world can be spelled, whichever desk made it
 abbrev pub LegalIsSpellable : Type 0
 LegalIsSpellable =
-    (w : State) (desk : ℕ) (change : Change) → IsSound w → refusal w change ≡ None → 1 ≤ desk → desk ≤ 64
+    (w : State) (desk : ℕ) (change : Change) → IsSound w → refusal w change ≡ None → 1 ≤ desk → desk ≤ MOST_DESKS
     → IsSpellable desk change
 
 -- bytes are the text of one list of entries at most, whatever the format
@@ -31,10 +33,10 @@ SpellsOne =
 abbrev pub HasOneFault : Type 0
 HasOneFault = (bytes : List ℕ) (fault other : ChronFault) → HasFault bytes fault → HasFault bytes other → fault ≡ other
 
--- no byte of a history's text is 13, a return
+-- no byte of a history's text is a return
 abbrev pub HasNoReturns : Type 0
 HasNoReturns =
-    (text : List ℕ) (entries : List Entry) → SpellsHistory text entries → AllByRecursion (λ b. b ≢ 13) text
+    (text : List ℕ) (entries : List Entry) → SpellsHistory text entries → AllByRecursion (λ b. b ≢ CR) text
 
 -- bytes with a fault are the text of no entries
 abbrev pub FaultsAreNoTexts : Type 0
@@ -45,7 +47,7 @@ FaultsAreNoTexts =
 -- what is written spells the same entries again, and no others
 abbrev pub IsWrittenAgain : Type 0
 IsWrittenAgain =
-    (entries others : List Entry) → AllByRecursion IsEntry entries → length entries ≤ 65536
+    (entries others : List Entry) → AllByRecursion IsEntry entries → length entries ≤ MOST_ENTRIES
     → SpellsHistory (history_text Two entries) entries
     × (SpellsHistory (history_text Two entries) others → others ≡ entries)
 

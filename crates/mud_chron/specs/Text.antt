@@ -18,17 +18,17 @@ abbrev pub line_feed : List ℕ
 line_feed = codes "\n"
 
 -- the names with a comma between each two
-abbrev pub listed : List (List ℕ) → List ℕ
-listed [] = []
-listed (name ∷ names) = name ++ flat_map (λ other. codes "," ++ other) names
+abbrev pub with_commas : List (List ℕ) → List ℕ
+with_commas [] = []
+with_commas (name ∷ names) = name ++ flat_map (λ other. codes "," ++ other) names
 
 -- the names in double quotes
-abbrev pub quoted : List (List ℕ) → List ℕ
-quoted names = codes "\"" ++ listed names ++ codes "\""
+abbrev pub in_quotes : List (List ℕ) → List ℕ
+in_quotes names = codes "\"" ++ with_commas names ++ codes "\""
 
 -- where a dig leads: to a new room, or to an old one
 abbrev pub target_text : Target → List ℕ
-target_text (New names) = codes "new " ++ quoted names
+target_text (New names) = codes "new " ++ in_quotes names
 target_text (Old room) = codes "old " ++ number_text room
 
 -- a deed of an actor, who is spelled first: its exits and the exit back where there are such
@@ -36,9 +36,10 @@ abbrev pub deed_text : List ℕ → Deed → List ℕ
 deed_text actor (Dig target doors) =
     codes "dig " ++ actor ++ codes " " ++ target_text target
     ++ option_map_or
-    (λ d. codes " out " ++ quoted d.out ++ option_map_or (λ names. codes " back " ++ quoted names) d.back []) doors []
-deed_text actor (Make names) = codes "make " ++ actor ++ codes " " ++ quoted names
-deed_text actor (Player name) = codes "player " ++ actor ++ codes " " ++ quoted (name ∷ [])
+    (λ d. codes " out " ++ in_quotes d.out ++ option_map_or (λ names. codes " back " ++ in_quotes names) d.back [])
+    doors []
+deed_text actor (Make names) = codes "make " ++ actor ++ codes " " ++ in_quotes names
+deed_text actor (Player name) = codes "player " ++ actor ++ codes " " ++ in_quotes (name ∷ [])
 deed_text actor (Lock object key) =
     codes "lock " ++ actor ++ codes " " ++ number_text object ++ codes " " ++ printed (by_text key)
 deed_text actor (Unlock object) = codes "unlock " ++ actor ++ codes " " ++ number_text object
@@ -47,7 +48,7 @@ deed_text actor (Move thing to) =
 deed_text actor (Walk exit) = codes "walk " ++ actor ++ codes " " ++ number_text exit
 deed_text actor (Cost exit cost) = codes "cost " ++ actor ++ codes " " ++ number_text exit ++ codes " " ++ decimal cost
 deed_text actor (Rename object names) =
-    codes "rename " ++ actor ++ codes " " ++ number_text object ++ codes " " ++ quoted names
+    codes "rename " ++ actor ++ codes " " ++ number_text object ++ codes " " ++ in_quotes names
 deed_text actor (Recycle object) = codes "recycle " ++ actor ++ codes " " ++ number_text object
 deed_text actor (Say text) = codes "say " ++ actor ++ codes " " ++ text
 deed_text actor (Emote text) = codes "emote " ++ actor ++ codes " " ++ text

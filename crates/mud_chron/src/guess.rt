@@ -2,6 +2,7 @@
 
 ghost use Rattle.std.specs.Prelude.{◌≡◌, ◌≤◌, ◌<◌, ◌^◌, ◌++◌, ◌∷◌, [], ℕ, List, Option, None, Some, codes, IfOk};
 ghost use Rattle.std.specs.Fmt.{decimal};
+ghost use Rattle.mud_key.specs.declared.limits.TheConstants.{LAST_NUMBER};
 ghost use Rattle.mud_key.specs.Name.{IsName};
 ghost use Rattle.mud_key.specs.Printed.{number_text};
 ghost use Rattle.mud_key.specs.Names.{AreNames};
@@ -9,25 +10,24 @@ ghost use Rattle.mud_world.specs.declared.change.Doors.{Doors as DoorsSeen};
 ghost use Rattle.mud_world.specs.declared.change.Change.{Change as ChangeSeen};
 ghost use Rattle.mud_chron.specs.Entry.{Entry, IsNumber, IsInRange, IsSpellable, IsEntry, HasParts};
 ghost use Rattle.mud_world.specs.inner.Parts.{AreDoors, AreBackNames};
-ghost use Rattle.mud_chron.specs.Text.{quoted, entry_line};
+ghost use Rattle.mud_chron.specs.Text.{in_quotes, entry_line};
 ghost use Rattle.mud_chron.specs.inner.Texts.{back_text, doors_text, change_text};
-ghost use Rattle.mud_chron.specs.inner.Reader.{Tells, quoted_in, quoted_name_in, back_in, doors_in, new_in, old_in, dig_in, make_in};
-ghost use Rattle.mud_chron.specs.inner.Reader.{player_in, lock_in, unlock_in, move_in, walk_in, cost_in, rename_in, recycle_in, say_in, emote_in};
-ghost use Rattle.mud_chron.specs.inner.Reader.{deed_in, change_in, desk_in, entry_in};
+ghost use Rattle.mud_chron.specs.inner.Reader.{Tells, quoted_in, quoted_name_in, back_in, doors_in, new_in, old_in};
+ghost use Rattle.mud_chron.specs.inner.Reader.{dig_in, make_in, player_in, lock_in, unlock_in, move_in, walk_in};
+ghost use Rattle.mud_chron.specs.inner.Reader.{cost_in, rename_in, recycle_in, say_in, emote_in, deed_in, change_in};
+ghost use Rattle.mud_chron.specs.inner.Reader.{desk_in, entry_in};
 
 use crate::entry::Entry;
 use crate::fields::{Unread, cut, key, name, names, number, object, object_before, speech};
+use crate::limits::MOST_DESKS;
 use crate::verb::{Verb, verb_of};
 use mud_key::{Name, Names};
 use mud_world::{Change, Deed, Doors, MOST_COST, Target};
 use std::alloc::Global;
 
-// The number of the last desk.
-const LAST_DESK: u32 = 64;
-
 // The names between the first two quotes, and what stands after them.
 #[tactic(auto, unfolding(crate::specs::inner::Reader::quoted_in, crate::specs::inner::Reader::names_before))]
-fn quoted(alloc: Global, text: &str) -> Result<(Names, &str), Unread>
+fn names_between_quotes(alloc: Global, text: &str) -> Result<(Names, &str), Unread>
     ensures { Tells (λ p. (p.0, p.1.now)) result (quoted_in text.now) }
 {
     let (_, rest) = cut(text, '"')?;
@@ -53,7 +53,7 @@ fn back_of(alloc: Global, text: &str) -> Result<Option<Names>, Unread>
     if text.is_empty() {
         return Ok(None);
     }
-    let (names, _) = quoted(alloc, text)?;
+    let (names, _) = names_between_quotes(alloc, text)?;
     Ok(Some(names))
 }
 
@@ -65,7 +65,7 @@ fn doors_of(alloc: Global, text: &str) -> Result<Option<Doors>, Unread>
     if text.is_empty() {
         return Ok(None);
     }
-    let (out, rest) = quoted(alloc, text)?;
+    let (out, rest) = names_between_quotes(alloc, text)?;
     let back = back_of(alloc, rest)?;
     Ok(Some(Doors { out, back }))
 }
@@ -76,7 +76,7 @@ fn dig_new(alloc: Global, text: &str) -> Result<Deed, Unread>
     ensures means { Tells (λ x. x) result (new_in text.now) }
     ensures range { IfOk result (λ d. IsInRange d) }
 {
-    let (names, rest) = quoted(alloc, text)?;
+    let (names, rest) = names_between_quotes(alloc, text)?;
     let doors = doors_of(alloc, rest)?;
     Ok(Deed::Dig(Target::New(names), doors))
 }
@@ -114,7 +114,7 @@ fn make(alloc: Global, text: &str) -> Result<Deed, Unread>
     ensures means { Tells (λ x. x) result (make_in text.now) }
     ensures range { IfOk result (λ d. IsInRange d) }
 {
-    let (names, _) = quoted(alloc, text)?;
+    let (names, _) = names_between_quotes(alloc, text)?;
     Ok(Deed::Make(names))
 }
 
@@ -187,7 +187,7 @@ fn rename(alloc: Global, text: &str) -> Result<Deed, Unread>
     ensures range { IfOk result (λ d. IsInRange d) }
 {
     let (object, rest) = object_before(text)?;
-    let (names, _) = quoted(alloc, rest)?;
+    let (names, _) = names_between_quotes(alloc, rest)?;
     Ok(Deed::Rename { object, names })
 }
 
@@ -245,7 +245,7 @@ fn deed_of(alloc: Global, verb: Verb, text: &str) -> Result<Deed, Unread>
 #[tactic(auto, unfolding(crate::specs::inner::Reader::change_in))]
 fn change_of(alloc: Global, text: &str) -> Result<Change, Unread>
     ensures means { Tells (λ x. x) result (change_in text.now) }
-    ensures actor { IfOk result (λ c. c.actor ≤ 8191) }
+    ensures actor { IfOk result (λ c. c.actor ≤ LAST_NUMBER) }
     ensures range { IfOk result (λ c. IsInRange c.deed) }
 {
     let (word, rest) = cut(text, ' ')?;
@@ -260,9 +260,9 @@ fn change_of(alloc: Global, text: &str) -> Result<Change, Unread>
 fn desk_of(text: &str) -> Result<u32, Unread>
     ensures means { Tells (λ x. x) result (desk_in text.now) }
     ensures from { IfOk result (λ n. 1 ≤ n) }
-    ensures to { IfOk result (λ n. n ≤ 64) }
+    ensures to { IfOk result (λ n. n ≤ MOST_DESKS) }
 {
-    let desk = number(text, LAST_DESK)?;
+    let desk = number(text, MOST_DESKS)?;
     if 1 <= desk {
         Ok(desk)
     } else {

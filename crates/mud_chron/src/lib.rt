@@ -21,6 +21,7 @@
 //! journal loses nothing that was synced, are the contracts of [`laws`].
 #![tactic(auto)]
 
+pub mod codes;
 mod copying;
 mod entry;
 mod fault;
@@ -29,6 +30,7 @@ mod format;
 mod front;
 mod guess;
 pub mod laws;
+pub mod limits;
 mod line;
 mod parts;
 mod reading;
@@ -40,6 +42,7 @@ pub use entry::Entry;
 pub use fault::ChronFault;
 pub use format::Format;
 pub use front::{Front, read_front};
-pub use reading::{MOST_ENTRIES, read_history};
+pub use limits::MOST_ENTRIES;
+pub use reading::read_history;
 pub use replaying::replay;
 pub use writing::{write_entry, write_history, write_names};

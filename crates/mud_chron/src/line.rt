@@ -1,6 +1,7 @@
 //! One line of a history.
 
 ghost use Rattle.std.specs.Prelude.{◌≡◌, ◌≤◌, ◌<◌, ◌^◌, ◌+◌, ◌↔◌, ℕ, true, IfOk, MatchOption, MatchBool};
+ghost use Rattle.mud_chron.specs.declared.limits.TheConstants.{MOST_ENTRIES};
 ghost use Rattle.mud_chron.specs.Text.{entry_line, end_line};
 ghost use Rattle.mud_chron.specs.Entry.{Entry, IsEntry};
 ghost use Rattle.mud_chron.specs.inner.Fields.{Finds};
@@ -95,7 +96,7 @@ fn entry_of(
 
 // Whether it is the last line after this many entries.
 fn is_end(alloc: Global, count: usize, line: &[u8]) -> Result<bool, AllocError>
-    requires { count ≤ 65536 }
+    requires { count ≤ MOST_ENTRIES }
     ensures { IfOk result (λ b. (b ≡ true) ↔ (line.now ≡ end_line count)) }
 {
     let mut text = String::new(alloc);
@@ -110,7 +111,7 @@ pub(crate) fn line_of(
     count: usize,
     line: &[u8],
 ) -> Result<Line, AllocError>
-    requires { count ≤ 65536 }
+    requires { count ≤ MOST_ENTRIES }
     ensures { IfOk result (IsLine format count line.now) }
 {
     if is_end(alloc, count, line)? {

@@ -5,22 +5,21 @@ ghost use Rattle.mud_chron.specs.Text.{line_feed, head_line};
 ghost use Rattle.mud_chron.specs.History.{SpellsHistory};
 ghost use Rattle.mud_chron.specs.Faults.{HasNoLineFeed, IsNoHistory, HasFault};
 
+use crate::codes::LF;
 use crate::entry::Entry;
 use crate::fault::ChronFault;
 use crate::format::Format;
+use crate::limits::MOST_ENTRIES;
 use crate::line::{Line, line_of};
 use memchr::memchr;
 use std::alloc::Global;
-
-/// The most entries of a history.
-pub const MOST_ENTRIES: usize = 65_536;
 
 // The first line without its end, and what stands after it.
 pub(crate) fn cut_line(bytes: &[u8]) -> Option<(&[u8], &[u8])>
     ensures { MatchOption result (HasNoLineFeed bytes.now)
         (λ p. HasNoLineFeed p.0.now × (bytes.now ≡ p.0.now ++ line_feed ++ p.1.now)) }
 {
-    let Some(at) = memchr(b'\n', bytes) else {
+    let Some(at) = memchr(LF, bytes) else {
         return None;
     };
     let (line, ended) = bytes.split_at(at);

@@ -6,7 +6,8 @@ ghost use Rattle.std.specs.Fmt.{decimal};
 ghost use Rattle.std.specs.List.{flat_map};
 ghost use Rattle.mud_key.specs.Printed.{number_text, by_text, printed};
 ghost use Rattle.mud_chron.specs.declared.format.Format.TheVariants.{Two};
-ghost use Rattle.mud_chron.specs.Text.{listed, quoted, target_text, deed_text, entry_line, line_feed};
+ghost use Rattle.mud_chron.specs.declared.limits.TheConstants.{MOST_ENTRIES};
+ghost use Rattle.mud_chron.specs.Text.{with_commas, in_quotes, target_text, deed_text, entry_line, line_feed};
 ghost use Rattle.mud_chron.specs.Text.{entries_text, end_line, history_text};
 ghost use Rattle.mud_chron.specs.inner.Texts.{back_text, doors_text, change_text};
 
@@ -65,7 +66,7 @@ fn push_others(out: &mut String, names: &[String]) -> Result<(), AllocError>
 }
 
 fn push_listed(out: &mut String, names: &[String]) -> Result<(), AllocError>
-    ensures { OnOk result (string_bytes out.new ≡ string_bytes out.old ++ listed (map string_bytes names.now)) }
+    ensures { OnOk result (string_bytes out.new ≡ string_bytes out.old ++ with_commas (map string_bytes names.now)) }
 {
     match names {
         [first, others @ ..] => {
@@ -77,7 +78,7 @@ fn push_listed(out: &mut String, names: &[String]) -> Result<(), AllocError>
 }
 
 fn push_names(out: &mut String, names: &Names) -> Result<(), AllocError>
-    ensures { OnOk result (string_bytes out.new ≡ string_bytes out.old ++ quoted names.now) }
+    ensures { OnOk result (string_bytes out.new ≡ string_bytes out.old ++ in_quotes names.now) }
 {
     out.push_str("\"")?;
     push_listed(out, names.list())?;
@@ -85,7 +86,7 @@ fn push_names(out: &mut String, names: &Names) -> Result<(), AllocError>
 }
 
 fn push_name(out: &mut String, name: &Name) -> Result<(), AllocError>
-    ensures { OnOk result (string_bytes out.new ≡ string_bytes out.old ++ quoted (name.now ∷ [])) }
+    ensures { OnOk result (string_bytes out.new ≡ string_bytes out.old ++ in_quotes (name.now ∷ [])) }
 {
     out.push_str("\"")?;
     out.push_str(name.as_str())?;
@@ -217,7 +218,7 @@ pub(crate) fn push_line(
 /// Appends names as a history has them: between double quotes, with a comma between each two (docs/HISTORY.md,
 /// "Entries"). The only error is out of memory, and then the text is as it was.
 pub fn write_names(alloc: Global, names: &Names, out: &mut String) -> Result<(), AllocError>
-    ensures ok { OnOk result (string_bytes out.new ≡ string_bytes out.old ++ quoted names.now) }
+    ensures ok { OnOk result (string_bytes out.new ≡ string_bytes out.old ++ in_quotes names.now) }
     ensures err { OnErr result (string_bytes out.new ≡ string_bytes out.old) }
 {
     let mut text = String::new(alloc);
@@ -235,7 +236,7 @@ pub fn write_entry(
     out: &mut String,
 ) -> Result<(), AllocError>
     requires from { 1 ≤ version }
-    requires to { version ≤ 65536 }
+    requires to { version ≤ MOST_ENTRIES }
     ensures ok { OnOk result (string_bytes out.new ≡ string_bytes out.old
         ++ entry_line version entry.now ++ line_feed) }
     ensures err { OnErr result (string_bytes out.new ≡ string_bytes out.old) }
@@ -248,7 +249,7 @@ pub fn write_entry(
 
 // The lines of entries, the first of which makes version 1.
 fn push_entries(alloc: Global, entries: &[Entry], out: &mut String) -> Result<(), AllocError>
-    requires { length entries.now ≤ 65536 }
+    requires { length entries.now ≤ MOST_ENTRIES }
     ensures { OnOk result (string_bytes out.new ≡ string_bytes out.old ++ entries_text 1 entries.now) }
 {
     let mut version = 0;
@@ -263,7 +264,7 @@ fn push_entries(alloc: Global, entries: &[Entry], out: &mut String) -> Result<()
 // The last line after this many entries, without its end.
 #[tactic(auto, unfolding(crate::specs::Text::end_line))]
 pub(crate) fn push_end(out: &mut String, count: usize) -> Result<(), AllocError>
-    requires { count ≤ 65536 }
+    requires { count ≤ MOST_ENTRIES }
     ensures { OnOk result (string_bytes out.new ≡ string_bytes out.old ++ end_line count) }
 {
     out.push_str("end ")?;
@@ -273,7 +274,7 @@ pub(crate) fn push_end(out: &mut String, count: usize) -> Result<(), AllocError>
 /// Appends the text of the history of these entries, at most 65,536, in format 2
 /// (docs/HISTORY.md). The only error is out of memory, and then the text is as it was.
 pub fn write_history(alloc: Global, entries: &[Entry], out: &mut String) -> Result<(), AllocError>
-    requires { length entries.now ≤ 65536 }
+    requires { length entries.now ≤ MOST_ENTRIES }
     ensures ok { OnOk result (string_bytes out.new ≡ string_bytes out.old ++ history_text Two entries.now) }
     ensures err { OnErr result (string_bytes out.new ≡ string_bytes out.old) }
 {

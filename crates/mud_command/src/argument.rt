@@ -1,5 +1,6 @@
 //! The arguments of a command line, as rows.
 
+use crate::limits::{MOST_CAPACITY, MOST_WORKERS};
 use clap::builder::ValueParser;
 use clap::{Arg, ArgAction};
 use std::alloc::{AllocError, Global};
@@ -61,7 +62,7 @@ pub(crate) const NUMBER: Argument = Argument {
 // How many workers answer a question.
 pub(crate) const WORKERS: Argument = Argument {
     name: "workers",
-    parser: ValueParser::Signed(0, 8),
+    parser: ValueParser::Signed(0, MOST_WORKERS as i64),
     default: &["0"],
     help: "How many workers answer a question, 0 to 8",
     ..NUMBER
@@ -70,7 +71,7 @@ pub(crate) const WORKERS: Argument = Argument {
 // How many changes a history holds.
 pub(crate) const CAPACITY: Argument = Argument {
     name: "capacity",
-    parser: ValueParser::Signed(1, 65_536),
+    parser: ValueParser::Signed(1, MOST_CAPACITY as i64),
     default: &["65536"],
     help: "How many changes the history holds, 1 to 65536",
     ..NUMBER
@@ -85,7 +86,7 @@ pub(crate) const LOAD: Argument = Argument {
 };
 
 // The argument of a row, of which only the name is set, and what is done where it is there.
-fn named<'a>(alloc: Global, argument: &Argument<'a>) -> Arg<'a> {
+fn bare_argument<'a>(alloc: Global, argument: &Argument<'a>) -> Arg<'a> {
     let arg = Arg::new(alloc, argument.name).action(argument.action);
     if argument.is_option {
         arg.long(argument.name)
@@ -95,8 +96,8 @@ fn named<'a>(alloc: Global, argument: &Argument<'a>) -> Arg<'a> {
 }
 
 // That argument, with its values.
-fn valued<'a>(alloc: Global, argument: &Argument<'a>) -> Arg<'a> {
-    named(alloc, argument)
+fn argument_with_values<'a>(alloc: Global, argument: &Argument<'a>) -> Arg<'a> {
+    bare_argument(alloc, argument)
         .value_names(argument.value)
         .value_parser(argument.parser)
         .default_values(argument.default)
@@ -104,7 +105,7 @@ fn valued<'a>(alloc: Global, argument: &Argument<'a>) -> Arg<'a> {
 
 // The argument of a row, as `clap` has it.
 pub(crate) fn arg_of<'a>(alloc: Global, argument: &Argument<'a>) -> Result<Arg<'a>, AllocError> {
-    valued(alloc, argument)
+    argument_with_values(alloc, argument)
         .required(argument.is_required)
         .help(argument.help)
         .requires_all(argument.beside)

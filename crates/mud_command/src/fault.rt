@@ -36,7 +36,7 @@ pub(crate) fn fault_of(text: Result<String, AllocError>) -> CommandFault {
 }
 
 // What `clap` says, as a fault.
-pub(crate) fn told(alloc: Global, error: &Error) -> CommandFault {
+pub(crate) fn fault_of_error(alloc: Global, error: &Error) -> CommandFault {
     if error.kind() == ErrorKind::OutOfMemory {
         return CommandFault::OutOfMemory;
     }

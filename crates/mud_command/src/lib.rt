@@ -21,7 +21,7 @@ mod words;
 
 pub use crate::fault::{CommandFault, show};
 pub use crate::keeping::{Keeping, Wish, keeping_of};
-pub use crate::limits::Limits;
+pub use crate::limits::{ChosenLimits, MOST_CAPACITY, MOST_PER_ADDRESS, MOST_TOTAL, MOST_WORKERS};
 pub use crate::service::{KIT, Listening, Service, WebListening, service_of};
 pub use crate::sources::{Sources, sources_of};
 pub use crate::subject::{Reading, Subject};

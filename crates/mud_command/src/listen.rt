@@ -1,6 +1,7 @@
 //! The options of `mud_serve listen`.
 
 use crate::argument::{Argument, CAPACITY, FLAG, LOAD, NUMBER, OPTION, WORKERS};
+use crate::limits::{MOST_PER_ADDRESS, MOST_TOTAL};
 use clap::builder::ValueParser;
 
 // The options, in the order in which help tells them.
@@ -38,7 +39,7 @@ pub(crate) const LISTEN: [Argument; 15] = [
     },
     Argument {
         name: "total",
-        parser: ValueParser::Signed(0, 65_536),
+        parser: ValueParser::Signed(0, MOST_TOTAL as i64),
         help: "After how many sessions it ends and prints its history; 0: it does not",
         ..LIMIT
     },
@@ -49,7 +50,7 @@ pub(crate) const LISTEN: [Argument; 15] = [
     },
     Argument {
         name: "per-address",
-        parser: ValueParser::Signed(0, 64),
+        parser: ValueParser::Signed(0, MOST_PER_ADDRESS as i64),
         help: "How many sessions of one address there may be at once; 0: as many as there are places",
         ..LIMIT
     },
@@ -79,9 +80,12 @@ pub(crate) const LISTEN: [Argument; 15] = [
     CAPACITY,
 ];
 
+// The last port (RFC 9293: 16 bits).
+const LAST_PORT: i64 = 65_535;
+
 // A port.
 const PORT: Argument = Argument {
-    parser: ValueParser::Signed(0, 65_535),
+    parser: ValueParser::Signed(0, LAST_PORT),
     ..NUMBER
 };
 

@@ -1,6 +1,6 @@
 //! What `clap` reads in the words.
 
-use crate::fault::{CommandFault, told};
+use crate::fault::{CommandFault, fault_of_error};
 use clap::error::ErrorKind;
 use clap::{ArgMatches, Command};
 use std::alloc::Global;
@@ -13,7 +13,7 @@ pub(crate) fn matches_of<'a>(
 ) -> Result<ArgMatches<'a>, CommandFault> {
     match command.try_get_matches_from_mut(words) {
         Ok(matches) => Ok(matches),
-        Err(error) => Err(told(alloc, &error)),
+        Err(error) => Err(fault_of_error(alloc, &error)),
     }
 }
 
@@ -25,7 +25,7 @@ pub(crate) fn unfit(
     message: &str,
 ) -> CommandFault {
     match command.error(kind, message) {
-        Ok(error) => told(alloc, &error),
+        Ok(error) => fault_of_error(alloc, &error),
         Err(_) => CommandFault::OutOfMemory,
     }
 }

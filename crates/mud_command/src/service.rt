@@ -4,9 +4,9 @@ ghost use Rattle.std.specs.Prelude.{◌≤◌, IfOk, IfSome};
 ghost use Rattle.mud_command.specs.Service.{AreWithin, IsServed};
 
 use crate::argument::{CAPACITY, WORKERS};
-use crate::fault::{CommandFault, told};
+use crate::fault::{CommandFault, fault_of_error};
 use crate::form::{Form, program_of};
-use crate::limits::{Limits, limits_in};
+use crate::limits::{ChosenLimits, MOST_TOTAL, limits_in};
 use crate::listen::LISTEN;
 use crate::matches::unfit;
 use crate::origin::is_origin;
@@ -23,7 +23,7 @@ pub enum Service<'a> {
     /// To name itself, and the toolchain with which it was proved.
     Version,
     /// To answer a script.
-    Script(Limits),
+    Script(ChosenLimits),
     /// To serve connections.
     Listen(Listening<'a>),
 }
@@ -32,7 +32,7 @@ pub enum Service<'a> {
 #[derive(Clone, Copy)]
 pub struct Listening<'a> {
     /// What it shares with a script.
-    pub limits: Limits,
+    pub limits: ChosenLimits,
     /// The address of this machine on which it listens.
     pub address: &'a str,
     /// The port; 0: one that is free.
@@ -89,7 +89,7 @@ fn service_by<'a>(
     let matches = match command.try_get_matches_from_mut(words) {
         Ok(matches) => matches,
         Err(error) if error.kind() == ErrorKind::DisplayVersion => return Ok(Service::Version),
-        Err(error) => return Err(told(alloc, &error)),
+        Err(error) => return Err(fault_of_error(alloc, &error)),
     };
     let message = match service_in(&matches) {
         Some(service) if has_origin(&service) => return Ok(service),
@@ -124,10 +124,10 @@ fn service_in<'a>(matches: &ArgMatches<'a>) -> Option<Service<'a>>
 // What a server was asked for, if each number is within its range.
 fn listening_in<'a>(listen: &ArgMatches<'a>) -> Option<Listening<'a>>
     ensures limits { IfSome result (λ listening. AreWithin listening.limits) }
-    ensures total { IfSome result (λ listening. listening.total ≤ 65536) }
+    ensures total { IfSome result (λ listening. listening.total ≤ MOST_TOTAL) }
 {
     let total = match listen.get_one::<u32>("total") {
-        Some(total @ 0..=65_536) => total,
+        Some(total @ 0..=MOST_TOTAL) => total,
         _ => return None,
     };
     let address = listen.get_str("address")?;

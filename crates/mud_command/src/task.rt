@@ -6,6 +6,7 @@ ghost use Rattle.mud_command.specs.Task.{IsWithin};
 use crate::argument::{CAPACITY, LOAD};
 use crate::fault::CommandFault;
 use crate::form::{Form, program_of};
+use crate::limits::MOST_CAPACITY;
 use crate::matches::{matches_of, unfit};
 use crate::subject::{Subject, subject_named};
 use clap::error::ErrorKind;
@@ -71,10 +72,10 @@ fn task_in<'a>(matches: &ArgMatches<'a>) -> Option<Task<'a>>
 // What the hall begins with, if the number is within its range.
 fn opening_in<'a>(hall: &ArgMatches<'a>) -> Option<Opening<'a>>
     ensures least { IfSome result (λ opening. 1 ≤ opening.capacity) }
-    ensures most { IfSome result (λ opening. opening.capacity ≤ 65536) }
+    ensures most { IfSome result (λ opening. opening.capacity ≤ MOST_CAPACITY) }
 {
     match hall.get_one::<u32>("capacity") {
-        Some(capacity @ 1..=65_536) => Some(Opening {
+        Some(capacity @ 1..=MOST_CAPACITY) => Some(Opening {
             capacity,
             load: hall.get_str("load"),
         }),

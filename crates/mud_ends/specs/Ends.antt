@@ -18,8 +18,8 @@ pub record Writer : Type 0 where
 abbrev pub unread : Option (List ℕ) → Reader
 unread left = record { left = left; reads = 0; at_end = false; has_failed = false }
 
-abbrev pub unwritten : Option (List ℕ) → Writer
-unwritten holds = record { holds = holds; has_failed = false }
+abbrev pub new_writer : Option (List ℕ) → Writer
+new_writer holds = record { holds = holds; has_failed = false }
 
 -- no byte passed, though there was one to pass or room for one
 abbrev pub none_passed : {E : Type 0} → Result ℕ E → List ℕ → Bool

@@ -3,7 +3,7 @@
 ghost use Rattle.std.specs.Prelude.{◌≡◌, ◌||◌, ℕ, true, false, take, is_err};
 ghost use Rattle.std.specs.Io.KnownBytes.{Appends, WriteAppends};
 ghost use Rattle.std.specs.Io.{WritesAtMost};
-ghost use Rattle.mud_ends.specs.Ends.{none_passed, unwritten};
+ghost use Rattle.mud_ends.specs.Ends.{none_passed, new_writer};
 
 use std::io::{self, Write};
 use std::marker::Model;
@@ -27,7 +27,7 @@ impl<W: Write> Model for Sink<W> {
 impl<W: Write> Sink<W> {
     /// The writer, to which nothing was written yet.
     pub fn new(inner: W) -> Self
-        ensures { result ≡ unwritten (W.contents inner) }
+        ensures { result ≡ new_writer (W.contents inner) }
     {
         Self {
             inner,

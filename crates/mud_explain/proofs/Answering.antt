@@ -1,6 +1,7 @@
 -- An input is answered line by line.
 use Rattle.std.proofs.Common.{◌≡◌, ℕ, ◌<◌, List, [], ◌∷◌, ◌++◌, length, sym, ◌∙◌, ap, subst, append_assoc}
 use Rattle.std.proofs.lemmas.List.{append-nil}
+use Rattle.mud_nvt.specs.declared.codes.TheConstants.{LF}
 use Rattle.mud_explain.specs.Lines.{IsLine, Answers, at_end, last, next, AnswersOne}
 
 -- what is answered to the whole input once the rest of it is answered
@@ -9,16 +10,16 @@ GoesOn Says input rest out = (later : List ℕ) → Answers Says rest later → 
 
 -- one more line is answered
 pub goes_on-next : (Says : List ℕ → List ℕ → Type 0) (input rest line behind old new : List ℕ)
-    → GoesOn Says input rest old → IsLine line → rest ≡ line ++ 10 ∷ behind → AnswersOne Says line old new
+    → GoesOn Says input rest old → IsLine line → rest ≡ line ++ LF ∷ behind → AnswersOne Says line old new
     → GoesOn Says input behind new
 goes_on-next Says input rest line behind old new on whole cut one later answers =
-    let P : List ℕ → Type 0 = λ r. Answers Says r (one.answer ++ 10 ∷ later) in
-    let here : Answers Says rest (one.answer ++ 10 ∷ later) = subst P (sym cut) (next whole one.says answers) in
+    let P : List ℕ → Type 0 = λ r. Answers Says r (one.answer ++ LF ∷ later) in
+    let here : Answers Says rest (one.answer ++ LF ∷ later) = subst P (sym cut) (next whole one.says answers) in
     let Q : List ℕ → Type 0 = λ o. Answers Says input o in
-    let shape : old ++ (one.answer ++ 10 ∷ later) ≡ new ++ later =
-    ap (λ t. old ++ t) (sym (append_assoc one.answer (10 ∷ []) later))
-    ∙ sym (append_assoc old (one.answer ++ 10 ∷ []) later) ∙ ap (λ t. t ++ later) (sym one.appended) in
-    subst Q shape (on (one.answer ++ 10 ∷ later) here)
+    let shape : old ++ (one.answer ++ LF ∷ later) ≡ new ++ later =
+    ap (λ t. old ++ t) (sym (append_assoc one.answer (LF ∷ []) later))
+    ∙ sym (append_assoc old (one.answer ++ LF ∷ []) later) ∙ ap (λ t. t ++ later) (sym one.appended) in
+    subst Q shape (on (one.answer ++ LF ∷ later) here)
 
 -- all lines were ended
 pub goes_on-end : (Says : List ℕ → List ℕ → Type 0) (input rest out : List ℕ) → GoesOn Says input rest out → rest ≡ []
@@ -33,4 +34,4 @@ pub goes_on-last : (Says : List ℕ → List ℕ → Type 0) (input rest old new
     → GoesOn Says input rest old → 0 < length rest → IsLine rest → AnswersOne Says rest old new → Answers Says input new
 goes_on-last Says input rest old new on some whole one =
     let Q : List ℕ → Type 0 = λ o. Answers Says input o in
-    subst Q (sym one.appended) (on (one.answer ++ 10 ∷ []) (last some whole one.says))
+    subst Q (sym one.appended) (on (one.answer ++ LF ∷ []) (last some whole one.says))

@@ -4,14 +4,14 @@ use Rattle.std.specs.Io.KnownBytes.{Appends}
 use Rattle.std.specs.Str.{IsUtf8}
 use Rattle.mud_nvt.specs.Units.{units}
 use Rattle.mud_words.specs.Words.{words}
-use Rattle.mud_words.specs.Parse.{parsed}
+use Rattle.mud_words.specs.Parse.{parse_of}
 use Rattle.mud_key.specs.Reading.{names_in}
 use Rattle.mud_command.specs.declared.subject.Reading.{Reading}
 use Rattle.mud_command.specs.declared.subject.Reading.TheVariants.{Words, Parse, Names, Key}
 use Rattle.mud_command.specs.declared.subject.Subject.{Subject}
 use Rattle.mud_command.specs.declared.subject.Subject.TheVariants.{Units, Lines}
 use Rattle.mud_explain.specs.Lines.{Answers}
-use Rattle.mud_explain.specs.Listed.{listed}
+use Rattle.mud_explain.specs.Listed.{bracket_all}
 use Rattle.mud_explain.specs.Line.{line_text}
 use Rattle.mud_explain.specs.Key.{SaysKey}
 use Rattle.std.specs.List.{flat_map}
@@ -20,9 +20,9 @@ use Rattle.std.specs.Option.{option_map_or}
 
 -- what a text is told to be
 abbrev pub SaysText : Reading → List ℕ → List ℕ → Type 0
-SaysText Words text answer = answer ≡ listed (words text)
-SaysText Parse text answer = answer ≡ line_text (parsed text)
-SaysText Names text answer = answer ≡ option_map_or listed (names_in text) (codes "bad names")
+SaysText Words text answer = answer ≡ bracket_all (words text)
+SaysText Parse text answer = answer ≡ line_text (parse_of text)
+SaysText Names text answer = answer ≡ option_map_or bracket_all (names_in text) (codes "bad names")
 SaysText Key text answer = SaysKey text answer
 
 -- what a line is told to be: bytes that are not UTF-8 are no text

@@ -5,15 +5,16 @@ use Rattle.mud_key.specs.Tree.{Tree, Has, Asks, Not, Join, IsWithinLimits}
 use Rattle.mud_key.specs.KeyText.{SpellsKey, IsLongestFront, sign}
 
 -- the text of a key with one pair of parentheses round each join, and no other
-abbrev pub grouped : Tree (List ℕ) → List ℕ
-grouped (Has o) = o
-grouped (Asks o) = codes "?" ++ o
-grouped (Not k) = codes "!" ++ grouped k
-grouped (Join op a b) = codes "(" ++ grouped a ++ codes " " ++ sign op ++ codes " " ++ grouped b ++ codes ")"
+abbrev pub group_text : Tree (List ℕ) → List ℕ
+group_text (Has o) = o
+group_text (Asks o) = codes "?" ++ o
+group_text (Not k) = codes "!" ++ group_text k
+group_text (Join op a b) = codes "(" ++ group_text a ++ codes " " ++ sign op ++ codes " " ++ group_text b ++ codes ")"
 
 -- what a text is told to be: its key; or how far it begins a key text; or that it is one beyond the limits
 pub data SaysKey (text answer : List ℕ) : Type 0 where
-  a_key : (key : Tree (List ℕ)) → SpellsKey text key → IsWithinLimits key → answer ≡ grouped key → SaysKey text answer
+  a_key : (key : Tree (List ℕ)) → SpellsKey text key → IsWithinLimits key → answer ≡ group_text key
+      → SaysKey text answer
   no_key : (at : ℕ) → ((key : Tree (List ℕ)) → ¬ SpellsKey text key) → IsLongestFront text at
       → answer ≡ codes "bad key at " ++ decimal at → SaysKey text answer
   too_many : (key : Tree (List ℕ)) → SpellsKey text key → (IsWithinLimits key → ⊥)

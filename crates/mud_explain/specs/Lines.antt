@@ -1,17 +1,18 @@
 -- An input that is read line by line.
 use Rattle.std.specs.Prelude.{ℕ, ◌<◌, ◌≡◌, List, [], ◌∷◌, ◌++◌, length}
+use Rattle.mud_nvt.specs.declared.codes.TheConstants.{LF}
 pub use Rattle.mud_chron.specs.Faults.{HasNoLineFeed as IsLine}
 
 -- each line of the input is answered by one line; a line ends at LF, and a last one without LF counts
 pub data Answers (Says : List ℕ → List ℕ → Type 0) : List ℕ → List ℕ → Type 0 where
   at_end : Answers Says [] []
   last : {line answer : List ℕ} → 0 < length line → IsLine line → Says line answer
-      → Answers Says line (answer ++ 10 ∷ [])
+      → Answers Says line (answer ++ LF ∷ [])
   next : {line answer rest out : List ℕ} → IsLine line → Says line answer → Answers Says rest out
-      → Answers Says (line ++ 10 ∷ rest) (answer ++ 10 ∷ out)
+      → Answers Says (line ++ LF ∷ rest) (answer ++ LF ∷ out)
 
 -- one more line is answered; only a clause of a private part cites it
 pub record AnswersOne (Says : List ℕ → List ℕ → Type 0) (line old new : List ℕ) : Type 0 where
   pub answer : List ℕ
   pub says : Says line answer
-  pub appended : new ≡ old ++ (answer ++ 10 ∷ [])
+  pub appended : new ≡ old ++ (answer ++ LF ∷ [])

@@ -3,10 +3,10 @@ use Rattle.std.specs.Prelude.{ℕ, List, [], ◌∷◌, ◌++◌, codes}
 use Rattle.std.specs.List.{flat_map}
 
 -- a text between brackets
-abbrev pub bracketed : List ℕ → List ℕ
-bracketed text = codes "[" ++ text ++ codes "]"
+abbrev pub in_brackets : List ℕ → List ℕ
+in_brackets text = codes "[" ++ text ++ codes "]"
 
 -- texts, each between brackets, with one space between each two
-abbrev pub listed : List (List ℕ) → List ℕ
-listed [] = []
-listed (text ∷ texts) = bracketed text ++ flat_map (λ t. codes " " ++ bracketed t) texts
+abbrev pub bracket_all : List (List ℕ) → List ℕ
+bracket_all [] = []
+bracket_all (text ∷ texts) = in_brackets text ++ flat_map (λ t. codes " " ++ in_brackets t) texts

@@ -1,6 +1,7 @@
 -- How the units of a Telnet stream are told.
 use Rattle.std.specs.Prelude.{ℕ, ◌+◌, ◌/◌, ◌%◌, nat_lt, List, [], ◌∷◌, ◌++◌, codes, if◌then◌else◌}
 use Rattle.std.specs.List.{flat_map}
+use Rattle.mud_nvt.specs.declared.codes.TheConstants.{SPACE}
 use Rattle.mud_nvt.specs.Units.{Given, Text, TooLong, Ayt, Answer}
 
 -- a digit of sixteen: 0 to 9, A to F
@@ -13,4 +14,4 @@ unit_text (Text text) = codes "text " ++ text
 unit_text TooLong = codes "too long"
 unit_text Ayt = codes "ayt"
 unit_text (Answer bytes) =
-    codes "answer" ++ flat_map (λ b. 32 ∷ hex_digit (b / 16) ∷ hex_digit (b % 16) ∷ []) bytes
+    codes "answer" ++ flat_map (λ b. SPACE ∷ hex_digit (b / 16) ∷ hex_digit (b % 16) ∷ []) bytes

@@ -52,7 +52,7 @@ pub(crate) fn input_of<R: Read>(
 }
 
 // What is written for an input.
-fn explained(alloc: Global, subject: Subject, input: &[u8]) -> Result<String, AllocError>
+fn explain_input(alloc: Global, subject: Subject, input: &[u8]) -> Result<String, AllocError>
     ensures { IfOk result (λ out. Explains subject input.now (string_bytes out)) }
 {
     match subject {
@@ -81,7 +81,7 @@ pub(crate) fn explain<R: Read, W: Write>(
         Keeps sink.old.holds sink.new.holds }
 {
     let input = input_of(alloc, source)?;
-    let out = match explained(alloc, subject, &input) {
+    let out = match explain_input(alloc, subject, &input) {
         Ok(out) => out,
         Err(_) => return Err(ExplainFault::OutOfMemory),
     };

@@ -3,7 +3,7 @@
 ghost use Rattle.std.specs.Prelude.{◌≡◌, ◌++◌, OnOk, string_bytes};
 ghost use Rattle.mud_key.specs.KeyText.{sign};
 ghost use Rattle.mud_key.specs.Node.{reading_of};
-ghost use Rattle.mud_explain.specs.Key.{grouped};
+ghost use Rattle.mud_explain.specs.Key.{group_text};
 
 use mud_key::{Node, Operator};
 use std::alloc::AllocError;
@@ -21,7 +21,7 @@ fn sign_of(operator: Operator) -> &'static str
 // Appends the text of a key, one pair of parentheses round each join. A key's size is limited by its type, and so is
 // the depth of this recursion.
 pub(crate) fn push_grouped(out: &mut String, node: &Node<String>) -> Result<(), AllocError>
-    ensures { OnOk result (string_bytes out.new ≡ string_bytes out.old ++ grouped (reading_of node.now)) }
+    ensures { OnOk result (string_bytes out.new ≡ string_bytes out.old ++ group_text (reading_of node.now)) }
 {
     match node {
         Node::Has(text) => out.push_str(text.as_str()),

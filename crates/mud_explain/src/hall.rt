@@ -2,9 +2,10 @@
 
 ghost use Rattle.std.specs.Prelude.{◌≡◌, ◌⊎◌, ◌≤◌, Err, true, false, OnOk};
 ghost use Rattle.std.specs.Io.KnownBytes.{IsAtEnd, Keeps};
+ghost use Rattle.mud_chron.specs.declared.limits.TheConstants.{MOST_ENTRIES};
 
 use crate::explain::{ExplainFault, input_of};
-use crate::opened::opened;
+use crate::opening::open_hall;
 use crate::play::Play;
 use memchr::memchr;
 use mud_command::Opening;
@@ -53,7 +54,12 @@ fn told_in<J: HallName, R: Wait>(
 }
 
 // The same in a hall that has no name yet.
-fn told<R: Wait>(rt: &R, alloc: Global, hall: NewHall, input: &[u8]) -> Result<String, AllocError> {
+fn play_unnamed<R: Wait>(
+    rt: &R,
+    alloc: Global,
+    hall: NewHall,
+    input: &[u8],
+) -> Result<String, AllocError> {
     told_in::<Brand, R>(rt, alloc, hall, input)
 }
 
@@ -70,7 +76,7 @@ fn told_input<R: Wait, S: Read>(
     ensures not_write { ¬ (result ≡ Err ExplainFault.Write) }
 {
     let input = input_of(alloc, source)?;
-    match told(rt, alloc, hall, &input) {
+    match play_unnamed(rt, alloc, hall, &input) {
         Ok(out) => Ok(out),
         Err(_) => Err(ExplainFault::OutOfMemory),
     }
@@ -86,7 +92,7 @@ pub(crate) fn explain_hall<H: Wait + Files + AllocGlobal, R: Read, W: Write>(
     sink: &mut Sink<W>,
 ) -> Result<(), ExplainFault>
     requires from { 1 ≤ opening.capacity }
-    requires to { opening.capacity ≤ 65536 }
+    requires to { opening.capacity ≤ MOST_ENTRIES }
     requires no_end { source.old.at_end ≡ false }
     ensures end { OnOk result (IsAtEnd source.new.left) }
     ensures read { result ≡ Err ExplainFault.Read → source.new.has_failed ≡ true }
@@ -94,7 +100,7 @@ pub(crate) fn explain_hall<H: Wait + Files + AllocGlobal, R: Read, W: Write>(
     ensures nothing { result ≡ Err ExplainFault.Read ⊎ result ≡ Err ExplainFault.OutOfMemory →
         Keeps sink.old.holds sink.new.holds }
 {
-    let hall = match opened(rt, opening) {
+    let hall = match open_hall(rt, opening) {
         Ok(hall) => hall,
         Err(Unloaded::OutOfMemory) => return Err(ExplainFault::OutOfMemory),
         Err(fault) => return Err(ExplainFault::Unloaded(fault)),

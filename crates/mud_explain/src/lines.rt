@@ -2,9 +2,9 @@
 
 ghost use Rattle.std.specs.Prelude.{◌≡◌, ◌++◌, IfOk, OnOk, string_bytes, codes};
 ghost use Rattle.mud_words.specs.Words.{words};
-ghost use Rattle.mud_words.specs.Parse.{parsed};
+ghost use Rattle.mud_words.specs.Parse.{parse_of};
 ghost use Rattle.mud_words.specs.Line.{line_of};
-ghost use Rattle.mud_explain.specs.Listed.{listed};
+ghost use Rattle.mud_explain.specs.Listed.{bracket_all};
 ghost use Rattle.mud_explain.specs.Line.{line_text};
 ghost use Rattle.mud_explain.specs.inner.Texts.{preposition_text};
 ghost use Rattle.mud_explain.specs.Key.{SaysKey};
@@ -23,7 +23,7 @@ use std::alloc::{AllocError, Global};
 
 // The words of a line.
 fn said_words(alloc: Global, text: &str) -> Result<String, AllocError>
-    ensures { IfOk result (λ answer. string_bytes answer ≡ listed (words text.now)) }
+    ensures { IfOk result (λ answer. string_bytes answer ≡ bracket_all (words text.now)) }
 {
     let words = mud_words::words(alloc, text)?;
     let mut answer = String::new(alloc);
@@ -72,7 +72,7 @@ fn push_parsed(out: &mut String, parsed: &Parsed) -> Result<(), AllocError>
 
 // What a line says.
 fn said_line(alloc: Global, text: &str) -> Result<String, AllocError>
-    ensures { IfOk result (λ answer. string_bytes answer ≡ line_text (parsed text.now)) }
+    ensures { IfOk result (λ answer. string_bytes answer ≡ line_text (parse_of text.now)) }
 {
     let parsed = mud_words::parse(alloc, text)?;
     let mut answer = String::new(alloc);
@@ -83,7 +83,7 @@ fn said_line(alloc: Global, text: &str) -> Result<String, AllocError>
 // The names of a names text.
 fn said_names(alloc: Global, text: &str) -> Result<String, AllocError>
     ensures { IfOk result (λ answer. string_bytes answer
-        ≡ option_map_or listed (names_in text.now) (codes "bad names")) }
+        ≡ option_map_or bracket_all (names_in text.now) (codes "bad names")) }
 {
     match Names::read(alloc, text) {
         Ok(names) => {
@@ -127,7 +127,7 @@ fn said_text(alloc: Global, reading: Reading, text: &str) -> Result<String, Allo
 }
 
 // What a line is told to be.
-fn said(alloc: Global, reading: Reading, line: &[u8]) -> Result<String, AllocError>
+fn describe(alloc: Global, reading: Reading, line: &[u8]) -> Result<String, AllocError>
     ensures { IfOk result (λ answer. Says reading line.now (string_bytes answer)) }
 {
     match str::from_utf8(line) {
@@ -145,7 +145,7 @@ fn push_said(
 ) -> Result<(), AllocError>
     ensures { OnOk result (AnswersOne (Says reading) line.now (string_bytes out.old) (string_bytes out.new)) }
 {
-    let answer = said(alloc, reading, line)?;
+    let answer = describe(alloc, reading, line)?;
     out.push_str(answer.as_str())?;
     out.push('\n')
 }

@@ -2,13 +2,13 @@
 
 ghost use Rattle.std.specs.Prelude.{◌≡◌, ◌++◌, map, OnOk, codes, string_bytes};
 ghost use Rattle.std.specs.List.{flat_map};
-ghost use Rattle.mud_explain.specs.Listed.{bracketed, listed};
+ghost use Rattle.mud_explain.specs.Listed.{bracket_all, in_brackets};
 
 use std::alloc::AllocError;
 
 // Appends the text between brackets.
 pub(crate) fn push_bracketed(out: &mut String, text: &str) -> Result<(), AllocError>
-    ensures { OnOk result (string_bytes out.new ≡ string_bytes out.old ++ bracketed text.now) }
+    ensures { OnOk result (string_bytes out.new ≡ string_bytes out.old ++ in_brackets text.now) }
 {
     write!(out, "[{text}]")
 }
@@ -16,7 +16,7 @@ pub(crate) fn push_bracketed(out: &mut String, text: &str) -> Result<(), AllocEr
 // Appends each text between brackets, a space in front of each.
 fn push_others(out: &mut String, texts: &[String]) -> Result<(), AllocError>
     ensures { OnOk result (string_bytes out.new
-        ≡ string_bytes out.old ++ flat_map (λ t. codes " " ++ bracketed t) (map string_bytes texts.now)) }
+        ≡ string_bytes out.old ++ flat_map (λ t. codes " " ++ in_brackets t) (map string_bytes texts.now)) }
 {
     for text in texts {
         out.push(' ')?;
@@ -27,7 +27,7 @@ fn push_others(out: &mut String, texts: &[String]) -> Result<(), AllocError>
 
 // Appends each text between brackets, a space between each two.
 pub(crate) fn push_listed(out: &mut String, texts: &[String]) -> Result<(), AllocError>
-    ensures { OnOk result (string_bytes out.new ≡ string_bytes out.old ++ listed (map string_bytes texts.now)) }
+    ensures { OnOk result (string_bytes out.new ≡ string_bytes out.old ++ bracket_all (map string_bytes texts.now)) }
 {
     match texts {
         [] => Ok(()),

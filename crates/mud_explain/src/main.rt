@@ -6,13 +6,14 @@
 #![tactic(auto)]
 
 ghost use Rattle.std.specs.Prelude.{◌≤◌};
+ghost use Rattle.mud_chron.specs.declared.limits.TheConstants.{MOST_ENTRIES};
 
 mod explain;
 mod grouped;
 mod hall;
 mod lines;
 mod listed;
-mod opened;
+mod opening;
 mod play;
 mod step;
 mod told;
@@ -30,7 +31,7 @@ use std::sync::Wait;
 fn main(rt: HostRuntime) -> ExitCode {
     match words_of(&rt) {
         Ok(words) => run(&rt, words.as_slice()),
-        Err(fault) => unasked(&rt, fault),
+        Err(fault) => tell_fault(&rt, fault),
     }
 }
 
@@ -38,7 +39,7 @@ fn main(rt: HostRuntime) -> ExitCode {
 fn run<R: Runtime + AllocGlobal + Wait>(rt: &R, words: &[String]) -> ExitCode {
     let task = match task_of(rt.alloc(), words) {
         Ok(task) => task,
-        Err(fault) => return unasked(rt, fault),
+        Err(fault) => return tell_fault(rt, fault),
     };
     let ended = match task {
         Task::Text(subject) => run_text(rt, subject),
@@ -46,7 +47,7 @@ fn run<R: Runtime + AllocGlobal + Wait>(rt: &R, words: &[String]) -> ExitCode {
     };
     match ended {
         Ok(()) => ExitCode::SUCCESS,
-        Err(fault) => stopped(rt, fault),
+        Err(fault) => tell_stop(rt, fault),
     }
 }
 
@@ -63,7 +64,7 @@ fn run_hall<R: Runtime + AllocGlobal + Wait>(
     opening: Opening<'_>,
 ) -> Result<(), ExplainFault>
     requires from { 1 ≤ opening.capacity }
-    requires to { opening.capacity ≤ 65536 }
+    requires to { opening.capacity ≤ MOST_ENTRIES }
 {
     let mut source = Source::new(rt.reader());
     let mut sink = Sink::new(io::writer(rt));
@@ -71,15 +72,15 @@ fn run_hall<R: Runtime + AllocGlobal + Wait>(
 }
 
 // Says why the words ask for nothing, and answers the status.
-fn unasked<R: Eprint>(rt: &R, fault: CommandFault) -> ExitCode {
+fn tell_fault<R: Eprint>(rt: &R, fault: CommandFault) -> ExitCode {
     match fault {
-        CommandFault::OutOfMemory => stopped(rt, ExplainFault::OutOfMemory),
+        CommandFault::OutOfMemory => tell_stop(rt, ExplainFault::OutOfMemory),
         CommandFault::Told(text) => ExitCode::from(show(rt, text.as_str())),
     }
 }
 
 // Says why the program stopped, where that can be said, and answers its status.
-fn stopped<R: Eprint>(rt: &R, fault: ExplainFault) -> ExitCode {
+fn tell_stop<R: Eprint>(rt: &R, fault: ExplainFault) -> ExitCode {
     let _ = eprintln!(rt; "mud_explain: {fault}");
     ExitCode::from(match fault {
         ExplainFault::OutOfMemory => 4,

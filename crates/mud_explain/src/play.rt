@@ -9,7 +9,7 @@ ghost use Rattle.mud_hall.specs.Desk.{View};
 ghost use Rattle.mud_explain.specs.inner.Played.{Turns, TurnsOne, Gives, Lacks, DoesNothing, AreHanded, Settles};
 ghost use Rattle.mud_explain.specs.inner.Played.{GoesOn};
 
-use crate::step::{Step, Turn, step_of};
+use crate::step::{Row, Turn, step_of};
 use crate::told::{
     push_answer, push_fault, push_reply, push_seen, push_settled, push_told, push_unsettled,
 };
@@ -33,7 +33,7 @@ impl<J: HallName> Play<J> {
     {
         Play {
             alloc,
-            hall: Some(hall.named()),
+            hall: Some(hall.with_name()),
             desks: Vec::new(alloc),
         }
     }
@@ -59,10 +59,10 @@ impl<J: HallName> Play<J> {
         out: &mut String,
     ) -> Result<(), AllocError> {
         match step_of(self.alloc, text)? {
-            Some(Step::Desk) => self.desk(rt, out),
-            Some(Step::Close(numbers)) => self.close(rt, numbers.as_slice(), out),
-            Some(Step::Learn(number, other)) => self.learn(number, other, out),
-            Some(Step::At(number, turn)) => self.turn(rt, number, turn, out),
+            Some(Row::Desk) => self.desk(rt, out),
+            Some(Row::Close(numbers)) => self.close(rt, numbers.as_slice(), out),
+            Some(Row::Learn(number, other)) => self.learn(number, other, out),
+            Some(Row::At(number, turn)) => self.turn(rt, number, turn, out),
             None => not_understood(out),
         }
     }

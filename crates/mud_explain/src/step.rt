@@ -6,7 +6,7 @@ use std::alloc::{AllocError, Global};
 
 /// A step of the desks of a hall.
 #[derive(Drop)]
-pub(crate) enum Step<'a> {
+pub(crate) enum Row<'a> {
     /// A new desk.
     Desk,
     /// The end of the hall, with the desks of these numbers handed in.
@@ -35,20 +35,20 @@ pub(crate) enum Turn<'a> {
 }
 
 /// The step that a line is, if it is one.
-pub(crate) fn step_of<'a>(alloc: Global, line: &'a str) -> Result<Option<Step<'a>>, AllocError> {
+pub(crate) fn step_of<'a>(alloc: Global, line: &'a str) -> Result<Option<Row<'a>>, AllocError> {
     if line == "desk" {
-        return Ok(Some(Step::Desk));
+        return Ok(Some(Row::Desk));
     }
     match line.split_once(' ') {
-        Some(("close", numbers)) => closing(alloc, numbers),
+        Some(("close", numbers)) => close_step(alloc, numbers),
         Some((number, words)) => Ok(at_desk(number, words)),
-        None if line == "close" => Ok(Some(Step::Close(Vec::new(alloc)))),
+        None if line == "close" => Ok(Some(Row::Close(Vec::new(alloc)))),
         None => Ok(None),
     }
 }
 
 // The end of the hall, if these are numbers with a space between each two.
-fn closing<'a>(alloc: Global, words: &'a str) -> Result<Option<Step<'a>>, AllocError> {
+fn close_step<'a>(alloc: Global, words: &'a str) -> Result<Option<Row<'a>>, AllocError> {
     let mut numbers = Vec::new(alloc);
     for word in words.split(' ') {
         match number_of(word) {
@@ -56,15 +56,15 @@ fn closing<'a>(alloc: Global, words: &'a str) -> Result<Option<Step<'a>>, AllocE
             None => return Ok(None),
         }
     }
-    Ok(Some(Step::Close(numbers)))
+    Ok(Some(Row::Close(numbers)))
 }
 
 // The step of one desk.
-fn at_desk<'a>(number: &str, words: &'a str) -> Option<Step<'a>> {
+fn at_desk<'a>(number: &str, words: &'a str) -> Option<Row<'a>> {
     let number = number_of(number)?;
     match words.strip_prefix("learn ") {
-        Some(other) => Some(Step::Learn(number, number_of(other)?)),
-        None => Some(Step::At(number, turn_of(words)?)),
+        Some(other) => Some(Row::Learn(number, number_of(other)?)),
+        None => Some(Row::At(number, turn_of(words)?)),
     }
 }
 

@@ -2,8 +2,8 @@
 
 ghost use Rattle.std.specs.Prelude.{◌≡◌, ◌≤◌, ◌++◌, length, map, Ok, Err, OnOk, codes, string_bytes};
 ghost use Rattle.std.specs.List.{flat_map};
-ghost use Rattle.mud_hall.specs.Replies.{shown};
-ghost use Rattle.mud_hall.specs.Answers.{answered};
+ghost use Rattle.mud_hall.specs.Replies.{reply_shown};
+ghost use Rattle.mud_hall.specs.Answers.{answer_shown};
 ghost use Rattle.mud_explain.specs.inner.Told.{fault_line, reply_line, answer_lines, seen_line, told_lines};
 ghost use Rattle.mud_explain.specs.inner.Told.{settled_lines, unsettled_line};
 
@@ -32,7 +32,7 @@ pub(crate) fn push_fault(out: &mut String, fault: Fault) -> Result<(), AllocErro
 
 /// Appends the line of a reply.
 pub(crate) fn push_reply(out: &mut String, reply: &Reply) -> Result<(), AllocError>
-    ensures { OnOk result (string_bytes out.new ≡ string_bytes out.old ++ reply_line (shown (Ok reply.now))) }
+    ensures { OnOk result (string_bytes out.new ≡ string_bytes out.old ++ reply_line (reply_shown (Ok reply.now))) }
 {
     match reply {
         Reply::Accepted { version, text } => writeln!(out, "accepted [{version}] {text}"),
@@ -44,7 +44,7 @@ pub(crate) fn push_reply(out: &mut String, reply: &Reply) -> Result<(), AllocErr
 
 /// Appends the lines of an answer.
 pub(crate) fn push_answer(out: &mut String, answer: &Answer) -> Result<(), AllocError>
-    ensures { OnOk result (string_bytes out.new ≡ string_bytes out.old ++ answer_lines (answered answer.now)) }
+    ensures { OnOk result (string_bytes out.new ≡ string_bytes out.old ++ answer_lines (answer_shown answer.now)) }
 {
     writeln!(out, "[{}] {}", answer.version, answer.text)
 }

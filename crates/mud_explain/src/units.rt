@@ -2,7 +2,7 @@
 
 ghost use Rattle.std.specs.Prelude.{◌≡◌, ◌++◌, ◌<◌, ◌+◌, ◌∷◌, [], codes, IfOk, OnOk, string_bytes};
 ghost use Rattle.std.specs.List.{flat_map};
-ghost use Rattle.mud_nvt.specs.Shown.{shown, all_shown};
+ghost use Rattle.mud_nvt.specs.Shown.{all_shown, unit_shown};
 ghost use Rattle.mud_nvt.specs.Units.{units};
 ghost use Rattle.mud_explain.specs.Units.{hex_digit, unit_text};
 ghost use Rattle.mud_explain.specs.inner.Texts.{byte_text, units_text};
@@ -48,7 +48,7 @@ fn push_bytes(out: &mut String, bytes: &[u8]) -> Result<(), AllocError>
 
 // Appends the line of a unit, without its end.
 fn push_unit(out: &mut String, unit: &Unit) -> Result<(), AllocError>
-    ensures { OnOk result (string_bytes out.new ≡ string_bytes out.old ++ unit_text (shown unit.now)) }
+    ensures { OnOk result (string_bytes out.new ≡ string_bytes out.old ++ unit_text (unit_shown unit.now)) }
 {
     match unit {
         Unit::Text(text) => {

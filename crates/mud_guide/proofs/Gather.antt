@@ -13,7 +13,7 @@ use Rattle.mud_roads.specs.declared.label.Label.{Label}
 use Rattle.mud_world.specs.State.{State}
 use Rattle.mud_world.specs.Sound.{IsSound}
 use Rattle.mud_roads.specs.Walks.{IsLeast, Least, Goer, HasLeast, Gathers}
-use Rattle.mud_roads.specs.Open.{Knowledge, known, IsTraveller, roads_of, goer}
+use Rattle.mud_roads.specs.Open.{Knowledge, knowledge_of, IsTraveller, roads_of, goer}
 use Rattle.mud_world.specs.State.{is_room}
 use Rattle.std.specs.Prelude.{IsTrue}
 use Rattle.mud_roads.proofs.Roads.{room-below, traveller-room}
@@ -178,7 +178,7 @@ goers w ts = map (goer w) ts
 
 module _ (w : State) (ts : List Knowledge) (labels : ℕ → ℕ → Option Label) (least : AreLeast w ts labels) where
   abbrev nobody : Knowledge
-  nobody = known 0 0 [] []
+  nobody = knowledge_of 0 0 [] []
 
   abbrev member : ℕ → Knowledge
   member m = get_or ts m nobody

@@ -11,13 +11,13 @@ use Rattle.mud_roads.specs.declared.label.Label.{Label}
 use Rattle.mud_roads.specs.Open.{Knowledge}
 use Rattle.mud_cert.specs.Certificate.{Account, IsAccount}
 use Rattle.mud_guide.specs.declared.lister.Listing.{Listing}
-use Rattle.mud_guide.specs.Journeys.{Journey, IsJourney}
+use Rattle.mud_guide.specs.Legs.{Leg, IsJourney}
 use Rattle.mud_guide.specs.inner.Listings.{IsListed, AreListed, IsListing}
 use Rattle.mud_guide.proofs.Parts.{allzip-beside}
 use Rattle.mud_guide.proofs.Party.{allzip-length}
 
 -- the members from the first on are all
-pub listed-first : (labels : ℕ → ℕ → Option Label) (next : ℕ) (js : List Journey) (es : List Account)
+pub listed-first : (labels : ℕ → ℕ → Option Label) (next : ℕ) (js : List Leg) (es : List Account)
     → AreListed (λ m. labels (0 + m)) next js es → AreListed labels next js es
 listed-first labels next js es are = record {
   long = are.long;
@@ -28,7 +28,7 @@ listed-first labels next js es are = record {
 }
 
 -- what is claimed of two parts
-listed-beside : (labels : ℕ → ℕ → Option Label) (next first behind : ℕ) (us xs : List Journey) (vs ys : List Account)
+listed-beside : (labels : ℕ → ℕ → Option Label) (next first behind : ℕ) (us xs : List Leg) (vs ys : List Account)
     → behind ≡ first + length us → AreListed (λ m. labels (first + m)) next us vs
     → AreListed (λ m. labels (behind + m)) next xs ys → AreListed (λ m. labels (first + m)) next (us ++ xs) (vs ++ ys)
 listed-beside labels next first behind us xs vs ys at one other = record {
@@ -36,11 +36,11 @@ listed-beside labels next first behind us xs vs ys at one other = record {
   each = each;
 }
   where
-    behind-all : (k m : ℕ) (j : Journey) (a : Account) → m ≡ length vs + k → k < length ys
+    behind-all : (k m : ℕ) (j : Leg) (a : Account) → m ≡ length vs + k → k < length ys
         → IsListed (labels (first + m)) next (get_or (us ++ xs) m j) (get_or (vs ++ ys) m a)
     behind-all k m j a is inside =
         let P : ℕ → Type 0 = λ n. IsListed (labels n) next (get_or (us ++ xs) m j) (get_or (vs ++ ys) m a) in
-        let J : Journey → Type 0 = λ x. IsListed (labels (behind + k)) next x (get_or (vs ++ ys) m a) in
+        let J : Leg → Type 0 = λ x. IsListed (labels (behind + k)) next x (get_or (vs ++ ys) m a) in
         let A : Account → Type 0 = λ x. IsListed (labels (behind + k)) next (get_or xs k j) x in
         let there : m ≡ length us + k = omega (arith, is, one.long) in
         let same : behind + k ≡ first + m = omega (arith, at, there) in
@@ -50,16 +50,16 @@ listed-beside labels next first behind us xs vs ys at one other = record {
         ap (λ (n : ℕ). get_or (vs ++ ys) n a) is ∙ get_or-append-add vs ys k a in
         subst P same (subst J (sym journey) (subst A (sym account) (other.each k j a inside)))
 
-    among : (m : ℕ) (j : Journey) (a : Account) → m < length vs
+    among : (m : ℕ) (j : Leg) (a : Account) → m < length vs
         → IsListed (labels (first + m)) next (get_or (us ++ xs) m j) (get_or (vs ++ ys) m a)
     among m j a less =
-        let J : Journey → Type 0 = λ x. IsListed (labels (first + m)) next x (get_or (vs ++ ys) m a) in
+        let J : Leg → Type 0 = λ x. IsListed (labels (first + m)) next x (get_or (vs ++ ys) m a) in
         let A : Account → Type 0 = λ x. IsListed (labels (first + m)) next (get_or us m j) x in
         let inside : m < length us = omega (arith, less, one.long) in
         subst J (sym (get_or_append_left us xs j m inside))
         (subst A (sym (get_or_append_left vs ys a m less)) (one.each m j a less))
 
-    each : (m : ℕ) (j : Journey) (a : Account) → m < length (vs ++ ys)
+    each : (m : ℕ) (j : Leg) (a : Account) → m < length (vs ++ ys)
         → IsListed (labels (first + m)) next (get_or (us ++ xs) m j) (get_or (vs ++ ys) m a)
     each m j a h = elim (cases_order m (length vs)) [
       | inl same ↦ behind-all 0 m j a (omega (arith, same)) (omega (arith, same, h, length-append vs ys))
@@ -78,13 +78,13 @@ pub listing-beside : (w : State) (labels : ℕ → ℕ → Option Label) (first 
     → both.accounts.items ≡ l.accounts.items ++ m.accounts.items
     → IsListing w labels first to ts both
 listing-beside w labels first behind to ts xs ys l m both parted at one other journeys accounts =
-    let R : Knowledge → Journey → Type 0 = λ t j. IsJourney w to t.player j in
+    let R : Knowledge → Leg → Type 0 = λ t j. IsJourney w to t.player j in
     let us = l.journeys.items in
     let vs = m.journeys.items in
     let ds = l.accounts.items in
     let es = m.accounts.items in
     let T : List Knowledge → Type 0 = λ ks. AllZip R ks both.journeys.items in
-    let J : List Journey → Type 0 = λ js. AreListed (λ m. labels (first + m)) w.next js both.accounts.items in
+    let J : List Leg → Type 0 = λ js. AreListed (λ m. labels (first + m)) w.next js both.accounts.items in
     let A : List Account → Type 0 = λ ns. AreListed (λ m. labels (first + m)) w.next (us ++ vs) ns in
     let long : behind ≡ first + length us = omega (arith, at, allzip-length R xs us one.journeys) in
     record {

@@ -15,7 +15,7 @@ use Rattle.mud_roads.specs.Open.{roads_of}
 use Rattle.mud_roads.proofs.Routes.{label-ext}
 use Rattle.mud_roads.proofs.Roads.{steps-inside}
 use Rattle.mud_guide.specs.declared.arrivals.Arrival.{Arrival}
-use Rattle.mud_guide.specs.inner.Arrivals.{Ends, AreLowest, ends, is_lower, noted, noted_all}
+use Rattle.mud_guide.specs.inner.Arrivals.{Ends, AreLowest, ends, is_lower, note, noted_all}
 
 -- fewer seen
 pub lowest-weaken : (roads : Roads) (labels : ℕ → Option Label) (next : ℕ) (seen more : ℕ → Step → Type 0)
@@ -169,7 +169,7 @@ module _ (roads : Roads) (labels : ℕ → Option Label) (next : ℕ) (seen : �
           found (Some x) e =
               omega (arith, a.lowest to x e b t old d, low x (ap (λ (r : ℕ). get_or table r None) (sym same) ∙ e))
 
-  pub lowest-noted : AreLowest roads labels next More (noted labels by l s table)
+  pub lowest-noted : AreLowest roads labels next More (note labels by l s table)
   lowest-noted = go (ends l s (labels s.to)) refl
     where
       low-is : (o : Option Arrival) → (b : Bool) → is_lower s.exit o ≡ b → get_or table s.to None ≡ o
@@ -218,7 +218,7 @@ lowest-noted_all roads labels next by l comes inside (s ∷ ss) seen table a tho
     let first = lowest-noted roads labels next seen table a by l s comes (those s (contains-head s ss)) inside
     (leads s (contains-head s ss)) in
     let rest = lowest-noted_all roads labels next by l comes inside ss (λ b t. seen b t ⊎ ((b ≡ by) × (t ≡ s)))
-    (noted labels by l s table) first
+    (note labels by l s table) first
     (λ x c. those x (contains-later s x ss c)) (λ x c. leads x (contains-later s x ss c)) in
     lowest-weaken roads labels next (λ b t. seen b t ⊎ ((b ≡ by) × Contains (s ∷ ss) t))
     (λ b t. (seen b t ⊎ ((b ≡ by) × (t ≡ s))) ⊎ ((b ≡ by) × Contains ss t)) (noted_all labels by l (s ∷ ss) table)

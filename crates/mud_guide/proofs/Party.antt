@@ -11,7 +11,7 @@ use Rattle.mud_world.specs.Sound.{IsSound}
 use Rattle.mud_roads.specs.declared.label.Label.{Label}
 use Rattle.mud_roads.specs.declared.label.Step.{Step}
 use Rattle.mud_roads.specs.Walks.{total, IsLeast, Least, Goer, HasLeast, Gathers}
-use Rattle.mud_roads.specs.Open.{Knowledge, known, IsTraveller, roads_of}
+use Rattle.mud_roads.specs.Open.{Knowledge, knowledge_of, IsTraveller, roads_of}
 use Rattle.mud_roads.proofs.Routes.{least-one}
 use Rattle.mud_cert.specs.declared.cert.Form.TheVariants.{Two}
 use Rattle.mud_cert.specs.declared.cert.Meeting.{Meeting}
@@ -24,7 +24,7 @@ use Rattle.mud_search.specs.Least.{AreLeast}
 use Rattle.mud_guide.specs.inner.Arrivals.{Labelled}
 use Rattle.mud_guide.specs.Ways.{cost_of, IsWayTo}
 use Rattle.mud_guide.specs.inner.Members.{IsWay}
-use Rattle.mud_guide.specs.Journeys.{Journey, IsJourney, goers_of}
+use Rattle.mud_guide.specs.Legs.{Leg, IsJourney, goers_of}
 use Rattle.mud_guide.specs.Accounts.{IsAccountOf}
 use Rattle.mud_guide.specs.inner.Listings.{IsInside, AreListed}
 use Rattle.mud_guide.specs.inner.Gatherings.{IsGreatest}
@@ -60,7 +60,7 @@ allzip-from R (x ∷ xs) (y ∷ ys) same each = (
 )
 
 -- ---- a party
-pub record IsParty (w : State) (to : Option ℕ) (ts : List Knowledge) (js : List Journey) (labels : ℕ → ℕ → Option Label)
+pub record IsParty (w : State) (to : Option ℕ) (ts : List Knowledge) (js : List Leg) (labels : ℕ → ℕ → Option Label)
     (es : List Account) : Type 0 where
   pub are : All (IsTraveller w) ts
   pub distinct : AllPairs (λ s t. s.player ≢ t.player) ts
@@ -69,17 +69,17 @@ pub record IsParty (w : State) (to : Option ℕ) (ts : List Knowledge) (js : Lis
   pub listed : AreListed labels w.next js es
 
 abbrev pub nobody : Knowledge
-nobody = known 0 0 [] []
+nobody = knowledge_of 0 0 [] []
 
-abbrev pub nowhere : Journey
+abbrev pub nowhere : Leg
 nowhere = record { player = 0; from = 0; way = None }
 
 -- who goes stands where his journey begins
-same-place : (w : State) (to : Option ℕ) (t : Knowledge) (j : Journey) → IsTraveller w t
+same-place : (w : State) (to : Option ℕ) (t : Knowledge) (j : Leg) → IsTraveller w t
     → IsJourney w to t.player j → t.place ≡ j.from
 same-place w to t j is goes = some-inj t.place j.from (sym is.place ∙ goes.from)
 
-pub goers-same : (w : State) (to : Option ℕ) (ts : List Knowledge) (js : List Journey) → All (IsTraveller w) ts
+pub goers-same : (w : State) (to : Option ℕ) (ts : List Knowledge) (js : List Leg) → All (IsTraveller w) ts
     → AllZip (λ t j. IsJourney w to t.player j) ts js
     → goers w ts ≡ goers_of w js
 goers-same w to [] [] are z = refl
@@ -93,7 +93,7 @@ goers-same w to (t ∷ ts) (j ∷ js) are z =
     ap one (sym z.0.player) ∙ ap two (same-place w to t j is z.0)
     ∙ ap rest (goers-same w to ts js (λ k d h. are (suc k) d (omega (arith, h))) z.1)
 
-pub journeys-of : (w : State) (to : Option ℕ) (ts : List Knowledge) (js : List Journey)
+pub journeys-of : (w : State) (to : Option ℕ) (ts : List Knowledge) (js : List Leg)
     → AllZip (λ t j. IsJourney w to t.player j) ts js
     → AllZip (IsJourney w to) (map (λ t. t.player) ts) js
 journeys-of w to [] [] z = tt
@@ -102,7 +102,7 @@ journeys-of w to (t ∷ ts) [] z = absurd z
 journeys-of w to (t ∷ ts) (j ∷ js) z = (z.0, journeys-of w to ts js z.1)
 
 pub journeys-inside : (w : State) → IsSound w
-    → (to : Option ℕ) (ts : List Knowledge) (js : List Journey) → All (IsTraveller w) ts
+    → (to : Option ℕ) (ts : List Knowledge) (js : List Leg) → All (IsTraveller w) ts
     → AllZip (λ t j. IsJourney w to t.player j) ts js → All (IsInside w.next) js
 journeys-inside w sound to ts js are z k d h =
     let inside : k < length ts = omega (arith, allzip-length (λ t j. IsJourney w to t.player j) ts js z) in
@@ -110,7 +110,7 @@ journeys-inside w sound to ts js are z k d h =
     shown.journey-inside w sound t.player (are k nobody inside).player to (get_or js k d)
     (allzip-at (λ t j. IsJourney w to t.player j) ts js k nobody d z inside)
 
-module _ (w : State) (sound : IsSound w) (to : Option ℕ) (ts : List Knowledge) (js : List Journey)
+module _ (w : State) (sound : IsSound w) (to : Option ℕ) (ts : List Knowledge) (js : List Leg)
     (labels : ℕ → ℕ → Option Label) (es : List Account)
     (party : IsParty w to ts js labels es) where
   long-js : length js ≡ length ts
@@ -122,7 +122,7 @@ module _ (w : State) (sound : IsSound w) (to : Option ℕ) (ts : List Knowledge)
   abbrev who : ℕ → Knowledge
   who m = get_or ts m nobody
 
-  abbrev journey : ℕ → Journey
+  abbrev journey : ℕ → Leg
   journey m = get_or js m nowhere
 
   is-player : (m : ℕ) → m < length es → IsTrue (is_player w (who m).player)
@@ -155,7 +155,7 @@ module _ (w : State) (sound : IsSound w) (to : Option ℕ) (ts : List Knowledge)
       (get_or es m d) (party.listed.each m nowhere d h)
 
   -- the same of any journey of that place
-  goes-from : (m : ℕ) (j : Journey) → m < length es → IsJourney w to (who m).player (get_or js m j)
+  goes-from : (m : ℕ) (j : Leg) → m < length es → IsJourney w to (who m).player (get_or js m j)
   goes-from m j h = allzip-at (λ t j. IsJourney w to t.player j) ts js m nobody j party.go (within m h)
 
   pub accounts : AllZip (IsAccountOf w) js es

@@ -24,7 +24,7 @@ use Rattle.mud_search.specs.Least.{AreLeast, AreBounded}
 use Rattle.mud_guide.specs.declared.answer.Answer.{Answer}
 use Rattle.mud_guide.specs.Ways.{cost_of}
 use Rattle.mud_guide.specs.inner.Members.{IsWay}
-use Rattle.mud_guide.specs.Journeys.{Journey, IsJourney}
+use Rattle.mud_guide.specs.Legs.{Leg, IsJourney}
 use Rattle.mud_guide.specs.inner.Listings.{AreListed}
 use Rattle.mud_guide.specs.inner.Gatherings.{IsGreatest}
 use Rattle.mud_guide.specs.Texts.{route_text, meet_text}
@@ -36,7 +36,7 @@ use Rattle.mud_guide.proofs.Party.{IsParty, goers-same, journeys-of, accounts, a
 use Rattle.mud_guide.proofs.Party.{concludes-route}
 
 -- what the certificate is made of
-pub record IsMade (w : State) (v : ℕ) (labels : ℕ → ℕ → Option Label) (js : List Journey) (says : Conclusion)
+pub record IsMade (w : State) (v : ℕ) (labels : ℕ → ℕ → Option Label) (js : List Leg) (says : Conclusion)
     (c : Certificate) : Type 0 where
   pub version : c.version ≡ v
   pub form : c.form ≡ Two
@@ -66,7 +66,7 @@ meeting-limits w sound labels bounded members some (Some p) room greatest = (
 pub number-is : (w : State) → IsSound w → (room : ℕ) → IsTrue (is_room w room) → IsNumber room
 number-is w sound room is = omega (arith, room-below w sound room is, sound.limit)
 
-pub cost-limits : (w : State) (t : Knowledge) (j : Journey) (room : ℕ) (labels : ℕ → ℕ → Option Label) → IsTraveller w t
+pub cost-limits : (w : State) (t : Knowledge) (j : Leg) (room : ℕ) (labels : ℕ → ℕ → Option Label) → IsTraveller w t
     → IsJourney w (Some room) t.player j
     → AreLeast w (t ∷ []) labels → AreBounded labels → IfSome (option_map cost_of j.way) IsAmount
 cost-limits w t j room labels is goes least bounded = go j.way goes.way
@@ -110,7 +110,7 @@ shown-some o c P e p =
     subst Q (sym e) p
 
 pub route-answer : (w : State) → IsSound w → (v : ℕ) (t : Knowledge) (labels : ℕ → ℕ → Option Label) (room : ℕ)
-    (j : Journey) (c : Certificate) (a : Answer)
+    (j : Leg) (c : Certificate) (a : Answer)
     → IsTraveller w t → AreLeast w (t ∷ []) labels → IsTrue (is_room w room) → IsJourney w (Some room) t.player j
     → IsMade w v labels (j ∷ []) (Route room (option_map cost_of j.way)) c
     → a.version ≡ v → string_bytes a.text ≡ route_text room j → a.cert ≡ Some c → IsRouteAnswer w v t.player room a
@@ -148,7 +148,7 @@ route-answer w sound v t labels room j c a is least here goes made version text 
     }
 
 pub meet-answer : (w : State) → IsSound w → (v : ℕ) (ts : List Knowledge) (labels : ℕ → ℕ → Option Label)
-    (place : Option Meeting) (js : List Journey) (c : Certificate) (a : Answer)
+    (place : Option Meeting) (js : List Leg) (c : Certificate) (a : Answer)
     → All (IsTraveller w) ts → AllPairs (λ s t. s.player ≢ t.player) ts → 0 < length ts → AreLeast w ts labels
     → IsPlace (HasLeast 1) (goers w ts) place → IfSome place (λ p. IsGreatest (λ m. labels m p.room) (length ts) p.cost)
     → AllZip (λ t j. IsJourney w (option_map (λ p. p.room) place) t.player j) ts js

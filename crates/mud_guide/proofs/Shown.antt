@@ -24,7 +24,7 @@ use Rattle.mud_cert.specs.Valid.{States, IsMember}
 use Rattle.mud_cert.proofs.Lookups.{label-found, label-missing}
 use Rattle.mud_guide.specs.inner.Arrivals.{Labelled}
 use Rattle.mud_guide.specs.Ways.{exits_of, IsWayTo}
-use Rattle.mud_guide.specs.Journeys.{Journey, IsJourney}
+use Rattle.mud_guide.specs.Legs.{Leg, IsJourney}
 use Rattle.mud_guide.specs.Accounts.{AreLeastLabels, IsAccountOf}
 use Rattle.mud_guide.specs.inner.Listings.{IsInside, IsListed}
 use Rattle.mud_guide.proofs.Totals.{route_is_least}
@@ -62,7 +62,7 @@ walk-room w sound p from to (s ∷ ss) is (c, rest) =
     walk-room w sound p s.to to ss (steps-rooms w sound p from s c).1 rest
 
 -- the numbers of a journey are those of objects
-pub journey-inside : (w : State) → IsSound w → (p : ℕ) → IsTrue (is_player w p) → (to : Option ℕ) (j : Journey)
+pub journey-inside : (w : State) → IsSound w → (p : ℕ) → IsTrue (is_player w p) → (to : Option ℕ) (j : Leg)
     → IsJourney w to p j → IsInside w.next j
 journey-inside w sound p player to j is = record {
   player = omega (arith, is.player, player-below w sound p player);
@@ -79,7 +79,7 @@ journey-inside w sound p player to j is = record {
 
 -- ---- one member
 module _ (w : State) (sound : IsSound w) (p : ℕ) (player : IsTrue (is_player w p)) (to : Option ℕ)
-    (j : Journey) (goes : IsJourney w to p j)
+    (j : Leg) (goes : IsJourney w to p j)
     (labels : ℕ → Option Label) (least : Labelled (roads_of w p) j.from labels) (a : Account)
     (listed : IsListed labels w.next j a) where
   stands : IsTrue (is_room w j.from)

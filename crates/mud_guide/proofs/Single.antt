@@ -15,7 +15,7 @@ use Rattle.mud_cert.specs.declared.cert.Conclusion.TheVariants.{Route, Meet}
 use Rattle.mud_cert.specs.Certificate.{Account, Certificate}
 use Rattle.mud_guide.specs.Ways.{cost_of, IsWayTo}
 use Rattle.mud_guide.specs.inner.Members.{IsWay}
-use Rattle.mud_guide.specs.Journeys.{Journey, IsJourney, goers_of}
+use Rattle.mud_guide.specs.Legs.{Leg, IsJourney, goers_of}
 use Rattle.mud_guide.specs.Accounts.{AreLeastLabels, IsAccountOf}
 use Rattle.mud_cert.specs.Valid.{IsPlace}
 use Rattle.mud_guide.specs.Texts.{route_text, meet_text}
@@ -41,23 +41,23 @@ way_to-one w sound p from None a b x y = x ∙ sym y
 way_to-one w sound p from (Some to) a b x y = way-one w sound p from to a b x y
 
 -- who goes, and from where, whatever the rooms are to which they go
-same-start : (w : State) (to to' : Option ℕ) (p : ℕ) (i j : Journey) → IsJourney w to p i → IsJourney w to' p j
+same-start : (w : State) (to to' : Option ℕ) (p : ℕ) (i j : Leg) → IsJourney w to p i → IsJourney w to' p j
     → (i.player ≡ j.player) × (i.from ≡ j.from)
 same-start w to to' p i j x y = (x.player ∙ sym y.player, some-inj i.from j.from (sym x.from ∙ y.from))
 
-journey-one : (w : State) → IsSound w → (to : Option ℕ) (p : ℕ) (i j : Journey)
+journey-one : (w : State) → IsSound w → (to : Option ℕ) (p : ℕ) (i j : Leg)
     → IsJourney w to p i → IsJourney w to p j → i ≡ j
 journey-one w sound to p i j x y =
     let same = same-start w to to p i j x y in
     let there : IsWayTo (roads_of w p) j.from to i.way =
     subst (λ (n : ℕ). IsWayTo (roads_of w p) n to i.way) same.1 x.way in
     let way : i.way ≡ j.way = way_to-one w sound p j.from to i.way j.way there y.way in
-    let one : ℕ → Journey = λ n. record { player = n; from = i.from; way = i.way } in
-    let two : ℕ → Journey = λ n. record { player = j.player; from = n; way = i.way } in
-    let three : Option (List Step) → Journey = λ o. record { player = j.player; from = j.from; way = o } in
+    let one : ℕ → Leg = λ n. record { player = n; from = i.from; way = i.way } in
+    let two : ℕ → Leg = λ n. record { player = j.player; from = n; way = i.way } in
+    let three : Option (List Step) → Leg = λ o. record { player = j.player; from = j.from; way = o } in
     ap one same.0 ∙ ap two same.1 ∙ ap three way
 
-journeys-one : (w : State) → IsSound w → (to : Option ℕ) (party : List ℕ) (is js : List Journey)
+journeys-one : (w : State) → IsSound w → (to : Option ℕ) (party : List ℕ) (is js : List Leg)
     → AllZip (IsJourney w to) party is
     → AllZip (IsJourney w to) party js → is ≡ js
 journeys-one w sound to [] [] [] x y = refl
@@ -66,10 +66,10 @@ journeys-one w sound to [] (i ∷ is) js x y = absurd x
 journeys-one w sound to (p ∷ ps) [] js x y = absurd x
 journeys-one w sound to (p ∷ ps) (i ∷ is) [] x y = absurd y
 journeys-one w sound to (p ∷ ps) (i ∷ is) (j ∷ js) x y =
-    ap (λ (k : Journey). k ∷ is) (journey-one w sound to p i j x.0 y.0) ∙ ap (λ (ks : List Journey). j ∷ ks)
+    ap (λ (k : Leg). k ∷ is) (journey-one w sound to p i j x.0 y.0) ∙ ap (λ (ks : List Leg). j ∷ ks)
     (journeys-one w sound to ps is js x.1 y.1)
 
-goers-one : (w : State) (to to' : Option ℕ) (party : List ℕ) (is js : List Journey) → AllZip (IsJourney w to) party is
+goers-one : (w : State) (to to' : Option ℕ) (party : List ℕ) (is js : List Leg) → AllZip (IsJourney w to) party is
     → AllZip (IsJourney w to') party js
     → goers_of w is ≡ goers_of w js
 goers-one w to to' [] [] [] x y = refl
@@ -94,7 +94,7 @@ labels-one : (roads : Roads) (from : ℕ) (es fs : List Entry) → AreLeastLabel
 labels-one roads from es fs x y =
     rising-one es fs x.rising y.rising (labels-among roads from es fs x y) (labels-among roads from fs es y x)
 
-account-one : (w : State) (j : Journey) (a b : Account) → IsAccountOf w j a → IsAccountOf w j b → a ≡ b
+account-one : (w : State) (j : Leg) (a b : Account) → IsAccountOf w j a → IsAccountOf w j b → a ≡ b
 account-one w j a b x y =
     let player : a.player ≡ b.player = x.player ∙ sym y.player in
     let from : a.from ≡ b.from = x.from ∙ sym y.from in
@@ -107,7 +107,7 @@ account-one w j a b x y =
     λ o. record { player = b.player; from = b.from; labels = b.labels; walk = o } in
     ap one player ∙ ap two from ∙ ap three labels ∙ ap four walk
 
-accounts-one : (w : State) (js : List Journey) (es fs : List Account) → AllZip (IsAccountOf w) js es
+accounts-one : (w : State) (js : List Leg) (es fs : List Account) → AllZip (IsAccountOf w) js es
     → AllZip (IsAccountOf w) js fs → es ≡ fs
 accounts-one w [] [] [] x y = refl
 accounts-one w [] [] (b ∷ others) x y = absurd y
@@ -118,7 +118,7 @@ accounts-one w (j ∷ js) (a ∷ more) (b ∷ others) x y =
     ap (λ (e : Account). e ∷ more) (account-one w j a b x.0 y.0) ∙ ap (λ (es : List Account). b ∷ es)
     (accounts-one w js more others x.1 y.1)
 
-cert-one : (w : State) (v : ℕ) (js : List Journey) (says : Conclusion) (c d : Certificate) → IsCertOf w v js says c
+cert-one : (w : State) (v : ℕ) (js : List Leg) (says : Conclusion) (c d : Certificate) → IsCertOf w v js says c
     → IsCertOf w v js says d → c ≡ d
 cert-one w v js says c d x y =
     let version : c.version ≡ d.version = x.version ∙ sym y.version in
@@ -135,7 +135,7 @@ cert-one w v js says c d x y =
     λ s. record { version = d.version; form = d.form; members = d.members; conclusion = s } in
     ap one version ∙ ap two form ∙ ap three members ∙ ap four conclusion
 
-certs-one : (w : State) (v : ℕ) (js : List Journey) (says : Conclusion) (o q : Option Certificate)
+certs-one : (w : State) (v : ℕ) (js : List Leg) (says : Conclusion) (o q : Option Certificate)
     → IsSomeAnd o (IsCertOf w v js says)
     → IsSomeAnd q (IsCertOf w v js says) → o ≡ q
 certs-one w v js says None q x y = absurd x
@@ -148,7 +148,7 @@ pub route_answer_is_one : (w : State) → IsSound w → (v p to : ℕ) (a b : An
     → AreAlike a b
 route_answer_is_one w sound v p to a b x y =
     let same : x.journey ≡ y.journey = journey-one w sound (Some to) p x.journey y.journey x.goes y.goes in
-    let C : Journey → Type 0 = λ j. IsSomeAnd a.cert (IsCertOf w v (j ∷ []) (Route to (option_map cost_of j.way))) in
+    let C : Leg → Type 0 = λ j. IsSomeAnd a.cert (IsCertOf w v (j ∷ []) (Route to (option_map cost_of j.way))) in
     let says : Conclusion = Route to (option_map cost_of y.journey.way) in (
       x.version ∙ sym y.version,
       x.text ∙ ap (route_text to) same ∙ sym y.text,
@@ -179,7 +179,7 @@ meet_answer_is_one w sound v party a b x y =
     subst (λ (o : Option Meeting). AllZip (IsJourney w (R o)) party x.journeys) place x.go in
     let same : x.journeys ≡ y.journeys = journeys-one w sound (R y.place) party x.journeys y.journeys go y.go in
     let C : Option Meeting → Type 0 = λ o. IsSomeAnd a.cert (IsCertOf w v x.journeys (Meet o)) in
-    let D : List Journey → Type 0 = λ js. IsSomeAnd a.cert (IsCertOf w v js (Meet y.place)) in (
+    let D : List Leg → Type 0 = λ js. IsSomeAnd a.cert (IsCertOf w v js (Meet y.place)) in (
       x.version ∙ sym y.version,
       x.text ∙ ap (λ (o : Option Meeting). meet_text o x.journeys) place ∙ ap (meet_text y.place) same ∙ sym y.text,
       certs-one w v y.journeys (Meet y.place) a.cert b.cert (subst D same (subst C place x.cert)) y.cert,

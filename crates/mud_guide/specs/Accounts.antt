@@ -6,7 +6,7 @@ use Rattle.mud_roads.specs.declared.label.Label.{Label}
 use Rattle.mud_roads.specs.Walks.{Roads, IsLeast}
 use Rattle.mud_roads.specs.Open.{roads_of}
 use Rattle.mud_cert.specs.Certificate.{Account}
-use Rattle.mud_guide.specs.Journeys.{Journey}
+use Rattle.mud_guide.specs.Legs.{Leg}
 use Rattle.mud_guide.specs.Ways.{exits_of}
 
 -- the least label of every room that has one, by rising number
@@ -15,7 +15,7 @@ pub record AreLeastLabels (roads : Roads) (from : ℕ) (entries : List (ℕ × L
   pub least : (room : ℕ) (l : Label) → Contains entries (room, l) ↔ IsLeast 1 roads from room l
 
 -- who goes on the journey, from where, his least labels, and the exits of his way
-pub record IsAccountOf (w : State) (j : Journey) (a : Account) : Type 0 where
+pub record IsAccountOf (w : State) (j : Leg) (a : Account) : Type 0 where
   pub player : a.player ≡ j.player
   pub from : a.from ≡ j.from
   pub labels : AreLeastLabels (roads_of w j.player) j.from a.labels

@@ -12,12 +12,12 @@ use Rattle.mud_cert.specs.declared.cert.Conclusion.{Conclusion}
 use Rattle.mud_cert.specs.declared.cert.Conclusion.TheVariants.{Route, Meet}
 use Rattle.mud_guide.specs.declared.answer.Answer.{Answer}
 use Rattle.mud_guide.specs.Ways.{cost_of}
-use Rattle.mud_guide.specs.Journeys.{Journey, IsJourney, goers_of}
+use Rattle.mud_guide.specs.Legs.{Leg, IsJourney, goers_of}
 use Rattle.mud_guide.specs.Accounts.{IsAccountOf}
 use Rattle.mud_guide.specs.Texts.{route_text, meet_text}
 
 -- the certificate of these journeys: in form two, with an account of each and this conclusion, within the limits
-pub record IsCertOf (w : State) (v : ℕ) (js : List Journey) (says : Conclusion) (c : Certificate) : Type 0 where
+pub record IsCertOf (w : State) (v : ℕ) (js : List Leg) (says : Conclusion) (c : Certificate) : Type 0 where
   pub version : c.version ≡ v
   pub form : c.form ≡ Two
   pub members : AllZip (IsAccountOf w) js c.members
@@ -26,7 +26,7 @@ pub record IsCertOf (w : State) (v : ℕ) (js : List Journey) (says : Conclusion
 
 -- the text tells the player's journey to the room, and a valid certificate shows it to be best
 pub record IsRouteAnswer (w : State) (v p to : ℕ) (a : Answer) : Type 0 where
-  pub journey : Journey
+  pub journey : Leg
   pub goes : IsJourney w (Some to) p journey
   pub version : a.version ≡ v
   pub text : string_bytes a.text ≡ route_text to journey
@@ -36,7 +36,7 @@ pub record IsRouteAnswer (w : State) (v p to : ℕ) (a : Answer) : Type 0 where
 -- the text tells where the party meets and each member's journey there, and a valid certificate shows it to be best
 pub record IsMeetAnswer (w : State) (v : ℕ) (party : List ℕ) (a : Answer) : Type 0 where
   pub place : Option Meeting
-  pub journeys : List Journey
+  pub journeys : List Leg
   pub go : AllZip (IsJourney w (option_map (λ m. m.room) place)) party journeys
   pub meet : IsPlace (HasLeast 1) (goers_of w journeys) place
   pub version : a.version ≡ v

@@ -1,5 +1,5 @@
 pub mod Ways
-pub mod Journeys
+pub mod Legs
 pub mod Accounts
 pub mod Texts
 pub mod Answers

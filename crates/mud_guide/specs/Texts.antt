@@ -1,10 +1,11 @@
--- What the guide says; a line ends at the byte 10.
+-- What the guide says; a line ends at LF.
 use Rattle.std.specs.Prelude.{ℕ, List, ◌∷◌, ◌++◌, Option, None, Some, codes, decimal}
 use Rattle.std.specs.List.{flat_map}
 pub use Rattle.mud_key.specs.Printed.{number_text as object}
 use Rattle.mud_roads.specs.declared.label.Step.{Step}
+use Rattle.mud_chron.specs.declared.codes.TheConstants.{LF}
 use Rattle.mud_cert.specs.declared.cert.Meeting.{Meeting}
-use Rattle.mud_guide.specs.Journeys.{Journey}
+use Rattle.mud_guide.specs.Legs.{Leg}
 use Rattle.mud_cert.specs.Text.{exits_text}
 use Rattle.mud_guide.specs.Ways.{exits_of, cost_of}
 
@@ -14,17 +15,17 @@ way_text None = codes " no way"
 way_text (Some steps) = codes " cost " ++ (decimal (cost_of steps) ++ (codes " by" ++ exits_text (exits_of steps)))
 
 -- `route #0 to #2 cost 7 by #5 #6`, or `route #0 to #2 no way`
-abbrev pub route_text : ℕ → Journey → List ℕ
+abbrev pub route_text : ℕ → Leg → List ℕ
 route_text to j = codes "route " ++ (object j.from ++ (codes " to " ++ (object to ++ way_text j.way)))
 
 -- ` at #0 cost 3` and a line for each member, `  #1 from #0 cost 3 by #5`; or ` no meeting`
-abbrev pub place_text : Option Meeting → List Journey → List ℕ
+abbrev pub place_text : Option Meeting → List Leg → List ℕ
 place_text None journeys = codes " no meeting"
 place_text (Some p) journeys =
     codes " at " ++ (object p.room ++ (codes " cost " ++ (decimal p.cost ++ flat_map (λ j.
-    10 ∷ codes "  " ++ object j.player ++ codes " from " ++ object j.from ++ way_text j.way) journeys)))
+    LF ∷ codes "  " ++ object j.player ++ codes " from " ++ object j.from ++ way_text j.way) journeys)))
 
 -- `meet #1 #2 at #0 cost 3` and the lines of the members, or `meet #1 #2 no meeting`
-abbrev pub meet_text : Option Meeting → List Journey → List ℕ
+abbrev pub meet_text : Option Meeting → List Leg → List ℕ
 meet_text place journeys =
     codes "meet" ++ (flat_map (λ j. codes " " ++ object j.player) journeys ++ place_text place journeys)

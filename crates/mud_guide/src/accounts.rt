@@ -2,12 +2,13 @@
 
 ghost use Rattle.std.specs.Prelude.{◌≡◌, ◌+◌, ◌≤◌, All, IfOk, length};
 ghost use Rattle.std.specs.Option.{option_map};
+ghost use Rattle.mud_world.specs.declared.limits.TheConstants.{NUMBERS, MOST_PARTY};
 ghost use Rattle.mud_cert.specs.Certificate.{IsAccount};
 ghost use Rattle.mud_search.specs.Least.{label_in, AreBounded};
 ghost use Rattle.mud_guide.specs.Ways.{exits_of};
 ghost use Rattle.mud_guide.specs.inner.Listings.{AreEntries, IsInside, IsListed, AreListed};
 
-use crate::journey::Journey;
+use crate::leg::Leg;
 use crate::way::Way;
 use mud_cert::Member;
 use mud_roads::{Label, Step};
@@ -57,11 +58,11 @@ fn walk_of(alloc: Global, way: &Option<Way>) -> Result<Option<Vec<u32>>, AllocEr
 fn account_of(
     alloc: Global,
     next: u32,
-    journey: &Journey,
+    journey: &Leg,
     labels: &Labels,
     member: usize,
 ) -> Result<Member, AllocError>
-    requires few { next ≤ 8192 }
+    requires few { next ≤ NUMBERS }
     requires inside { IsInside next journey.now }
     requires bounded { AreBounded (label_in labels.now) }
     ensures account { IfOk result (IsListed (label_in labels.now member) next journey.now) }
@@ -76,12 +77,12 @@ fn account_of(
 pub(crate) fn accounts_of(
     alloc: Global,
     next: u32,
-    journeys: &[Journey],
+    journeys: &[Leg],
     labels: &Labels,
     first: usize,
 ) -> Result<Vec<Member>, AllocError>
-    requires few { next ≤ 8192 }
-    requires members { first + length journeys.now ≤ 8 }
+    requires few { next ≤ NUMBERS }
+    requires members { first + length journeys.now ≤ MOST_PARTY }
     requires inside { All (IsInside next) journeys.now }
     requires bounded { AreBounded (label_in labels.now) }
     ensures accounts { IfOk result (λ ms.

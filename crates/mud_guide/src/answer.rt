@@ -1,6 +1,7 @@
 //! The guide's answers.
 
 ghost use Rattle.std.specs.Prelude.{◌≤◌};
+ghost use Rattle.mud_chron.specs.declared.limits.TheConstants.{MOST_ENTRIES};
 
 use mud_cert::Cert;
 
@@ -14,5 +15,5 @@ pub struct Answer {
     pub text: String,
     /// What shows it to be best.
     pub cert: Option<Cert>,
-    ghost few: { version ≤ 65536 },
+    ghost few: { version ≤ MOST_ENTRIES },
 }

@@ -4,7 +4,7 @@ ghost use Rattle.std.specs.Prelude.{◌≡◌, ◌<◌, All, IfOk, length};
 ghost use Rattle.mud_world.specs.Sound.{IsSound};
 ghost use Rattle.mud_roads.specs.Open.{IsTraveller, roads_of};
 ghost use Rattle.mud_search.specs.Least.{label_in};
-ghost use Rattle.mud_guide.specs.inner.Arrivals.{AreLast, ends, is_lower, noted, noted_all};
+ghost use Rattle.mud_guide.specs.inner.Arrivals.{AreLast, ends, is_lower, note, noted_all};
 
 use mud_roads::{Label, Step, Traveller};
 use mud_search::Labels;
@@ -71,7 +71,7 @@ fn note(
     table: &mut [Option<Arrival>],
 )
     requires { step.now.to < length table.old }
-    ensures { table.new ≡ noted (label_in labels.now member) by label step.now table.old }
+    ensures { table.new ≡ note (label_in labels.now member) by label step.now table.old }
 {
     let at = step.to as usize;
     if ends(label, step, labels.get(member, step.to)) && is_lower(step.exit, table[at]) {

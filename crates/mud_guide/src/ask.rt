@@ -3,16 +3,18 @@
 ghost use Rattle.std.specs.Prelude.{◌≡◌, ◌≢◌, ◌≤◌, [], ◌∷◌, All, AllPairs, IfOk, IsTrue, length, map};
 ghost use Rattle.std.specs.Option.{option_map};
 ghost use Rattle.mud_world.specs.State.{is_player, is_room};
+ghost use Rattle.mud_chron.specs.declared.limits.TheConstants.{MOST_ENTRIES};
 ghost use Rattle.mud_roads.specs.Open.{IsTraveller};
 ghost use Rattle.mud_cert.specs.Certificate.{IsAccount, IsCertificate, IsConclusion};
 ghost use Rattle.mud_cert.specs.declared.cert.Form.TheVariants.{Two};
 ghost use Rattle.mud_search.specs.Least.{label_in, AreLeast, AreBounded};
 ghost use Rattle.mud_guide.specs.Ways.{cost_of};
 ghost use Rattle.mud_guide.specs.Answers.{IsRouteAnswer, IsMeetAnswer};
+ghost use Rattle.mud_world.specs.declared.limits.TheConstants.{MOST_PARTY};
 
 use crate::accounts::accounts_of;
 use crate::answer::Answer;
-use crate::journey::journey_to;
+use crate::leg::journey_to;
 use crate::lister::{Alone, Lister};
 use crate::meeting::meeting_place;
 use crate::texts::{meet_text, route_text};
@@ -36,7 +38,7 @@ pub fn route_alone(
 ) -> Result<Answer, AllocError>
     requires player { IsTrue (is_player world.now player) }
     requires room { IsTrue (is_room world.now room) }
-    requires version { version ≤ 65536 }
+    requires version { version ≤ MOST_ENTRIES }
     ensures { IfOk result (IsRouteAnswer world.now version player room) }
 {
     let traveller = Traveller::of(alloc, world, player)?;
@@ -55,7 +57,7 @@ pub(crate) fn route_from(
 ) -> Result<Answer, AllocError>
     requires traveller { IsTraveller world.now traveller.now }
     requires room { IsTrue (is_room world.now room) }
-    requires version { version ≤ 65536 }
+    requires version { version ≤ MOST_ENTRIES }
     requires least { AreLeast world.now (traveller.now ∷ []) (label_in labels.now) }
     requires bounded { AreBounded (label_in labels.now) }
     ensures { IfOk result (IsRouteAnswer world.now version traveller.now.player room) }
@@ -88,8 +90,8 @@ pub fn meet_alone(
     requires players { All (λ p. IsTrue (is_player world.now p)) party.now }
     requires distinct { AllPairs (λ p q. p ≢ q) party.now }
     requires two { 2 ≤ length party.now }
-    requires few { length party.now ≤ 8 }
-    requires version { version ≤ 65536 }
+    requires few { length party.now ≤ MOST_PARTY }
+    requires version { version ≤ MOST_ENTRIES }
     ensures { IfOk result (IsMeetAnswer world.now version party.now) }
 {
     let travellers = travellers_of(alloc, world, party)?;
@@ -134,8 +136,8 @@ pub(crate) fn meet_from<L: Lister>(
     requires travellers { All (IsTraveller world.now) party.now }
     requires distinct { AllPairs (λ s t. s.player ≢ t.player) party.now }
     requires two { 2 ≤ length party.now }
-    requires few { length party.now ≤ 8 }
-    requires version { version ≤ 65536 }
+    requires few { length party.now ≤ MOST_PARTY }
+    requires version { version ≤ MOST_ENTRIES }
     requires least { AreLeast world.now party.now (label_in labels.now) }
     requires bounded { AreBounded (label_in labels.now) }
     ensures { IfOk result (IsMeetAnswer world.now version (map (λ t. t.player) party.now)) }
@@ -173,7 +175,7 @@ fn room_of(place: Option<Meeting>) -> Option<u32>
 
 // The certificate that claims this of its members.
 fn certificate(version: u32, accounts: Vec<Member>, conclusion: Conclusion) -> Cert
-    requires version { version ≤ 65536 }
+    requires version { version ≤ MOST_ENTRIES }
     requires accounts { All IsAccount accounts.items }
     requires conclusion { IsConclusion (length accounts.items) conclusion }
     ensures is { result ≡ record {

@@ -9,7 +9,7 @@ ghost use Rattle.mud_guide.specs.inner.Parts.{AreMembers};
 ghost use Rattle.mud_guide.specs.inner.Listings.{IsListing};
 
 use crate::accounts::accounts_of;
-use crate::journey::{Journey, journeys_to};
+use crate::leg::{Leg, journeys_to};
 use mud_cert::Member;
 use mud_roads::Traveller;
 use mud_search::{Labels, last_share};
@@ -20,7 +20,7 @@ use std::thread::{Threads, join};
 /// How the members of a party go, and what is claimed of each.
 #[derive(Drop)]
 pub(crate) struct Listing {
-    pub(crate) journeys: Vec<Journey>,
+    pub(crate) journeys: Vec<Leg>,
     pub(crate) accounts: Vec<Member>,
 }
 

@@ -8,7 +8,7 @@ ghost use Rattle.mud_guide.specs.Texts.{object, way_text, place_text, route_text
 ghost use Rattle.mud_guide.specs.inner.Members.{member_text};
 ghost use Rattle.mud_guide.specs.Texts.{meet_text};
 
-use crate::journey::Journey;
+use crate::leg::Leg;
 use crate::way::Way;
 use mud_cert::Meeting;
 use mud_roads::Step;
@@ -75,7 +75,7 @@ fn push_way(alloc: Global, text: &mut String, way: &Option<Way>) -> Result<(), A
 
 /// What the guide says of a route to a room: `route #0 to #2 cost 7 by #5 #6`, or `route #0 to #2
 /// no way`.
-pub(crate) fn route_text(alloc: Global, to: u32, journey: &Journey) -> Result<String, AllocError>
+pub(crate) fn route_text(alloc: Global, to: u32, journey: &Leg) -> Result<String, AllocError>
     ensures { IfOk result (λ text. string_bytes text ≡ route_text to journey.now) }
 {
     let mut text = String::new(alloc);
@@ -86,7 +86,7 @@ pub(crate) fn route_text(alloc: Global, to: u32, journey: &Journey) -> Result<St
 }
 
 // Writes the players of a party.
-fn push_players(alloc: Global, text: &mut String, journeys: &[Journey]) -> Result<(), AllocError>
+fn push_players(alloc: Global, text: &mut String, journeys: &[Leg]) -> Result<(), AllocError>
     ensures { OnOk result (string_bytes text.new ≡ string_bytes text.old
         ++ flat_map (λ j. codes " " ++ object j.player) journeys.now) }
 {
@@ -97,7 +97,7 @@ fn push_players(alloc: Global, text: &mut String, journeys: &[Journey]) -> Resul
 }
 
 // Writes the line of a member.
-fn push_member(alloc: Global, text: &mut String, journey: &Journey) -> Result<(), AllocError>
+fn push_member(alloc: Global, text: &mut String, journey: &Leg) -> Result<(), AllocError>
     ensures { OnOk result (string_bytes text.new ≡ string_bytes text.old ++ member_text journey.now) }
 {
     push_object(alloc, text, "\n  ", journey.player)?;
@@ -106,7 +106,7 @@ fn push_member(alloc: Global, text: &mut String, journey: &Journey) -> Result<()
 }
 
 // Writes a line for each member.
-fn push_members(alloc: Global, text: &mut String, journeys: &[Journey]) -> Result<(), AllocError>
+fn push_members(alloc: Global, text: &mut String, journeys: &[Leg]) -> Result<(), AllocError>
     ensures { OnOk result (string_bytes text.new ≡ string_bytes text.old ++ flat_map member_text journeys.now) }
 {
     for journey in journeys {
@@ -120,7 +120,7 @@ fn push_place(
     alloc: Global,
     text: &mut String,
     place: Meeting,
-    journeys: &[Journey],
+    journeys: &[Leg],
 ) -> Result<(), AllocError>
     ensures { OnOk result (string_bytes text.new ≡ string_bytes text.old ++ place_text (Some place) journeys.now) }
 {
@@ -136,7 +136,7 @@ fn push_place(
 pub(crate) fn meet_text(
     alloc: Global,
     place: Option<Meeting>,
-    journeys: &[Journey],
+    journeys: &[Leg],
 ) -> Result<String, AllocError>
     ensures { IfOk result (λ text. string_bytes text ≡ meet_text place journeys.now) }
 {

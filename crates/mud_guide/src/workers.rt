@@ -3,8 +3,10 @@
 ghost use Rattle.std.specs.Prelude.{◌≡◌, ◌≢◌, ◌≤◌, All, AllPairs, IfOk, IsTrue, length};
 ghost use Rattle.std.specs.Thread.{IsSync};
 ghost use Rattle.mud_world.specs.State.{is_player, is_room};
+ghost use Rattle.mud_chron.specs.declared.limits.TheConstants.{MOST_ENTRIES};
 ghost use Rattle.mud_guide.specs.Answers.{IsRouteAnswer, IsMeetAnswer};
 ghost use Rattle.mud_guide.specs.inner.Parts.{AreTravellers};
+ghost use Rattle.mud_world.specs.declared.limits.TheConstants.{MOST_PARTY};
 
 use crate::answer::Answer;
 use crate::ask::{meet_from, route_from, travellers_of};
@@ -32,7 +34,7 @@ pub fn route<R: Threads + Wait + Sync, G: Gate + Sync>(
 ) -> Result<Answer, AllocError>
     requires player { IsTrue (is_player world.now player) }
     requires room { IsTrue (is_room world.now room) }
-    requires version { version ≤ 65536 }
+    requires version { version ≤ MOST_ENTRIES }
     ensures { IfOk result (IsRouteAnswer world.now version player room) }
 {
     let traveller = Traveller::of(alloc, world, player)?;
@@ -55,8 +57,8 @@ pub fn meet<R: Threads + Wait + Sync, G: Gate + Sync>(
     requires players { All (λ p. IsTrue (is_player world.now p)) party.now }
     requires distinct { AllPairs (λ p q. p ≢ q) party.now }
     requires two { 2 ≤ length party.now }
-    requires few { length party.now ≤ 8 }
-    requires version { version ≤ 65536 }
+    requires few { length party.now ≤ MOST_PARTY }
+    requires version { version ≤ MOST_ENTRIES }
     ensures { IfOk result (IsMeetAnswer world.now version party.now) }
 {
     let travellers = party_with(rt, alloc, world, party, workers)?;

@@ -7,6 +7,8 @@ use Rattle.std.proofs.lemmas.List.Elements.{All-from_recursion}
 use Rattle.std.proofs.Math.Seq.{take-append_seam}
 use mathlib.Core.List.{IsPrefix}
 use Rattle.mud_world.specs.State.{State}
+use Rattle.mud_chron.specs.declared.codes.TheConstants.{CR}
+use Rattle.mud_chron.specs.declared.limits.TheConstants.{MOST_ENTRIES}
 use Rattle.mud_chron.specs.Entry.{Entry}
 use Rattle.mud_chron.specs.History.{SpellsHistory}
 use Rattle.mud_chron.specs.Laws.{IsWrittenAgain, HasNoReturns}
@@ -43,7 +45,7 @@ first_stay f later on = ap (λ (x : List Entry). take (length f) x) (sym on.1) �
 longer : (f later : List Entry) → IsPrefix f later → length f ≤ length later
 longer f later on = omega (arith, ap length on.1, length-append f on.0)
 
-accepted : Below → (f g : List Entry) (c : Certificate) → IsPrefix f g → AreLoadable 65536 g
+accepted : Below → (f g : List Entry) (c : Certificate) → IsPrefix f g → AreLoadable MOST_ENTRIES g
     → IsGood (world_after f) (length f) c → IsAcceptedWith g c
 accepted below f g c on are good =
     let same : take c.version g ≡ f = ap (λ (n : ℕ). take n g) good.version ∙ first_stay f g on in
@@ -55,7 +57,7 @@ accepted below f g c on are good =
           let history : IsHistory (without_returns text) g = record {
             spells = subst (λ (t : List ℕ). SpellsHistory t g)
                 (sym (below.drops_nothing text
-                (All-from_recursion (λ b. b ≢ 13) text (below.no_returns text g spells)))) spells;
+                (All-from_recursion (λ b. b ≢ CR) text (below.no_returns text g spells)))) spells;
             legal = are.legal;
           } in (
             g,

@@ -12,7 +12,7 @@ use Rattle.mud_chron.specs.Entry.{Entry}
 use Rattle.mud_hall.specs.declared.fault.CloseFault.{CloseFault}
 use Rattle.mud_hall.specs.declared.fault.CloseFault.TheVariants.{OutOfMemory, SameNumber, Missing, Mismatch}
 use Rattle.mud_hall.specs.Desk.{View}
-use Rattle.mud_hall.specs.Settling.{made, HasNumber, AreApart, HaveSameNumber, IsGathered, IsCloseFault}
+use Rattle.mud_hall.specs.Settling.{entries_made, HasNumber, AreApart, HaveSameNumber, IsGathered, IsCloseFault}
 use Rattle.mud_hall.specs.inner.Checking.{lesser_of, IsLeast, IsUnnamed, IsCheckFault}
 use Rattle.mud_hall.proofs.Least.{least_same, least_either, lesser_none, front, last, at_or_last}
 use Rattle.mud_hall.proofs.Least.{any_at, place, any_later, any_last}
@@ -188,7 +188,7 @@ gathered_more loaded ds d h more old is on mine =
 
 -- what a look at the desks found is a fault of the settlement of what was gathered
 pub fault_of : (loaded : List Entry) (desks : List View) (history : List Entry) (f : CloseFault)
-    → IsGathered loaded desks history → IsCheckFault desks (length loaded + 1) (made loaded history) f
+    → IsGathered loaded desks history → IsCheckFault desks (length loaded + 1) (entries_made loaded history) f
     → IsCloseFault loaded desks f
 fault_of loaded desks history OutOfMemory whole found = tt
 fault_of loaded desks history (SameNumber n) whole found = found

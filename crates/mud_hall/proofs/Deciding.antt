@@ -14,7 +14,7 @@ use Rattle.mud_hall.specs.Desk.{DeskState}
 use Rattle.mud_hall.specs.declared.reply.Reply.{Reply as Returned}
 use Rattle.mud_hall.specs.declared.fault.Fault.{Fault}
 use Rattle.mud_hall.specs.declared.fault.Fault.TheVariants.{OutOfMemory}
-use Rattle.mud_hall.specs.Replies.{Failed, shown, Replies, Acts, verdict_on}
+use Rattle.mud_hall.specs.Replies.{Failed, reply_shown, Replies, Acts, verdict_on}
 use Rattle.mud_hall.specs.inner.Desks.{took_in}
 use Rattle.mud_hall.proofs.Notices.{state_eq}
 use Rattle.mud_hall.proofs.Coming.{comes_memory}
@@ -37,14 +37,14 @@ lawful w h p player r world seat is =
 -- ---- where memory is refused for what a line says, the desk stays
 
 pub replies-refused : (capacity : ℕ) (s : DeskState) (line : Line) (r : Result Returned Fault)
-    → IsErrAnd r (λ f. f ≡ OutOfMemory) → Replies capacity s line (shown r) s
+    → IsErrAnd r (λ f. f ≡ OutOfMemory) → Replies capacity s line (reply_shown r) s
 replies-refused capacity s line (Ok r) is = absurd is
 replies-refused capacity s line (Err f) is =
     let P : Fault → Type 0 = λ e. Replies capacity s line (Failed e) s in
     subst P (sym is) (comes_memory capacity s (verdict_on s.seen s.player line) s refl)
 
 pub acts-refused : (capacity : ℕ) (s : DeskState) (line : Line) (r : Result Returned Fault)
-    → IsErrAnd r (λ f. f ≡ OutOfMemory) → Acts capacity s line (shown r) s
+    → IsErrAnd r (λ f. f ≡ OutOfMemory) → Acts capacity s line (reply_shown r) s
 acts-refused capacity s line r is = record {
   ready = s;
   takes_in = record {

@@ -3,7 +3,7 @@ use Rattle.std.proofs.Common.{◌≡◌, ℕ, List, [], ◌∷◌, length, Optio
 use Rattle.std.specs.Prelude.{string_bytes}
 use Rattle.std.specs.Option.{IsSomeAnd, option_map}
 use mathlib.Core.List.{IsPrefix}
-use Rattle.mud_words.specs.Parse.{parsed}
+use Rattle.mud_words.specs.Parse.{parse_of}
 use Rattle.mud_world.specs.State.{State}
 use Rattle.mud_roads.specs.Laws.{MeetingIsAlike}
 use Rattle.mud_rules.specs.declared.verdict.Journey.{Journey}
@@ -29,7 +29,7 @@ use Rattle.mud_hall.specs.Laws.{IsRight}
 use Rattle.mud_hall.proofs.Keeping.{IsDesk, Keeps, begun_kept, run_kept}
 use Rattle.mud_hall.proofs.Journeys.{route-told, meeting-told}
 use Rattle.mud_hall.proofs.Certified.{Below, IsGood, certified}
-use Rattle.mud_hall.specs.Steps.{At, Step, Begins, IsRun, Hall, Ask, Makes}
+use Rattle.mud_hall.specs.Steps.{At, HallStep, Begins, IsRun, Hall, Ask, Makes}
 
 some-inj : {A : Type 0} (x y : A) → Some x ≡ Some y → x ≡ y
 some-inj x y e = cc
@@ -98,18 +98,18 @@ right below known f None (verdict.Refused r) a version h = tt
 
 pub guide_is_right : Below → Known → (capacity : ℕ) (loaded : List Entry) (begin : Hall)
     → Begins capacity loaded begin
-    → (steps : List Step) (hall : Hall) → IsRun capacity loaded begin steps hall
+    → (steps : List HallStep) (hall : Hall) → IsRun capacity loaded begin steps hall
     → (s : ℕ) (line : List ℕ) (a : Answered) (next : Hall)
     → Makes capacity loaded hall (At s (Ask line (Some a))) next
     → (d : DeskState) → hall.desks s ≡ Some d
-    → IsPrefix d.seen hall.history × IsRight d.seen d.player (verdict_on d.seen d.player (parsed line)) a
+    → IsPrefix d.seen hall.history × IsRight d.seen d.player (verdict_on d.seen d.player (parse_of line)) a
 guide_is_right below known capacity loaded begin begins steps hall run s line a next (was, is, turns, same, asks) d at =
     let first : Keeps capacity begin hall =
     run_kept capacity loaded begin steps hall (begun_kept capacity loaded begin begins) run in
     let desk : was ≡ d = some-inj was d (sym turns.before ∙ at) in
     let mine : IsDesk hall.history s d = first.kept.desks s d at in
-    let answer : Answers d (parsed line) a = subst (λ (x : DeskState). Answers x (parsed line) a) desk asks.0 in (
+    let answer : Answers d (parse_of line) a = subst (λ (x : DeskState). Answers x (parse_of line) a) desk asks.0 in (
       mine.known,
       right below known d.seen d.player
-          (verdict_on d.seen d.player (parsed line)) a answer.version answer.shows,
+          (verdict_on d.seen d.player (parse_of line)) a answer.version answer.shows,
     )

@@ -15,7 +15,7 @@ use Rattle.mud_cert.specs.declared.cert.Conclusion.TheVariants.{Route, Meet}
 use Rattle.mud_cert.specs.declared.cert.Meeting.{Meeting}
 use Rattle.mud_guide.specs.declared.answer.Answer.{Answer}
 use Rattle.mud_guide.specs.Accounts.{IsAccountOf}
-use Rattle.mud_guide.specs.Journeys.{Journey, IsJourney, goers_of}
+use Rattle.mud_guide.specs.Legs.{Leg, IsJourney, goers_of}
 use Rattle.mud_cert.specs.Valid.{IsPlace}
 use Rattle.mud_guide.specs.Ways.{cost_of, IsWayTo}
 use Rattle.mud_guide.specs.Answers.{IsCertOf, IsRouteAnswer, IsMeetAnswer}
@@ -41,11 +41,11 @@ best-way routes w p from (Some to) (Some ss) route =
           omega (arith, fewer, ones ss, ones ts);
     }
 
-goes-best : RouteIsLeast → (w : State) (to : Option ℕ) (p : ℕ) (j : Journey) → IsJourney w to p j → GoesBest w to p j
+goes-best : RouteIsLeast → (w : State) (to : Option ℕ) (p : ℕ) (j : Leg) → IsJourney w to p j → GoesBest w to p j
 goes-best routes w to p j goes =
     record { who = goes.player; place = goes.from; way = best-way routes w p j.from to j.way goes.way }
 
-all-go-best : RouteIsLeast → (w : State) (to : Option ℕ) (party : List ℕ) (js : List Journey)
+all-go-best : RouteIsLeast → (w : State) (to : Option ℕ) (party : List ℕ) (js : List Leg)
     → AllZip (IsJourney w to) party js → AllZip (GoesBest w to) party js
 all-go-best routes w to [] [] z = tt
 all-go-best routes w to [] (j ∷ js) z = absurd z
@@ -54,7 +54,7 @@ all-go-best routes w to (p ∷ ps) (j ∷ js) z =
     (goes-best routes w to p j z.0, all-go-best routes w to ps js z.1)
 
 -- the certificate of journeys is of those who go so
-members-for : (w : State) (js : List Journey) (members : List Account) → AllZip (IsAccountOf w) js members
+members-for : (w : State) (js : List Leg) (members : List Account) → AllZip (IsAccountOf w) js members
     → AllZip IsMemberFor js members
 members-for w [] [] z = tt
 members-for w [] (a ∷ members) z = absurd z
@@ -62,7 +62,7 @@ members-for w (j ∷ js) [] z = absurd z
 members-for w (j ∷ js) (a ∷ members) z =
     (record { who = z.0.player; from = z.0.from; walk = z.0.walk }, members-for w js members z.1)
 
-certifies-some : (w : State) (v : ℕ) (js : List Journey) (says : Conclusion) (o : Option Certificate)
+certifies-some : (w : State) (v : ℕ) (js : List Leg) (says : Conclusion) (o : Option Certificate)
     → IsSomeAnd o (IsCertOf w v js says) → IsSomeAnd o (Certifies js says)
 certifies-some w v js says None is = absurd is
 certifies-some w v js says (Some c) is =

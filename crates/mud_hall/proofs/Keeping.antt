@@ -10,17 +10,18 @@ use Rattle.mud_world.specs.Legal.{refusal, after}
 use Rattle.mud_world.specs.History.{world_from}
 use Rattle.mud_world.specs.Opening.{opening_state}
 use Rattle.mud_world.specs.declared.change.Change.{Change}
+use Rattle.mud_chron.specs.declared.limits.TheConstants.{MOST_DESKS}
 use Rattle.mud_chron.specs.Entry.{Entry, IsEntry}
 use Rattle.mud_chron.specs.Replay.{changes_of, AreLegalFrom, AreLegal}
 use Rattle.mud_chron.proofs.Spellable.{legal_is_spellable}
-use Rattle.mud_words.specs.Parse.{parsed}
+use Rattle.mud_words.specs.Parse.{parse_of}
 use Rattle.mud_hall.specs.Told.{world_after}
 use Rattle.mud_hall.specs.Desk.{DeskState}
 use Rattle.mud_hall.specs.Replies.{Reply, Accepted, Became, Refused, Question, Failed}
 use Rattle.mud_hall.specs.Replies.{Replies, verdict_on}
 use Rattle.mud_hall.specs.Steps.{See, Act, Ask, Guest, Told}
-use Rattle.mud_hall.specs.Steps.{Hall, AreLoadable, opened, lone_desk, opened_alone, Begins, Turns, Grows}
-use Rattle.mud_hall.specs.Steps.{Step, Desk, Learn, At, Makes, IsRun}
+use Rattle.mud_hall.specs.Steps.{Hall, AreLoadable, hall_begun, lone_desk, opened_alone, Begins, Turns, Grows}
+use Rattle.mud_hall.specs.Steps.{HallStep, Desk, Learn, At, Makes, IsRun}
 use Rattle.mud_world.proofs.Worlds.{stepped-legal}
 use Rattle.mud_rules.specs.Laws.{IsMade}
 use Rattle.mud_rules.proofs.Decided.{are_made}
@@ -31,7 +32,7 @@ use Rattle.mud_hall.proofs.Coming.{WasChange, accepted_is, stored_number, same_n
 -- a desk of a hall with this history
 pub record IsDesk (h : List Entry) (s : ℕ) (d : DeskState) : Type 0 where
   pub from : 1 ≤ s
-  pub to : s ≤ 64
+  pub to : s ≤ MOST_DESKS
   pub number : d.number ≡ s
   pub known : IsPrefix d.seen h
 
@@ -182,7 +183,7 @@ accepts capacity old new s n was is e kept turns mine number made room grown =
 -- what is stored is the change that was accepted
 stored : (capacity : ℕ) (old new : Hall) (s v : ℕ) (text line : List ℕ) (was ready is : DeskState)
     → IsKept capacity old → Turns old s was is new
-    → ready.number ≡ was.number → WasChange capacity ready (parsed line) (Accepted v text) is
+    → ready.number ≡ was.number → WasChange capacity ready (parse_of line) (Accepted v text) is
     → Grows (Act line (Accepted v text)) old.history is new.history → Keeps capacity old new
 stored capacity old new s v text line was ready is kept turns number c grows =
     let e = c.change in
@@ -192,7 +193,7 @@ stored capacity old new s v text line was ready is kept turns number c grows =
     let grown : new.history ≡ ready.seen ++ entry ∷ [] = sym grows.2 ∙ mine in
     let whole : ready.seen ≡ old.history = last-one ready.seen old.history entry grows.0 (sym grown ∙ grows.1) in
     let made : IsMade (world_after ready.seen) e =
-    are_made (world_after ready.seen) (world-sound ready.seen) ready.player (parsed line) e c.decides in
+    are_made (world_after ready.seen) (world-sound ready.seen) ready.player (parse_of line) e c.decides in
     let good : IsDesk old.history s was = kept.desks s was turns.before in
     accepts capacity old new s n was is e kept turns (number ∙ good.number)
     (stored_number capacity ready e (Accepted v text) is c.stores ∙ number)
@@ -204,18 +205,18 @@ stored capacity old new s v text line was ready is kept turns number c grows =
 replies : (capacity : ℕ) (old new : Hall) (s : ℕ) (line : List ℕ) (was ready is : DeskState) (reply : Reply)
     → IsKept capacity old
     → Turns old s was is new → ready.number ≡ was.number → Grows (Act line reply) old.history is new.history
-    → Replies capacity ready (parsed line) reply is → Keeps capacity old new
+    → Replies capacity ready (parse_of line) reply is → Keeps capacity old new
 replies capacity old new s line was ready is reply kept turns number grows r =
     let mine : is.number ≡ was.number =
-    same_number capacity ready (verdict_on ready.seen ready.player (parsed line)) reply is r ∙ number in
+    same_number capacity ready (verdict_on ready.seen ready.player (parse_of line)) reply is r ∙ number in
     go reply grows r mine
   where
     go : (reply : Reply) → Grows (Act line reply) old.history is new.history
-        → Replies capacity ready (parsed line) reply is
+        → Replies capacity ready (parse_of line) reply is
         → is.number ≡ was.number → Keeps capacity old new
     go (Accepted v text) grows r mine =
         stored capacity old new s v text line was ready is kept turns number
-        (accepted_is capacity ready (parsed line) v text is r) grows
+        (accepted_is capacity ready (parse_of line) v text is r) grows
     go (Became v text) grows r mine = rests capacity old new s was is kept turns mine grows
     go (Refused v f text) grows r mine = rests capacity old new s was is kept turns mine grows
     go (Question v) grows r mine = rests capacity old new s was is kept turns mine grows
@@ -242,7 +243,7 @@ gives capacity loaded old new s kept (is, fresh, number, next, known, after) =
         })
     go t d (inr there) = kept.desks t d there
 
-pub makes_kept : (capacity : ℕ) (loaded : List Entry) (old : Hall) (step : Step) (new : Hall) → IsKept capacity old
+pub makes_kept : (capacity : ℕ) (loaded : List Entry) (old : Hall) (step : HallStep) (new : Hall) → IsKept capacity old
     → Makes capacity loaded old step new → Keeps capacity old new
 makes_kept capacity loaded old (Desk s) new kept m = gives capacity loaded old new s kept m
 makes_kept capacity loaded old (Learn s t) new kept (was, is, other, turns, same, at, l) =
@@ -261,8 +262,8 @@ makes_kept capacity loaded old (At s Guest) new kept (was, is, turns, same, beco
 makes_kept capacity loaded old (At s (Told lines)) new kept (was, is, turns, same, hands) =
     rests capacity old new s was is kept turns (ap (λ (d : DeskState). d.number) hands.is) same
 
-pub run_kept : (capacity : ℕ) (loaded : List Entry) (old : Hall) (steps : List Step) (new : Hall) → IsKept capacity old
-    → IsRun capacity loaded old steps new → Keeps capacity old new
+pub run_kept : (capacity : ℕ) (loaded : List Entry) (old : Hall) (steps : List HallStep) (new : Hall)
+    → IsKept capacity old → IsRun capacity loaded old steps new → Keeps capacity old new
 run_kept capacity loaded old [] new kept same = record {
   kept = subst (IsKept capacity) same kept;
   on = goes-same old.history new.history (ap (λ (h : Hall). h.history) (sym same));
@@ -275,7 +276,7 @@ run_kept capacity loaded old (step ∷ steps) new kept (hall, made, run) =
 no-desk : (h : List Entry) (s : ℕ) (d : DeskState) → None ≡ Some d → IsDesk h s d
 no-desk h s d none = let bad : ◌≡◌ {A = Option DeskState} None (Some d) = none in absurd (cc)
 
-opened_kept : (capacity : ℕ) (loaded : List Entry) → AreLoadable capacity loaded → IsKept capacity (opened loaded)
+opened_kept : (capacity : ℕ) (loaded : List Entry) → AreLoadable capacity loaded → IsKept capacity (hall_begun loaded)
 opened_kept capacity loaded are = record {
   each = are.each;
   legal = are.legal;

@@ -10,8 +10,9 @@ use Rattle.std.proofs.StringFromBytes.{spelled}
 use Rattle.std.proofs.lemmas.List.Elements.{All-nil, All-cons}
 use Rattle.std.proofs.lemmas.List.Kept.{AllPairs-cons}
 use Rattle.mud_words.specs.Words.{words}
-use Rattle.mud_words.specs.Prepositions.{phrase_at, counted}
-use Rattle.mud_words.specs.Parse.{parsed}
+use Rattle.mud_words.specs.Prepositions.{phrase_at, preposition_of}
+use Rattle.mud_words.specs.Parse.{parse_of}
+use Rattle.mud_key.specs.declared.limits.TheConstants.{LAST_NUMBER}
 use Rattle.mud_key.specs.Reading.{names_in, name_in}
 use Rattle.mud_world.specs.State.{State, is_player, is_room, place_of}
 use Rattle.mud_world.specs.Legal.{refusal}
@@ -28,6 +29,7 @@ use Rattle.mud_rules.specs.declared.verdict.Journey.TheVariants.{Route, Meet}
 use Rattle.mud_rules.specs.declared.verdict.Query.TheVariants as query
 use Rattle.mud_rules.specs.declared.verdict.Verdict.{Verdict}
 use Rattle.mud_rules.specs.declared.verdict.Verdict.TheVariants as verdict
+use Rattle.mud_chron.specs.declared.limits.TheConstants.{MOST_DESKS}
 use Rattle.mud_chron.specs.Entry.{Entry}
 use Rattle.mud_cert.specs.Certificate.{Account, Certificate, IsNumber, IsAmount, IsAccount, CountsBy}
 use Rattle.mud_cert.specs.declared.cert.Form.TheVariants.{Two}
@@ -37,15 +39,15 @@ use Rattle.mud_cert.specs.Lookup.{label_at}
 use Rattle.mud_cert.specs.Valid.{States, IsMember, GoesTo, IsValid}
 use Rattle.mud_cert.proofs.Finds.{contains-nil}
 use Rattle.mud_guide.specs.declared.answer.Answer.{Answer}
-use Rattle.mud_guide.specs.Journeys.{Journey, IsJourney}
+use Rattle.mud_guide.specs.Legs.{Leg, IsJourney}
 use Rattle.mud_guide.specs.Accounts.{IsAccountOf}
 use Rattle.mud_guide.specs.Answers.{IsRouteAnswer, IsMeetAnswer}
 use Rattle.mud_hall.specs.Told.{world_after}
 use Rattle.mud_hall.specs.Desk.{DeskState, new_desk, as_player, as_accepted, HandsOut, with_told}
 use Rattle.mud_hall.specs.inner.Desks.{took_in}
 use Rattle.mud_hall.specs.Replies.{Accepted, Became, verdict_on, Comes, Acts}
-use Rattle.mud_hall.specs.Answers.{answered, Shows, Answers}
-use Rattle.mud_hall.specs.Steps.{See, Act, Ask, Told, Hall, opened, seats, Step, Desk, At, Makes, IsRun}
+use Rattle.mud_hall.specs.Answers.{answer_shown, Shows, Answers}
+use Rattle.mud_hall.specs.Steps.{See, Act, Ask, Told, Hall, hall_begun, seats, HallStep, Desk, At, Makes, IsRun}
 
 -- ---- a player in a world without roads
 
@@ -55,9 +57,9 @@ record IsStill (w : State) (p : ℕ) : Type 0 where
   place : place_of w p ≡ Some 0
   room : IsTrue (is_room w 0)
   roads : (from : ℕ) → roads_of w p from ≡ []
-  number : p ≤ 8191
+  number : p ≤ LAST_NUMBER
 
-abbrev journey : ℕ → Journey
+abbrev journey : ℕ → Leg
 journey p = record { player = p; from = 0; way = Some [] }
 
 abbrev labels : List (ℕ × Label)
@@ -135,7 +137,7 @@ is-member w p still = record {
   walk = inr (0, [], stated w p still, refl);
 }
 
-is-limited : (p : ℕ) → p ≤ 8191 → IsAccount (account p)
+is-limited : (p : ℕ) → p ≤ LAST_NUMBER → IsAccount (account p)
 is-limited p small = record {
   player = small;
   from = omega arith;
@@ -304,21 +306,21 @@ meet-is heap =
 
 -- ---- what the lines come to
 
-wizard-comes : verdict_on [] None (parsed (codes "connect wizard")) ≡ verdict.Become 1
-unfolding digits words phrase_at counted parsed verb_named decision name_in names_in
+wizard-comes : verdict_on [] None (parse_of (codes "connect wizard")) ≡ verdict.Become 1
+unfolding digits words phrase_at preposition_of parse_of verb_named decision name_in names_in
 wizard-comes = refl
 
-asks-route : verdict_on [] (Some 1) (parsed (codes "route to #0")) ≡ verdict.Ask (query.Journey (Route 0))
-unfolding digits words phrase_at counted parsed verb_named decision name_in names_in
+asks-route : verdict_on [] (Some 1) (parse_of (codes "route to #0")) ≡ verdict.Ask (query.Journey (Route 0))
+unfolding digits words phrase_at preposition_of parse_of verb_named decision name_in names_in
 asks-route = refl
 
-ann-comes : verdict_on [] None (parsed (codes "connect Ann")) ≡ verdict.Change ann.change
-unfolding digits words phrase_at counted parsed verb_named decision name_in names_in outcome refusal
+ann-comes : verdict_on [] None (parse_of (codes "connect Ann")) ≡ verdict.Change ann.change
+unfolding digits words phrase_at preposition_of parse_of verb_named decision name_in names_in outcome refusal
 ann-comes = refl
 
-asks-meeting : verdict_on (ann ∷ []) (Some 1) (parsed (codes "meet #1, #2"))
+asks-meeting : verdict_on (ann ∷ []) (Some 1) (parse_of (codes "meet #1, #2"))
     ≡ verdict.Ask (query.Journey (Meet (1 ∷ 2 ∷ [])))
-unfolding digits words phrase_at counted parsed verb_named decision name_in names_in meeting refusal
+unfolding digits words phrase_at preposition_of parse_of verb_named decision name_in names_in meeting refusal
 asks-meeting = refl
 
 -- ---- the desks and the halls
@@ -333,7 +335,7 @@ abbrev hearing : DeskState
 hearing = took_in wizard (ann ∷ [])
 
 abbrev hall1 : Hall
-hall1 = record (seats (opened []) [] 1 (new_desk 1 [])) { given = 1 }
+hall1 = record (seats (hall_begun []) [] 1 (new_desk 1 [])) { given = 1 }
 
 abbrev hall2 : Hall
 hall2 = seats hall1 [] 1 wizard
@@ -358,7 +360,7 @@ hall8 = seats hall7 (ann ∷ []) 1 (with_told hearing [])
 
 -- ---- what is called
 
-sits : Acts 16 (new_desk 1 []) (parsed (codes "connect wizard")) (Became 0 (codes "welcome #1")) wizard
+sits : Acts 16 (new_desk 1 []) (parse_of (codes "connect wizard")) (Became 0 (codes "welcome #1")) wizard
 unfolding digits
 sits = record {
   ready = new_desk 1 [];
@@ -367,7 +369,7 @@ sits = record {
       (sym wizard-comes) (refl, refl);
 }
 
-comes : Acts 16 (new_desk 2 []) (parsed (codes "connect Ann")) (Accepted 1 (codes "welcome #2")) newcomer
+comes : Acts 16 (new_desk 2 []) (parse_of (codes "connect Ann")) (Accepted 1 (codes "welcome #2")) newcomer
 unfolding digits
 comes = record {
   ready = new_desk 2 [];
@@ -376,18 +378,18 @@ comes = record {
       (sym ann-comes) (omega arith, refl, refl, refl);
 }
 
-answers-route : (heap : Global) → Answers wizard (parsed (codes "route to #0")) (answered (route-answer heap))
+answers-route : (heap : Global) → Answers wizard (parse_of (codes "route to #0")) (answer_shown (route-answer heap))
 answers-route heap = record {
   version = refl;
-  shows = subst (λ (v : Verdict). Shows [] (Some 1) v (answered (route-answer heap))) (sym asks-route)
+  shows = subst (λ (v : Verdict). Shows [] (Some 1) v (answer_shown (route-answer heap))) (sym asks-route)
       (route-answer heap, route-is heap, refl);
 }
 
 answers-meeting : (heap : Global)
-    → Answers (with_told hearing []) (parsed (codes "meet #1, #2")) (answered (meet-answer heap))
+    → Answers (with_told hearing []) (parse_of (codes "meet #1, #2")) (answer_shown (meet-answer heap))
 answers-meeting heap = record {
   version = refl;
-  shows = subst (λ (v : Verdict). Shows (ann ∷ []) (Some 1) v (answered (meet-answer heap))) (sym asks-meeting)
+  shows = subst (λ (v : Verdict). Shows (ann ∷ []) (Some 1) v (answer_shown (meet-answer heap))) (sym asks-meeting)
       (meet-answer heap, meet-is heap, refl);
 }
 
@@ -400,19 +402,19 @@ told = record { told = refl; is = refl }
 
 -- ---- the run
 
-abbrev steps : Global → List Step
+abbrev steps : Global → List HallStep
 steps heap =
     Desk 1
     ∷ At 1 (Act (codes "connect wizard") (Became 0 (codes "welcome #1")))
-    ∷ At 1 (Ask (codes "route to #0") (Some (answered (route-answer heap))))
+    ∷ At 1 (Ask (codes "route to #0") (Some (answer_shown (route-answer heap))))
     ∷ Desk 2
     ∷ At 2 (Act (codes "connect Ann") (Accepted 1 (codes "welcome #2")))
     ∷ At 1 See
     ∷ At 1 (Told (line ∷ []))
-    ∷ At 1 (Ask (codes "meet #1, #2") (Some (answered (meet-answer heap))))
+    ∷ At 1 (Ask (codes "meet #1, #2") (Some (answer_shown (meet-answer heap))))
     ∷ []
 
-given : (old : Hall) (s : ℕ) → 1 ≤ s → s ≤ 64 → s ≡ old.given + 1
+given : (old : Hall) (s : ℕ) → 1 ≤ s → s ≤ MOST_DESKS → s ≡ old.given + 1
     → Makes 16 [] old (Desk s) (record (seats old old.history s (new_desk s [])) { given = s })
 given old s from to next = (
   new_desk s [],
@@ -423,10 +425,10 @@ given old s from to next = (
   refl,
 )
 
-pub sample : (heap : Global) → IsRun 16 [] (opened []) (steps heap) hall8
+pub sample : (heap : Global) → IsRun 16 [] (hall_begun []) (steps heap) hall8
 sample heap = (
   hall1,
-  given (opened []) 1 (omega arith) (omega arith) refl,
+  given (hall_begun []) 1 (omega arith) (omega arith) refl,
   (
     hall2,
     (new_desk 1 [], wizard, record { before = refl; known = ([], refl); after = refl }, refl, sits),

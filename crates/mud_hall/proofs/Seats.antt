@@ -7,7 +7,7 @@ use Rattle.mud_world.specs.State.{State, is_player}
 use Rattle.mud_world.specs.Sound.{IsSound}
 use Rattle.mud_world.specs.Legal.{refusal}
 use Rattle.mud_world.specs.History.{world_from, world_of}
-use Rattle.mud_world.specs.inner.Parts.{stepped}
+use Rattle.mud_world.specs.inner.Parts.{step_or_same}
 use Rattle.mud_world.specs.Opening.{opening_state}
 use Rattle.mud_world.specs.declared.change.Change.{Change}
 use Rattle.mud_world.specs.declared.refusal.Refusal.{Refusal}
@@ -21,32 +21,32 @@ use Rattle.mud_row.specs.Known.{Standing}
 use Rattle.mud_hall.specs.Desk.{IsHeld}
 use Rattle.mud_hall.specs.inner.Desks.{IsSeated}
 
-step-sound : (w : State) (e : Change) (o : Option Refusal) → refusal w e ≡ o → IsSound w → IsSound (stepped w e)
+step-sound : (w : State) (e : Change) (o : Option Refusal) → refusal w e ≡ o → IsSound w → IsSound (step_or_same w e)
 step-sound w e None is sound = rw is (soundness_law w e sound is)
 step-sound w e (Some f) is sound = rw is sound
 
 from-sound : (w : State) (es : List Change) → IsSound w → IsSound (world_from w es)
 from-sound w [] sound = sound
-from-sound w (e ∷ es) sound = from-sound (stepped w e) es (step-sound w e (refusal w e) refl sound)
+from-sound w (e ∷ es) sound = from-sound (step_or_same w e) es (step-sound w e (refusal w e) refl sound)
 
 -- the world after a history is sound
 pub world-sound : (h : List Entry) → IsSound (world_after h)
 world-sound h = from-sound opening_state (changes_of h) opening-sound
 
 step-stays : (w : State) (e : Change) (p : ℕ) (o : Option Refusal) → refusal w e ≡ o → IsSound w
-    → IsTrue (is_player w p) → IsTrue (is_player (stepped w e) p)
+    → IsTrue (is_player w p) → IsTrue (is_player (step_or_same w e) p)
 step-stays w e p None is sound player = rw is (players_stay w e sound is p player)
 step-stays w e p (Some f) is sound player = rw is player
 
 from-stays : (w : State) (es : List Change) (p : ℕ) → IsSound w → IsTrue (is_player w p)
     → IsTrue (is_player (world_from w es) p)
 from-stays w [] p sound player = player
-from-stays w (e ∷ es) p sound player = from-stays (stepped w e) es p (step-sound w e (refusal w e) refl sound)
+from-stays w (e ∷ es) p sound player = from-stays (step_or_same w e) es p (step-sound w e (refusal w e) refl sound)
     (step-stays w e p (refusal w e) refl sound player)
 
 from-append : (w : State) (cs ds : List Change) → world_from w (cs ++ ds) ≡ world_from (world_from w cs) ds
 from-append w [] ds = refl
-from-append w (c ∷ cs) ds = from-append (stepped w c) cs ds
+from-append w (c ∷ cs) ds = from-append (step_or_same w c) cs ds
 
 pub after-append : (h es : List Entry) → world_after (h ++ es) ≡ world_from (world_after h) (changes_of es)
 after-append h es = ap world_of (map-append (λ (e : Entry). e.change) h es)

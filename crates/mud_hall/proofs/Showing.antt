@@ -7,13 +7,13 @@ use Rattle.mud_rules.specs.declared.verdict.Query.TheVariants as query
 use Rattle.mud_rules.specs.declared.verdict.Verdict.TheVariants.{Ask}
 use Rattle.mud_guide.specs.declared.answer.Answer.{Answer}
 use Rattle.mud_hall.specs.inner.Desks.{IsResponse}
-use Rattle.mud_hall.specs.Answers.{answered, IsGuided, IsProven, IsShown}
+use Rattle.mud_hall.specs.Answers.{answer_shown, IsGuided, IsProven, IsShown}
 
 pub guided : (w : State) (v : ℕ) (player : Option ℕ) (q : Query) (j : Journey) (a : Answer) → q ≡ query.Journey j
     → a.version ≡ v → IsGuided w v player j a → IsResponse w v player (Ask q) (Some a)
 guided w v player q j a asks version is = (
   version,
-  λ h world count. subst (λ x. IsShown h player x (answered a)) (sym asks)
+  λ h world count. subst (λ x. IsShown h player x (answer_shown a)) (sym asks)
       (a, subst (λ x. IsGuided x (length h) player j a) world (subst (λ n. IsGuided w n player j a) count is), refl),
 )
 
@@ -21,6 +21,6 @@ pub proven : (w : State) (v : ℕ) (player : Option ℕ) (q : Query) (j : Journe
     → a.version ≡ v → IsProven w v player j a → IsResponse w v player (Ask q) (Some a)
 proven w v player q j a asks version is = (
   version,
-  λ h world count. subst (λ x. IsShown h player x (answered a)) (sym asks)
+  λ h world count. subst (λ x. IsShown h player x (answer_shown a)) (sym asks)
       (subst (λ x. IsProven x (length h) player j a) world (subst (λ n. IsProven w n player j a) count is)),
 )

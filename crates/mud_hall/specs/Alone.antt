@@ -1,6 +1,7 @@
 -- A desk that nobody else uses.
 use Rattle.std.specs.Prelude.{◌≡◌, ◌≤◌, ℕ, List, length, IsTrue}
 use Rattle.mud_world.specs.State.{State, is_player}
+use Rattle.mud_chron.specs.declared.limits.TheConstants.{MOST_ENTRIES}
 use Rattle.mud_chron.specs.Entry.{Entry}
 use Rattle.mud_hall.specs.Told.{world_after}
 use Rattle.mud_hall.specs.Desk.{DeskState, new_desk, as_player}
@@ -20,5 +21,5 @@ alone capacity player h =
 pub record IsAlone (capacity player : ℕ) (w : State) (h : List Entry) : Type 0 where
   pub world : w ≡ world_after h
   pub room : length h ≤ capacity
-  pub few : capacity ≤ 65536
+  pub few : capacity ≤ MOST_ENTRIES
   pub plays : IsTrue (is_player w player)

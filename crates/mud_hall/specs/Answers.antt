@@ -30,8 +30,8 @@ pub record Answered : Type 0 where
   pub cert : Option Certificate
 
 -- what a call returned, with its text as bytes
-abbrev pub answered : Answer → Answered
-answered a = record { version = a.version; text = string_bytes a.text; cert = a.cert }
+abbrev pub answer_shown : Answer → Answered
+answer_shown a = record { version = a.version; text = string_bytes a.text; cert = a.cert }
 
 -- the guide's answer about a journey, which only a player gets
 abbrev pub IsGuided : State → ℕ → Option ℕ → Journey → Answer → Type 0
@@ -46,17 +46,16 @@ pub record IsProof (cert : Option Certificate) (a : Answered) : Type 0 where
 
 -- the answer is the text of the certificate of the guide's answer
 abbrev pub IsProven : State → ℕ → Option ℕ → Journey → Answer → Type 0
-IsProven w v player journey a = (g : Answer) × IsGuided w v player journey g × IsProof g.cert (answered a)
+IsProven w v player journey a = (g : Answer) × IsGuided w v player journey g × IsProof g.cert (answer_shown a)
 
 -- the answer to a question; the last line of a history has no end either
 abbrev pub IsShown : List Entry → Option ℕ → Query → Answered → Type 0
 IsShown h player (query.View view) a = (a.text ≡ show_text (world_after h) player view) × (a.cert ≡ None)
 IsShown h player (query.Journey journey) a =
-    (g : Answer) × IsGuided (world_after h) (length h) player journey g × (a ≡ answered g)
+    (g : Answer) × IsGuided (world_after h) (length h) player journey g × (a ≡ answer_shown g)
 IsShown h player (query.Proof journey) a =
     (g : Answer) × IsGuided (world_after h) (length h) player journey g × IsProof g.cert a
-IsShown h player query.History a =
-    (a.text ++ codes "\n" ≡ codes "history\n" ++ history_text Two h) × (a.cert ≡ None)
+IsShown h player query.History a = (a.text ++ codes "\n" ≡ codes "history\n" ++ history_text Two h) × (a.cert ≡ None)
 
 -- the answer to a line by what it is decided to be: what asks nothing is not understood
 abbrev pub Shows : List Entry → Option ℕ → Verdict → Answered → Type 0

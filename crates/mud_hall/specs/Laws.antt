@@ -12,7 +12,7 @@ use Rattle.mud_rules.specs.declared.verdict.Verdict.TheVariants as verdict
 use Rattle.mud_chron.specs.Entry.{Entry}
 use Rattle.mud_hall.specs.Told.{world_after}
 use Rattle.mud_hall.specs.Answers.{Answered}
-use Rattle.mud_hall.specs.Steps.{Hall, AreLoadable, Begins, Step, IsRun}
+use Rattle.mud_hall.specs.Steps.{Hall, AreLoadable, Begins, HallStep, IsRun}
 use Rattle.mud_hall.specs.Right.{TellsJourney, IsCertified}
 use Rattle.mud_cert.specs.Text.{cert_text}
 
@@ -29,8 +29,8 @@ IsRight h player other a = Unit {0}
 abbrev pub HistoryGoesOn : Type 0
 HistoryGoesOn =
     (capacity : ℕ) (loaded : List Entry) (begin : Hall) → Begins capacity loaded begin
-    → (steps : List Step) (hall : Hall) → IsRun capacity loaded begin steps hall
-    → (more : List Step) (later : Hall) → IsRun capacity loaded hall more later
+    → (steps : List HallStep) (hall : Hall) → IsRun capacity loaded begin steps hall
+    → (more : List HallStep) (later : Hall) → IsRun capacity loaded hall more later
     → AreLoadable capacity later.history × IsPrefix hall.history later.history
 
 -- from the world after the first entries of a history the changes by the exits of a player's walk are each legal, and

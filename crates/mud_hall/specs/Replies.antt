@@ -24,12 +24,12 @@ pub data Reply : Type 0 where
   Failed : (fault : Fault) → Reply
 
 -- what a call returned, with texts as their bytes
-abbrev pub shown : Result Returned Fault → Reply
-shown (Ok (returned.Accepted v text)) = Accepted v (string_bytes text)
-shown (Ok (returned.Became v text)) = Became v (string_bytes text)
-shown (Ok (returned.Refused v f text)) = Refused v f (string_bytes text)
-shown (Ok (returned.Question v)) = Question v
-shown (Err fault) = Failed fault
+abbrev pub reply_shown : Result Returned Fault → Reply
+reply_shown (Ok (returned.Accepted v text)) = Accepted v (string_bytes text)
+reply_shown (Ok (returned.Became v text)) = Became v (string_bytes text)
+reply_shown (Ok (returned.Refused v f text)) = Refused v f (string_bytes text)
+reply_shown (Ok (returned.Question v)) = Question v
+reply_shown (Err fault) = Failed fault
 
 -- what a line is decided to be for a player, after a history
 abbrev pub verdict_on : List Entry → Option ℕ → Line → Verdict

@@ -9,6 +9,7 @@ use Rattle.mud_roads.specs.Walks.{Walk, NoWalk, HasLeast, exits_of}
 use Rattle.mud_roads.specs.Open.{roads_of}
 use Rattle.mud_rules.specs.declared.verdict.Journey.{Journey as Question}
 use Rattle.mud_rules.specs.declared.verdict.Journey.TheVariants as question
+use Rattle.mud_chron.specs.declared.limits.TheConstants.{MOST_ENTRIES}
 use Rattle.mud_chron.specs.Entry.{Entry}
 use Rattle.mud_chron.specs.Text.{history_text}
 use Rattle.mud_chron.specs.History.{SpellsHistory}
@@ -21,7 +22,7 @@ use Rattle.mud_cert.specs.declared.finding.Finding.TheVariants as finding
 use Rattle.mud_cert.specs.Finding.{IsFinding}
 use Rattle.mud_cert.specs.Valid.{IsPlace}
 use Rattle.mud_guide.specs.Ways.{cost_of}
-use Rattle.mud_guide.specs.Journeys.{Journey, goers_of}
+use Rattle.mud_guide.specs.Legs.{Leg, goers_of}
 use Rattle.mud_guide.specs.Texts.{route_text, meet_text}
 use Rattle.mud_hall.specs.Steps.{AreLoadable}
 use Rattle.mud_chron.specs.declared.format.Format.TheVariants.{Two}
@@ -39,25 +40,25 @@ IsBestWay w p from (Some to) None = NoWalk (roads_of w p) from to
 IsBestWay w p from None way = way ≡ None
 
 -- p goes from where he is by a best way to the room
-pub record GoesBest (w : State) (to : Option ℕ) (p : ℕ) (j : Journey) : Type 0 where
+pub record GoesBest (w : State) (to : Option ℕ) (p : ℕ) (j : Leg) : Type 0 where
   pub who : j.player ≡ p
   pub place : place_of w p ≡ Some j.from
   pub way : IsBestWay w p j.from to j.way
 
 -- the member of a certificate is he who goes, from there, by these exits
-pub record IsMemberFor (j : Journey) (a : Account) : Type 0 where
+pub record IsMemberFor (j : Leg) (a : Account) : Type 0 where
   pub who : a.player ≡ j.player
   pub from : a.from ≡ j.from
   pub walk : a.walk ≡ option_map exits_of j.way
 
 -- the certificate is of those who go so, and concludes this
-pub record Certifies (journeys : List Journey) (says : Conclusion) (c : Certificate) : Type 0 where
+pub record Certifies (journeys : List Leg) (says : Conclusion) (c : Certificate) : Type 0 where
   pub members : AllZip IsMemberFor journeys c.members
   pub conclusion : c.conclusion ≡ says
 
 -- the text tells a best way of p to the room, and the certificate is of that way
 pub record TellsRoute (w : State) (p to : ℕ) (text : List ℕ) (cert : Option Certificate) : Type 0 where
-  pub journey : Journey
+  pub journey : Leg
   pub goes : GoesBest w (Some to) p journey
   pub text_is : text ≡ route_text to journey
   pub certified : IsSomeAnd cert (Certifies (journey ∷ []) (Route to (option_map cost_of journey.way)))
@@ -65,7 +66,7 @@ pub record TellsRoute (w : State) (p to : ℕ) (text : List ℕ) (cert : Option 
 -- the text tells the best meeting room by costs, or that there is none, and each best way; the certificate is of those
 pub record TellsMeeting (w : State) (party : List ℕ) (text : List ℕ) (cert : Option Certificate) : Type 0 where
   pub place : Option Meeting
-  pub journeys : List Journey
+  pub journeys : List Leg
   pub go : AllZip (GoesBest w (option_map (λ m. m.room) place)) party journeys
   pub best : IsPlace (HasLeast 0) (goers_of w journeys) place
   pub text_is : text ≡ meet_text place journeys
@@ -85,4 +86,4 @@ pub record IsAcceptedWith (h : List Entry) (c : Certificate) : Type 0 where
 abbrev pub IsCertified : List Entry → Option Certificate → Type 0
 IsCertified h cert =
     IsSomeAnd cert (λ c.
-    (c.version ≡ length h) × ((g : List Entry) → IsPrefix h g → AreLoadable 65536 g → IsAcceptedWith g c))
+    (c.version ≡ length h) × ((g : List Entry) → IsPrefix h g → AreLoadable MOST_ENTRIES g → IsAcceptedWith g c))

@@ -3,6 +3,7 @@ use Rattle.std.specs.Prelude.{◌≡◌, ◌≢◌, ℕ, ◌+◌, ◌<◌, ◌�
 use Rattle.std.specs.Prelude.{List, [], ◌∷◌, ◌++◌, length, drop, slice_get, All, Any}
 use Rattle.std.specs.List.{AllPairs}
 use mathlib.Core.List.{IsPrefix}
+use Rattle.mud_chron.specs.declared.limits.TheConstants.{MOST_DESKS}
 use Rattle.mud_chron.specs.Entry.{Entry}
 use Rattle.mud_hall.specs.declared.fault.CloseFault.{CloseFault}
 use Rattle.mud_hall.specs.declared.fault.CloseFault.TheVariants.{OutOfMemory, SameNumber, Missing, Mismatch}
@@ -14,8 +15,8 @@ versions_by n v [] = []
 versions_by n v (e ∷ es) = (if e.desk == n then v ∷ [] else []) ++ versions_by n (v + 1) es
 
 -- the entries of a history after those that were loaded
-abbrev pub made : List Entry → List Entry → List Entry
-made loaded history = drop (length loaded) history
+abbrev pub entries_made : List Entry → List Entry → List Entry
+entries_made loaded history = drop (length loaded) history
 
 -- some desk has the number
 abbrev pub HasNumber : List View → ℕ → Type 0
@@ -34,9 +35,10 @@ pub record IsGathered (loaded : List Entry) (desks : List View) (history : List 
 -- the history that these desks made: after what was loaded it is the calls of the desks, each once and in their order
 pub record IsSettled (loaded : List Entry) (desks : List View) (history : List Entry) : Type 0 where
   pub gathered : IsGathered loaded desks history
-  pub calls : All (λ d. d.state.calls ≡ versions_by d.state.number (length loaded + 1) (made loaded history)) desks
+  pub calls : All (λ d. d.state.calls ≡ versions_by d.state.number (length loaded + 1) (entries_made loaded history))
+      desks
   pub apart : AreApart desks
-  pub named : All (λ e. HasNumber desks e.desk) (made loaded history)
+  pub named : All (λ e. HasNumber desks e.desk) (entries_made loaded history)
 
 -- two desks have the number
 pub record HaveSameNumber (desks : List View) (n : ℕ) : Type 0 where
@@ -53,7 +55,7 @@ pub record HaveSameNumber (desks : List View) (n : ℕ) : Type 0 where
 -- the least number from 1 to 64 that no desk has
 pub record IsMissing (desks : List View) (n : ℕ) : Type 0 where
   pub from : 1 ≤ n
-  pub to : n ≤ 64
+  pub to : n ≤ MOST_DESKS
   pub none : HasNumber desks n → ⊥
   pub least : (k : ℕ) → k + 1 < n → HasNumber desks (k + 1)
 
@@ -74,8 +76,8 @@ IsAtOdds desks first entries v =
 pub record IsMismatch (loaded : List Entry) (desks : List View) (v : ℕ) : Type 0 where
   pub history : List Entry
   pub gathered : IsGathered loaded desks history
-  pub odds : IsAtOdds desks (length loaded + 1) (made loaded history) v
-  pub least : (u : ℕ) → IsAtOdds desks (length loaded + 1) (made loaded history) u → v ≤ u
+  pub odds : IsAtOdds desks (length loaded + 1) (entries_made loaded history) v
+  pub least : (u : ℕ) → IsAtOdds desks (length loaded + 1) (entries_made loaded history) u → v ≤ u
 
 -- when each fault of a settlement comes; two desks of one number are told of first
 abbrev pub IsCloseFault : List Entry → List View → CloseFault → Type 0

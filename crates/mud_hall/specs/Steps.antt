@@ -3,7 +3,7 @@ use Rattle.std.specs.Prelude.{◌≡◌, ℕ, ◌+◌, ◌≤◌, ◌⊎◌, nat
 use Rattle.std.specs.Prelude.{List, [], ◌∷◌, ◌++◌, length, Option, Some, None}
 use Rattle.std.specs.List.{AllByRecursion}
 use mathlib.Core.List.{IsPrefix}
-use Rattle.mud_words.specs.Parse.{parsed}
+use Rattle.mud_words.specs.Parse.{parse_of}
 use Rattle.mud_chron.specs.Entry.{Entry, IsEntry}
 use Rattle.mud_chron.specs.Replay.{changes_of, AreLegal}
 use Rattle.mud_hall.specs.Desk.{DeskState, new_desk, as_guest, as_player, TakesIn, Learns, HandsOut, IsNew}
@@ -23,9 +23,9 @@ pub data Call : Type 0 where
 -- what a call does to its desk; an answer is by what the desk has seen, and there is none where memory is refused
 abbrev pub Performs : ℕ → DeskState → Call → DeskState → Type 0
 Performs capacity was See is = TakesIn was is
-Performs capacity was (Act line reply) is = Acts capacity was (parsed line) reply is
+Performs capacity was (Act line reply) is = Acts capacity was (parse_of line) reply is
 Performs capacity was (Ask line None) is = is ≡ was
-Performs capacity was (Ask line (Some a)) is = Answers was (parsed line) a × (is ≡ was)
+Performs capacity was (Ask line (Some a)) is = Answers was (parse_of line) a × (is ≡ was)
 Performs capacity was Guest is = is ≡ as_guest was
 Performs capacity was (Told lines) is = HandsOut was lines is
 
@@ -50,8 +50,8 @@ pub record AreLoadable (capacity : ℕ) (entries : List Entry) : Type 0 where
   pub few : length entries ≤ capacity
 
 -- at first the history is what was loaded, and there is no desk
-abbrev pub opened : List Entry → Hall
-opened loaded = record { history = loaded; given = 0; desks = λ s. None }
+abbrev pub hall_begun : List Entry → Hall
+hall_begun loaded = record { history = loaded; given = 0; desks = λ s. None }
 
 -- the hall with this history and with this desk at number s
 abbrev pub seats : Hall → List Entry → ℕ → DeskState → Hall
@@ -64,20 +64,20 @@ lone_desk = as_player (new_desk 1 []) 1
 
 -- the hall of one caller
 abbrev pub opened_alone : Hall
-opened_alone = record (seats (opened []) [] 1 lone_desk) { given = 1 }
+opened_alone = record (seats (hall_begun []) [] 1 lone_desk) { given = 1 }
 
 -- a hall begins with what was loaded and no desk, or with one desk and nothing loaded
 abbrev pub Begins : ℕ → List Entry → Hall → Type 0
 Begins capacity loaded hall =
-    (AreLoadable capacity loaded × (hall ≡ opened loaded)) ⊎ ((loaded ≡ []) × (hall ≡ opened_alone))
+    (AreLoadable capacity loaded × (hall ≡ hall_begun loaded)) ⊎ ((loaded ≡ []) × (hall ≡ opened_alone))
 
 -- ---- its steps
 
 -- a desk is given, a desk learns from another, or something is called at a desk; desks are named by their numbers
-pub data Step : Type 0 where
-  Desk : (s : ℕ) → Step
-  Learn : (s : ℕ) → (t : ℕ) → Step
-  At : (s : ℕ) → (call : Call) → Step
+pub data HallStep : Type 0 where
+  Desk : (s : ℕ) → HallStep
+  Learn : (s : ℕ) → (t : ℕ) → HallStep
+  At : (s : ℕ) → (call : Call) → HallStep
 
 -- desk s was so before and is so after, and what it has seen is a beginning of the history; no other desk changes
 pub record Turns (old : Hall) (s : ℕ) (was is : DeskState) (new : Hall) : Type 0 where
@@ -91,7 +91,7 @@ Grows (Act line (Accepted version text)) old is new = (e : Entry) × (new ≡ ol
 Grows other old is new = new ≡ old
 
 -- what a step does to a hall; a new desk has the next number, and has seen a beginning of the history
-abbrev pub Makes : ℕ → List Entry → Hall → Step → Hall → Type 0
+abbrev pub Makes : ℕ → List Entry → Hall → HallStep → Hall → Type 0
 Makes capacity loaded old (Desk s) new =
     (is : DeskState) × IsNew loaded is × (is.number ≡ s) × (s ≡ old.given + 1) × IsPrefix is.seen old.history
     × (new ≡ record (seats old old.history s is) { given = s })
@@ -103,7 +103,7 @@ Makes capacity loaded old (At s call) new =
     × Performs capacity was call is
 
 -- steps one after the other
-abbrev pub IsRun : ℕ → List Entry → Hall → List Step → Hall → Type 0
+abbrev pub IsRun : ℕ → List Entry → Hall → List HallStep → Hall → Type 0
 IsRun capacity loaded old [] new = old ≡ new
 IsRun capacity loaded old (step ∷ steps) new =
     (hall : Hall) × Makes capacity loaded old step hall × IsRun capacity loaded hall steps new

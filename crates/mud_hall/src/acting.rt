@@ -7,7 +7,7 @@ ghost use Rattle.mud_rules.specs.Outcome.{IsLawful};
 ghost use Rattle.mud_rules.specs.Replies.{reply_text};
 ghost use Rattle.mud_hall.specs.Told.{world_after};
 ghost use Rattle.mud_hall.specs.Desk.{DeskState, as_player, as_accepted, untold};
-ghost use Rattle.mud_hall.specs.Replies.{Failed, shown, Acts, Comes, Stores, verdict_on};
+ghost use Rattle.mud_hall.specs.Replies.{Failed, reply_shown, Acts, Comes, Stores, verdict_on};
 
 use crate::desk::Desk;
 use crate::fault::Fault;
@@ -24,8 +24,8 @@ impl<J: HallName> Desk<J> {
     // Takes in all entries, and replies to what a line says in the world that they lead to.
     pub(crate) fn act(&mut self, alloc: Global, row: &Row, said: &Parsed) -> Result<Reply, Fault>
         requires { row.now ≡ J.cells }
-        ensures acts { Acts (length row.now) self.old.state (line_of said.now) (shown result) self.new.state }
-        ensures told { shown result ≢ Failed Fault.OutOfMemory → untold self.new ≡ [] }
+        ensures acts { Acts (length row.now) self.old.state (line_of said.now) (reply_shown result) self.new.state }
+        ensures told { reply_shown result ≢ Failed Fault.OutOfMemory → untold self.new ≡ [] }
     {
         self.take_in(alloc, row)?;
         self.reply(alloc, row, said)
@@ -36,8 +36,9 @@ impl<J: HallName> Desk<J> {
         requires row { row.now ≡ J.cells }
         requires all { self.old.at ≡ length self.old.state.seen }
         ensures comes { Comes (length row.now) self.old.state
-            (verdict_on self.old.state.seen self.old.state.player (line_of said.now)) (shown result) self.new.state }
-        ensures told { shown result ≢ Failed Fault.OutOfMemory → untold self.new ≡ [] }
+            (verdict_on self.old.state.seen self.old.state.player (line_of said.now)) (reply_shown result)
+            self.new.state }
+        ensures told { reply_shown result ≢ Failed Fault.OutOfMemory → untold self.new ≡ [] }
     {
         match self.verdict(alloc, said)? {
             Verdict::Refused(refusal) => {
@@ -78,8 +79,8 @@ impl<J: HallName> Desk<J> {
         requires row { row.now ≡ J.cells }
         requires all { self.old.at ≡ length self.old.state.seen }
         requires lawful { IsLawful (world_after self.old.state.seen) self.old.state.player (Verdict.Change change) }
-        ensures stores { Stores (length row.now) self.old.state change (shown result) self.new.state }
-        ensures told { shown result ≢ Failed Fault.OutOfMemory → untold self.new ≡ [] }
+        ensures stores { Stores (length row.now) self.old.state change (reply_shown result) self.new.state }
+        ensures told { reply_shown result ≢ Failed Fault.OutOfMemory → untold self.new ≡ [] }
     {
         let text = self.text(alloc, row, &change)?;
         let version = self.add(alloc, row, change)?;

@@ -8,6 +8,7 @@ ghost use Rattle.mud_rules.specs.Outcome.{IsJourney, IsLawful, IsQuestion};
 ghost use Rattle.mud_rules.specs.Replies.{refusal_text};
 ghost use Rattle.mud_rules.specs.Answers.{show_text};
 ghost use Rattle.mud_rules.specs.Table.{decision};
+ghost use Rattle.mud_chron.specs.declared.limits.TheConstants.{MOST_ENTRIES};
 ghost use Rattle.mud_hall.specs.Answers.{IsGuided, IsProven, CanAsk};
 ghost use Rattle.mud_hall.specs.inner.Desks.{IsResponse};
 
@@ -30,7 +31,7 @@ pub(crate) fn respond<S: Guide>(
     said: &Parsed,
 ) -> Result<Option<Answer>, AllocError>
     requires ready { S.ready by.now }
-    requires version { version ≤ 65536 }
+    requires version { version ≤ MOST_ENTRIES }
     requires seated { IfSome player (λ p. IsTrue (is_player world.now p)) }
     ensures { IfOk result (IsResponse world.now version player (decision world.now player (line_of said.now))) }
 {
@@ -48,7 +49,7 @@ fn answer<S: Guide>(
     verdict: &Verdict,
 ) -> Result<Option<Answer>, AllocError>
     requires ready { S.ready by.now }
-    requires version { version ≤ 65536 }
+    requires version { version ≤ MOST_ENTRIES }
     requires seated { IfSome player (λ p. IsTrue (is_player world.now p)) }
     requires lawful { IsLawful world.now player verdict.now }
     requires asked { (q : _) → verdict.now ≡ Verdict.Ask q → CanAsk player q }
@@ -71,7 +72,7 @@ fn explain<S: Guide>(
     query: &Query,
 ) -> Result<Option<Answer>, AllocError>
     requires ready { S.ready by.now }
-    requires version { version ≤ 65536 }
+    requires version { version ≤ MOST_ENTRIES }
     requires seated { IfSome player (λ p. IsTrue (is_player world.now p)) }
     requires question { IsQuestion world.now query.now }
     requires player { CanAsk player query.now }
@@ -87,7 +88,7 @@ fn explain<S: Guide>(
 
 // An answer without a certificate.
 fn plain(alloc: Global, version: u32, text: &str) -> Result<Answer, AllocError>
-    requires { version ≤ 65536 }
+    requires { version ≤ MOST_ENTRIES }
     ensures version { IfOk result (λ a. a.version ≡ version) }
     ensures text { IfOk result (λ a. string_bytes a.text ≡ text.now) }
     ensures cert { IfOk result (λ a. a.cert ≡ None) }
@@ -101,7 +102,7 @@ fn plain(alloc: Global, version: u32, text: &str) -> Result<Answer, AllocError>
 
 // The answer to a line that asks nothing.
 fn not_understood(alloc: Global, version: u32) -> Result<Answer, AllocError>
-    requires { version ≤ 65536 }
+    requires { version ≤ MOST_ENTRIES }
     ensures version { IfOk result (λ a. a.version ≡ version) }
     ensures text { IfOk result (λ a. string_bytes a.text ≡ refusal_text Refusal.NotUnderstood) }
     ensures cert { IfOk result (λ a. a.cert ≡ None) }
@@ -117,7 +118,7 @@ fn view(
     player: Option<u32>,
     view: &View,
 ) -> Result<Answer, AllocError>
-    requires { version ≤ 65536 }
+    requires { version ≤ MOST_ENTRIES }
     ensures version { IfOk result (λ a. a.version ≡ version) }
     ensures text { IfOk result (λ a. string_bytes a.text ≡ show_text world.now player view.now) }
     ensures cert { IfOk result (λ a. a.cert ≡ None) }
@@ -139,7 +140,7 @@ fn guide<S: Guide>(
     journey: &Journey,
 ) -> Result<Answer, AllocError>
     requires ready { S.ready by.now }
-    requires version { version ≤ 65536 }
+    requires version { version ≤ MOST_ENTRIES }
     requires player { IsSome player }
     requires seated { IfSome player (λ p. IsTrue (is_player world.now p)) }
     requires journey { IsJourney world.now journey.now }
@@ -162,7 +163,7 @@ fn prove<S: Guide>(
     journey: &Journey,
 ) -> Result<Answer, AllocError>
     requires ready { S.ready by.now }
-    requires version { version ≤ 65536 }
+    requires version { version ≤ MOST_ENTRIES }
     requires player { IsSome player }
     requires seated { IfSome player (λ p. IsTrue (is_player world.now p)) }
     requires journey { IsJourney world.now journey.now }

@@ -6,7 +6,7 @@ ghost use Rattle.mud_rules.specs.Outcome.{IsLawful};
 ghost use Rattle.mud_chron.specs.inner.Texts.{written_text};
 ghost use Rattle.mud_hall.specs.Told.{world_after};
 ghost use Rattle.mud_hall.specs.Replies.{verdict_on};
-ghost use Rattle.mud_hall.specs.Answers.{answered, Answers};
+ghost use Rattle.mud_hall.specs.Answers.{answer_shown, Answers};
 ghost use Rattle.mud_world.specs.State.{is_player};
 
 use crate::answering;
@@ -34,7 +34,7 @@ impl<J: HallName> Desk<J> {
         requires row { row.now ≡ J.cells }
         ensures same { self.new.state ≡ self.old.state }
         ensures all { OnOk result (self.new.at ≡ length self.new.state.seen) }
-        ensures ok { IfOk result (λ a. Answers self.old.state (line_of said.now) (answered a)) }
+        ensures ok { IfOk result (λ a. Answers self.old.state (line_of said.now) (answer_shown a)) }
     {
         self.catch_up(alloc, row)?;
         self.respond(by, alloc, row, said)
@@ -53,7 +53,7 @@ impl<J: HallName> Desk<J> {
         requires all { self.old.at ≡ length self.old.state.seen }
         ensures same { self.new.state ≡ self.old.state }
         ensures all { self.new.at ≡ length self.new.state.seen }
-        ensures ok { IfOk result (λ a. Answers self.old.state (line_of said.now) (answered a)) }
+        ensures ok { IfOk result (λ a. Answers self.old.state (line_of said.now) (answer_shown a)) }
     {
         let (version, player) = (self.seen(), self.player());
         match answering::respond(by, alloc, self.world(), version, player, said)? {

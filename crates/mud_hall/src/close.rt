@@ -2,8 +2,9 @@
 
 ghost use Rattle.std.specs.Prelude.{◌≡◌, ◌≤◌, ◌+◌, ◌↔◌, ◌⊎◌, length, All, IfOk, IfErr, IfSome, IsTrue, OnOk};
 ghost use mathlib.Core.List.{IsPrefix};
+ghost use Rattle.mud_chron.specs.declared.limits.TheConstants.{MOST_ENTRIES, MOST_DESKS};
 ghost use Rattle.mud_hall.specs.Settling.{IsGathered, IsSettled, IsCloseFault, IsAtOdds, IsMissing};
-ghost use Rattle.mud_hall.specs.Settling.{HasNumber, AreApart, HaveSameNumber, versions_by, made, first_apart};
+ghost use Rattle.mud_hall.specs.Settling.{HasNumber, AreApart, HaveSameNumber, versions_by, entries_made, first_apart};
 ghost use Rattle.mud_hall.specs.inner.Checking.{lesser_of, IsLeast, Differs, IsUnnamed, IsCheckFault};
 
 use crate::desk::Desk;
@@ -40,14 +41,14 @@ impl<J: HallName> Hall<J> {
     ) -> Result<Settled, (Hall<J>, Vec<Desk<J>>, CloseFault)>
         ensures settled { IfOk result (λ s. IsSettled J.loaded desks.items s.history) }
         ensures loaded { IfOk result (λ s. s.loaded ≡ length J.loaded) }
-        ensures accepted { IfOk result (λ s. s.accepted ≡ length (made J.loaded s.history)) }
-        ensures limit { IfOk result (λ s. length s.history ≤ 65536) }
+        ensures accepted { IfOk result (λ s. s.accepted ≡ length (entries_made J.loaded s.history)) }
+        ensures limit { IfOk result (λ s. length s.history ≤ MOST_ENTRIES) }
         ensures fault { IfErr result (λ f. IsCloseFault J.loaded desks.items f.2) }
         ensures back { IfErr result (λ f. (f.0 ≡ self) × (f.1.items ≡ desks.items)) }
     {
         let mut desks = desks;
         match self.settle(rt, &mut desks) {
-            Ok((whole, accepted)) => Ok(self.ended(whole, accepted)),
+            Ok((whole, accepted)) => Ok(self.history_left(whole, accepted)),
             Err(fault) => Err((self, desks, fault)),
         }
     }
@@ -57,7 +58,7 @@ impl<J: HallName> Hall<J> {
         ensures same { desks.new.items ≡ desks.old.items }
         ensures row { IfOk result (λ s. s.0.row ≡ J.cells) }
         ensures settled { IfOk result (λ s. IsSettled J.loaded desks.old.items s.0.list) }
-        ensures accepted { IfOk result (λ s. s.1 ≡ length (made J.loaded s.0.list)) }
+        ensures accepted { IfOk result (λ s. s.1 ≡ length (entries_made J.loaded s.0.list)) }
         ensures fault { IfErr result (IsCloseFault J.loaded desks.old.items) }
     {
         let mut kept = self.kept.lock(rt);
@@ -65,12 +66,12 @@ impl<J: HallName> Hall<J> {
     }
 
     // The history that is left of the hall.
-    fn ended(self, whole: Pass, accepted: u32) -> Settled
+    fn history_left(self, whole: Pass, accepted: u32) -> Settled
         requires { whole.row ≡ J.cells }
         ensures history { result.history ≡ whole.list }
         ensures accepted { result.accepted ≡ accepted }
         ensures loaded { result.loaded ≡ length J.loaded }
-        ensures limit { length result.history ≤ 65536 }
+        ensures limit { length result.history ≤ MOST_ENTRIES }
     {
         let Hall { row, loaded, .. } = self;
         let history = History::new(row, whole);
@@ -98,11 +99,11 @@ impl<J: HallName> Kept<J> {
         ensures same { desks.new.items ≡ desks.old.items }
         ensures row { IfOk result (λ s. s.0.row ≡ J.cells) }
         ensures settled { IfOk result (λ s. IsSettled J.loaded desks.old.items s.0.list) }
-        ensures accepted { IfOk result (λ s. s.1 ≡ length (made J.loaded s.0.list)) }
+        ensures accepted { IfOk result (λ s. s.1 ≡ length (entries_made J.loaded s.0.list)) }
         ensures fault { IfErr result (IsCloseFault J.loaded desks.old.items) }
     {
-        let given = self.given();
-        let mut whole = self.gathered(alloc, desks)?;
+        let given = self.given_count();
+        let mut whole = self.gather(alloc, desks)?;
         let accepted = whole.known() - loaded;
         let mut new = Made::new(row, whole.again(alloc)?, loaded);
         if let Err(fault) = check(desks, given, &mut new, loaded + 1) {
@@ -112,7 +113,7 @@ impl<J: HallName> Kept<J> {
     }
 
     // The longest of what was loaded and of what each desk knows.
-    fn gathered(&mut self, alloc: Global, desks: &mut Vec<Desk<J>>) -> Result<Pass, CloseFault>
+    fn gather(&mut self, alloc: Global, desks: &mut Vec<Desk<J>>) -> Result<Pass, CloseFault>
         ensures same { desks.new.items ≡ desks.old.items }
         ensures row { IfOk result (λ h. h.row ≡ J.cells) }
         ensures gathered { IfOk result (λ h. IsGathered J.loaded desks.old.items h.list) }
@@ -144,8 +145,8 @@ fn check<J: HallName>(
     new: &mut Made<'_>,
     first: u32,
 ) -> Result<(), CloseFault>
-    requires few { length new.old + first ≤ 65537 }
-    requires given { given ≤ 64 }
+    requires few { length new.old + first ≤ MOST_ENTRIES + 1 }
+    requires given { given ≤ MOST_DESKS }
     ensures same { new.new ≡ new.old }
     ensures calls { OnOk result (All (λ d. d.state.calls ≡ versions_by d.state.number first new.old) desks.now) }
     ensures apart { OnOk result (AreApart desks.now) }
@@ -155,7 +156,7 @@ fn check<J: HallName>(
     if let Some(number) = same_number(desks) {
         return Err(CloseFault::SameNumber(number));
     }
-    if let Some(number) = missing(desks, given) {
+    if let Some(number) = first_missing(desks, given) {
         return Err(CloseFault::Missing(number));
     }
     if let Some(version) = mismatch(desks, new, first) {
@@ -199,8 +200,8 @@ fn lesser(a: Option<u32>, b: Option<u32>) -> Option<u32>
 }
 
 // The least number up to `given` that no desk has.
-fn missing<J: HallName>(desks: &[Desk<J>], given: u32) -> Option<u32>
-    requires { given ≤ 64 }
+fn first_missing<J: HallName>(desks: &[Desk<J>], given: u32) -> Option<u32>
+    requires { given ≤ MOST_DESKS }
     ensures some { IfSome result (IsMissing desks.now) }
 {
     for n in 0..given {
@@ -213,16 +214,19 @@ fn missing<J: HallName>(desks: &[Desk<J>], given: u32) -> Option<u32>
 
 // The least version at odds.
 fn mismatch<J: HallName>(desks: &[Desk<J>], new: &mut Made<'_>, first: u32) -> Option<u32>
-    requires { length new.old + first ≤ 65537 }
+    requires { length new.old + first ≤ MOST_ENTRIES + 1 }
     ensures same { new.new ≡ new.old }
     ensures least { IsLeast (IsAtOdds desks.now first new.old) result }
 {
-    lesser(differing(desks, new, first), unnamed(desks, new, first))
+    lesser(
+        first_difference(desks, new, first),
+        first_unnamed(desks, new, first),
+    )
 }
 
 // The least version whose entry bears the number of no desk.
-fn unnamed<J: HallName>(desks: &[Desk<J>], new: &mut Made<'_>, first: u32) -> Option<u32>
-    requires { length new.old + first ≤ 65537 }
+fn first_unnamed<J: HallName>(desks: &[Desk<J>], new: &mut Made<'_>, first: u32) -> Option<u32>
+    requires { length new.old + first ≤ MOST_ENTRIES + 1 }
     ensures same { new.new ≡ new.old }
     ensures least { IsLeast (IsUnnamed desks.now first new.old) result }
 {
@@ -235,8 +239,8 @@ fn unnamed<J: HallName>(desks: &[Desk<J>], new: &mut Made<'_>, first: u32) -> Op
 }
 
 // The least of the versions at which the calls of a desk and the entries differ first.
-fn differing<J: HallName>(desks: &[Desk<J>], new: &mut Made<'_>, first: u32) -> Option<u32>
-    requires { length new.old + first ≤ 65537 }
+fn first_difference<J: HallName>(desks: &[Desk<J>], new: &mut Made<'_>, first: u32) -> Option<u32>
+    requires { length new.old + first ≤ MOST_ENTRIES + 1 }
     ensures same { new.new ≡ new.old }
     ensures least { IsLeast (Differs desks.now first new.old) result }
 {
@@ -262,7 +266,7 @@ impl<J: HallName> Desk<J> {
 
     // The first version at which its calls and the entries differ.
     fn differs(&self, new: &mut Made<'_>, first: u32) -> Option<u32>
-        requires { length new.old + first ≤ 65537 }
+        requires { length new.old + first ≤ MOST_ENTRIES + 1 }
         ensures same { new.new ≡ new.old }
         ensures first { result ≡ first_apart self.now.state.calls (versions_by self.now.state.number first new.old) }
     {
@@ -272,7 +276,7 @@ impl<J: HallName> Desk<J> {
 
 // The first version at which the calls of the desk of this number and the entries differ.
 fn differs(number: u32, calls: &[u32], new: &mut Made<'_>, first: u32) -> Option<u32>
-    requires { length new.old + first ≤ 65537 }
+    requires { length new.old + first ≤ MOST_ENTRIES + 1 }
     ensures same { new.new ≡ new.old }
     ensures first { result ≡ first_apart calls.now (versions_by number first new.old) }
 {

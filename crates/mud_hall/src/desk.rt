@@ -5,6 +5,7 @@ ghost use Rattle.std.specs.Prelude.{map, Some, None, IfOk, IfErr, OnErr, OnOk, M
 ghost use Rattle.std.specs.Prelude.{vec_len, vec_capacity};
 ghost use Rattle.std.specs.Option.{option_to_list};
 ghost use mathlib.Core.List.{IsPrefix};
+ghost use Rattle.mud_chron.specs.declared.limits.TheConstants.{MOST_ENTRIES, MOST_DESKS};
 ghost use Rattle.mud_hall.specs.Told.{notice_text};
 ghost use Rattle.mud_hall.specs.inner.Desks.{notice_in};
 ghost use Rattle.mud_hall.specs.Desk.{View, DeskState, TakesIn, Learns, IsNew, as_guest, untold, with_told};
@@ -64,7 +65,7 @@ impl<J: HallName> Desk<J> {
     pub(crate) fn guest_at(alloc: Global, replica: Box<Replica>, number: u32) -> Desk<J>
         requires row { replica.value.row ≡ J.cells }
         requires loaded { IsPrefix J.loaded replica.value.list }
-        requires number { (1 ≤ number) × (number ≤ 64) }
+        requires number { (1 ≤ number) × (number ≤ MOST_DESKS) }
         ensures new { IsNew J.loaded result.state }
         ensures number { result.state.number ≡ number }
     {
@@ -88,13 +89,13 @@ impl<J: HallName> Desk<J> {
     /// How many entries it has seen.
     pub fn seen(&self) -> u32
         ensures seen { result ≡ length self.now.state.seen }
-        ensures limit { result ≤ 65536 }
+        ensures limit { result ≤ MOST_ENTRIES }
     {
         self.replica.known()
     }
 
     /// How many changes were accepted here.
-    pub fn accepted(&self) -> usize
+    pub fn accepted_count(&self) -> usize
         ensures { result ≡ length self.now.state.calls }
     {
         self.calls.len()

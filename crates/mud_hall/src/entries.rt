@@ -1,6 +1,7 @@
 //! The entries of a hall, as they stand in its row.
 
 ghost use Rattle.std.specs.Prelude.{◌≡◌, ◌≤◌, ◌<◌, length, drop, Some, slice_get};
+ghost use Rattle.mud_chron.specs.declared.limits.TheConstants.{MOST_ENTRIES};
 ghost use Rattle.mud_chron.specs.Entry.{Entry};
 
 use mud_row::{Pass, Row};
@@ -44,7 +45,7 @@ impl<'r> Made<'r> {
     /// How many they are.
     pub(crate) fn len(&self) -> u32
         ensures len { result ≡ length self.now }
-        ensures limit { result ≤ 65536 }
+        ensures limit { result ≤ MOST_ENTRIES }
     {
         self.pass.known() - self.loaded
     }

@@ -3,6 +3,7 @@
 ghost use Rattle.std.specs.Prelude.{◌≡◌, ◌≤◌, ⊤, ℕ, Some, IfOk, IsTrue};
 ghost use Rattle.mud_world.specs.State.{is_player};
 ghost use Rattle.mud_rules.specs.Outcome.{IsJourney};
+ghost use Rattle.mud_chron.specs.declared.limits.TheConstants.{MOST_ENTRIES};
 ghost use Rattle.mud_hall.specs.Answers.{IsGuided};
 
 use mud_guide::{Answer, meet, meet_alone, route, route_alone};
@@ -28,7 +29,7 @@ pub(crate) trait Guide {
         journey: &Journey,
     ) -> Result<Answer, AllocError>
         requires ready { Self.ready self.now }
-        requires version { version ≤ 65536 }
+        requires version { version ≤ MOST_ENTRIES }
         requires player { IsTrue (is_player world.now player) }
         requires journey { IsJourney world.now journey.now }
         ensures version { IfOk result (λ a. a.version ≡ version) }
@@ -63,7 +64,7 @@ pub(crate) struct Through<F: Fn(Global, &World, u32, u32, &Journey) -> Result<An
 
 impl<F: Fn(Global, &World, u32, u32, &Journey) -> Result<Answer, AllocError>> Guide for Through<F> {
     ghost ready = { λ s. (a : _) (w : _) (v p : ℕ) (j : _)
-        → v ≤ 65536 → IsTrue (is_player w.now p) → IsJourney w.now j.now → F.pre s.find a w v p j
+        → v ≤ MOST_ENTRIES → IsTrue (is_player w.now p) → IsJourney w.now j.now → F.pre s.find a w v p j
         × ((r : _) → F.post s.find a w v p j r
         → IfOk r (λ a. a.version ≡ v) × IfOk r (IsGuided w.now v (Some p) j.now)) };
 
@@ -90,7 +91,7 @@ pub(crate) fn by_workers<R: Threads + Wait + Sync, G: Gate + Sync>(
     player: u32,
     journey: &Journey,
 ) -> Result<Answer, AllocError>
-    requires version { version ≤ 65536 }
+    requires version { version ≤ MOST_ENTRIES }
     requires player { IsTrue (is_player world.now player) }
     requires journey { IsJourney world.now journey.now }
     ensures version { IfOk result (λ a. a.version ≡ version) }

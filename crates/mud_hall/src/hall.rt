@@ -9,11 +9,12 @@ ghost use Rattle.mud_hall.specs.Answers.{IsGuided};
 ghost use Rattle.std.specs.List.{AllByRecursion};
 ghost use mathlib.Core.List.{IsPrefix};
 ghost use Rattle.mud_words.specs.Line.{line_of};
-ghost use Rattle.mud_words.specs.Parse.{parsed};
+ghost use Rattle.mud_words.specs.Parse.{parse_of};
+ghost use Rattle.mud_chron.specs.declared.limits.TheConstants.{MOST_ENTRIES};
 ghost use Rattle.mud_chron.specs.Entry.{IsEntry};
 ghost use Rattle.mud_hall.specs.Desk.{IsNew, TakesIn, untold};
-ghost use Rattle.mud_hall.specs.Replies.{Failed, shown, Acts};
-ghost use Rattle.mud_hall.specs.Answers.{answered, Answers};
+ghost use Rattle.mud_hall.specs.Replies.{Failed, reply_shown, Acts};
+ghost use Rattle.mud_hall.specs.Answers.{answer_shown, Answers};
 ghost use Rattle.mud_hall.specs.Opening.{Begun, IsLoadFault};
 ghost use Rattle.mud_hall.specs.Steps.{AreLoadable};
 
@@ -67,7 +68,7 @@ impl NewHall {
     /// out of memory.
     pub fn open(alloc: Global, capacity: u32) -> Result<NewHall, AllocError>
         requires from { 1 ≤ capacity }
-        requires to { capacity ≤ 65536 }
+        requires to { capacity ≤ MOST_ENTRIES }
         ensures capacity { IfOk result (λ h. length h.cells ≡ capacity) }
         ensures loaded { IfOk result (λ h. h.loaded ≡ []) }
     {
@@ -87,7 +88,7 @@ impl NewHall {
     /// have; `NotStored`.
     pub fn resume(alloc: Global, capacity: u32, entries: Vec<Entry>) -> Result<NewHall, LoadFault>
         requires from { 1 ≤ capacity }
-        requires to { capacity ≤ 65536 }
+        requires to { capacity ≤ MOST_ENTRIES }
         ensures capacity { IfOk result (λ h. length h.cells ≡ capacity) }
         ensures loaded { IfOk result (λ h. h.loaded ≡ entries.items) }
         ensures loadable { OnOk result (AreLoadable capacity entries.items) }
@@ -120,7 +121,7 @@ impl NewHall {
     }
 
     /// The hall by its name, from which all types of its desks take it.
-    pub fn named<J: HallName>(self) -> Hall<J>
+    pub fn with_name<J: HallName>(self) -> Hall<J>
         requires cells { self.cells ≡ J.cells }
         requires loaded { self.loaded ≡ J.loaded }
     {
@@ -188,13 +189,13 @@ impl<J: HallName> Hall<J> {
     /// How many entries the history can have, 1 to 65,536.
     pub fn capacity(&self) -> u32
         ensures capacity { result ≡ length J.cells }
-        ensures limit { result ≤ 65536 }
+        ensures limit { result ≤ MOST_ENTRIES }
     {
         self.row.capacity()
     }
 
     /// How many entries it began with.
-    pub fn loaded(&self) -> u32
+    pub fn loaded_count(&self) -> u32
         ensures { result ≡ length J.loaded }
     {
         self.loaded
@@ -206,13 +207,13 @@ impl<J: HallName> Hall<J> {
         ensures new { IfOk result (λ d. IsNew J.loaded d.state) }
         ensures fault { IfErr result (λ f. (f ≡ Fault.OutOfMemory) ⊎ (f ≡ Fault.DesksFull)) }
     {
-        let replica = self.copied(rt)?;
+        let replica = self.copy_replica(rt)?;
         let mut kept = self.kept.lock(rt);
         kept.desk(self.alloc, replica)
     }
 
     // A copy of what the hall itself knows, once it knows all that is found.
-    fn copied<R: Wait>(&self, rt: &R) -> Result<Box<Replica>, AllocError>
+    fn copy_replica<R: Wait>(&self, rt: &R) -> Result<Box<Replica>, AllocError>
         ensures row { IfOk result (λ r. r.value.row ≡ J.cells) }
         ensures loaded { IfOk result (λ r. IsPrefix J.loaded r.value.list) }
     {
@@ -232,8 +233,8 @@ impl<J: HallName> Hall<J> {
     /// is added to the history: `HistoryFull` where it takes no more, `Unpublished` where it did not
     /// take the entry. After a fault the history has no entry of this call.
     pub fn act<R: Wait>(&self, rt: &R, desk: &mut Desk<J>, line: &str) -> Result<Reply, Fault>
-        ensures acts { Acts (length J.cells) desk.old.state (parsed line.now) (shown result) desk.new.state }
-        ensures told { shown result ≢ Failed Fault.OutOfMemory → untold desk.new ≡ [] }
+        ensures acts { Acts (length J.cells) desk.old.state (parse_of line.now) (reply_shown result) desk.new.state }
+        ensures told { reply_shown result ≢ Failed Fault.OutOfMemory → untold desk.new ≡ [] }
     {
         let said = parse(self.alloc, line)?;
         self.act_on(rt, desk, &said)
@@ -241,8 +242,8 @@ impl<J: HallName> Hall<J> {
 
     /// Acts on what a line says, as [`Hall::act`] on the line.
     pub fn act_on<R: Wait>(&self, rt: &R, desk: &mut Desk<J>, said: &Parsed) -> Result<Reply, Fault>
-        ensures acts { Acts (length J.cells) desk.old.state (line_of said.now) (shown result) desk.new.state }
-        ensures told { shown result ≢ Failed Fault.OutOfMemory → untold desk.new ≡ [] }
+        ensures acts { Acts (length J.cells) desk.old.state (line_of said.now) (reply_shown result) desk.new.state }
+        ensures told { reply_shown result ≢ Failed Fault.OutOfMemory → untold desk.new ≡ [] }
     {
         // before the lock: so who waits for it waits only for what comes after
         desk.take_in(self.alloc, &self.row)?;
@@ -281,7 +282,7 @@ impl<J: HallName> Desk<J> {
     pub fn ask(&mut self, hall: &Hall<J>, line: &str) -> Result<Answer, Fault>
         ensures same { self.new.state ≡ self.old.state }
         ensures told { OnOk result (untold self.new ≡ []) }
-        ensures ok { IfOk result (λ a. Answers self.old.state (parsed line.now) (answered a)) }
+        ensures ok { IfOk result (λ a. Answers self.old.state (parse_of line.now) (answer_shown a)) }
         ensures fault { IfErr result (λ f. f ≡ Fault.OutOfMemory) }
     {
         let said = parse(hall.alloc, line)?;
@@ -292,7 +293,7 @@ impl<J: HallName> Desk<J> {
     pub fn ask_on(&mut self, hall: &Hall<J>, said: &Parsed) -> Result<Answer, Fault>
         ensures same { self.new.state ≡ self.old.state }
         ensures told { OnOk result (untold self.new ≡ []) }
-        ensures ok { IfOk result (λ a. Answers self.old.state (line_of said.now) (answered a)) }
+        ensures ok { IfOk result (λ a. Answers self.old.state (line_of said.now) (answer_shown a)) }
         ensures fault { IfErr result (λ f. f ≡ Fault.OutOfMemory) }
     {
         let answer = self.answer(&Alone, hall.alloc, &hall.row, said)?;
@@ -312,7 +313,7 @@ impl<J: HallName> Desk<J> {
     ) -> Result<Answer, Fault>
         ensures same { self.new.state ≡ self.old.state }
         ensures told { OnOk result (untold self.new ≡ []) }
-        ensures ok { IfOk result (λ a. Answers self.old.state (parsed line.now) (answered a)) }
+        ensures ok { IfOk result (λ a. Answers self.old.state (parse_of line.now) (answer_shown a)) }
         ensures fault { IfErr result (λ f. f ≡ Fault.OutOfMemory) }
     {
         let said = parse(hall.alloc, line)?;
@@ -330,7 +331,7 @@ impl<J: HallName> Desk<J> {
     ) -> Result<Answer, Fault>
         ensures same { self.new.state ≡ self.old.state }
         ensures told { OnOk result (untold self.new ≡ []) }
-        ensures ok { IfOk result (λ a. Answers self.old.state (line_of said.now) (answered a)) }
+        ensures ok { IfOk result (λ a. Answers self.old.state (line_of said.now) (answer_shown a)) }
         ensures fault { IfErr result (λ f. f ≡ Fault.OutOfMemory) }
     {
         let by = Through {
@@ -338,7 +339,7 @@ impl<J: HallName> Desk<J> {
                 Answer,
                 AllocError,
             >
-                requires { IsSync R.row × IsSync G.row × (version ≤ 65536)
+                requires { IsSync R.row × IsSync G.row × (version ≤ MOST_ENTRIES)
                     × IsTrue (is_player world.now player) × IsJourney world.now journey.now }
                 ensures version { IfOk result (λ a. a.version ≡ version) }
                 ensures guided { IfOk result (IsGuided world.now version (Some player) journey.now) }

@@ -2,18 +2,17 @@
 
 ghost use Rattle.std.specs.Prelude.{◌≡◌, ◌≤◌, ◌<◌, ◌+◌, ◌↔◌, IfOk, IsErr, IfErr};
 ghost use mathlib.Core.List.{IsPrefix};
+ghost use Rattle.mud_chron.specs.declared.limits.TheConstants.{MOST_DESKS};
 ghost use Rattle.mud_hall.specs.Desk.{IsNew};
 
 use crate::desk::Desk;
 use crate::fault::Fault;
 use crate::name::HallName;
 use crate::reader::Reader;
+use mud_chron::limits::MOST_DESKS;
 use mud_row::{Pass, Replica, Row};
 use std::alloc::{AllocError, Global};
 use std::marker::{Model, PhantomData};
-
-/// The most desks of a hall.
-pub const MOST_DESKS: u32 = 64;
 
 // The most entries that are taken at once into the world that new desks copy.
 const MOST_FOLLOWED: u32 = 16;
@@ -52,9 +51,9 @@ impl<J: HallName> Kept<J> {
     }
 
     // How many desks were given.
-    pub(crate) fn given(&self) -> u32
+    pub(crate) fn given_count(&self) -> u32
         ensures given { result ≡ self.now }
-        ensures few { result ≤ 64 }
+        ensures few { result ≤ MOST_DESKS }
     {
         self.given
     }
@@ -77,7 +76,7 @@ impl<J: HallName> Kept<J> {
         ensures new { IfOk result (λ d. IsNew J.loaded d.state) }
         ensures number { IfOk result (λ d. (d.state.number ≡ self.old + 1) × (self.new ≡ self.old + 1)) }
         ensures err { IfErr result (λ f. (self.new ≡ self.old) × (f ≡ Fault.DesksFull)) }
-        ensures full { IsErr result ↔ (self.old ≡ 64) }
+        ensures full { IsErr result ↔ (self.old ≡ MOST_DESKS) }
     {
         if self.given >= MOST_DESKS {
             return Err(Fault::DesksFull);

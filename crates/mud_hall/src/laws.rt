@@ -1,9 +1,9 @@
 //! Laws of the definitions: each contract is a law, and its function does nothing.
 
 ghost use Rattle.mud_hall.specs.Laws.{HistoryGoesOn, WalksGo, IsRight};
-ghost use Rattle.mud_hall.specs.Steps.{At, Step, Begins, IsRun, Hall, Ask, Makes};
+ghost use Rattle.mud_hall.specs.Steps.{At, HallStep, Begins, IsRun, Hall, Ask, Makes};
 ghost use Rattle.mud_chron.specs.Entry.{Entry};
-ghost use Rattle.mud_words.specs.Parse.{parsed};
+ghost use Rattle.mud_words.specs.Parse.{parse_of};
 ghost use Rattle.std.specs.Prelude.{List, ℕ, Some, ◌≡◌};
 ghost use mathlib.Core.List.{IsPrefix};
 ghost use Rattle.mud_hall.specs.Replies.{verdict_on};
@@ -20,11 +20,11 @@ use mud_roads::laws::meeting_cost;
 /// the checker accepts its certificate.
 pub fn guide()
     ensures { (capacity : ℕ) (loaded : List Entry) (begin : Hall) → Begins capacity loaded begin
-        → (steps : List Step) (hall : Hall) → IsRun capacity loaded begin steps hall
+        → (steps : List HallStep) (hall : Hall) → IsRun capacity loaded begin steps hall
         → (s : ℕ) (line : List ℕ) (a : Answered) (next : Hall)
         → Makes capacity loaded hall (At s (Ask line (Some a))) next
         → (d : DeskState) → hall.desks s ≡ Some d
-        → IsPrefix d.seen hall.history × IsRight d.seen d.player (verdict_on d.seen d.player (parsed line)) a }
+        → IsPrefix d.seen hall.history × IsRight d.seen d.player (verdict_on d.seen d.player (parse_of line)) a }
 {
     again();
     no_returns();

@@ -7,8 +7,8 @@
 //! | Calls | Answer |
 //! |---|---|
 //! | `NewHall::open`, `resume` | a hall with no entry, or one that goes on from entries: [`LoadFault`] |
-//! | `NewHall::named` | the same hall by its [`HallName`], which its type and those of its desks carry |
-//! | `Hall::capacity`, `loaded` | how many entries the history can have, and how many it began with |
+//! | `NewHall::with_name` | the same hall by its [`HallName`], which its type and those of its desks carry |
+//! | `Hall::capacity`, `loaded_count` | how many entries the history can have, and how many it began with |
 //! | `Hall::desk` | a guest's desk of the next number: [`Fault`] |
 //! | `Hall::act` | takes all entries in, and replies to a line in that world: [`Reply`], [`Fault`] |
 //! | `Desk::see`, `see_to` | takes in all entries that are found, or those of the first so many |
@@ -16,13 +16,13 @@
 //! | `Hall::act_on`, `Desk::ask_on`, `ask_on_with` | the same for what a line says, where it was parsed before |
 //! | `Desk::take_told` | the lines that tell what others did, each once |
 //! | `Desk::learn`, `guest` | knows what another desk knows; is a guest's desk again |
-//! | `Desk::number`, `seen`, `accepted` | its number, and how many entries it has seen and made |
+//! | `Desk::number`, `seen`, `accepted_count` | its number, and how many entries it has seen and made |
 //! | `Hall::reader` | a [`Reader`], which reads the entries in order and makes none |
 //! | `Hall::close` | the one history that the desks made, [`Settled`], or all of it back: [`CloseFault`] |
 //! | `Solo::open`, `act`, `ask`, `act_on`, .. | the same for one caller, who begins as the wizard |
 //!
 //! ```text
-//! let hall = NewHall::open(alloc, 65536)?.named::<J>();
+//! let hall = NewHall::open(alloc, 65536)?.with_name::<J>();
 //! let mut desk = hall.desk(&rt)?;
 //! let reply = hall.act(&rt, &mut desk, "connect wizard")?; // Became { version: 0, text: "welcome #1" }
 //! let answer = desk.ask(&hall, "route to #0")?; // its text is "route #0 to #0 cost 0 by nothing"
@@ -61,6 +61,7 @@ pub use close::Settled;
 pub use desk::Desk;
 pub use fault::{CloseFault, Fault, LoadFault};
 pub use hall::{Hall, NewHall};
+pub use mud_chron::limits::MOST_DESKS;
 pub use name::HallName;
 pub use reader::Reader;
 pub use reply::Reply;

@@ -2,6 +2,7 @@
 
 ghost use Rattle.std.specs.Prelude.{◌≡◌, ◌≤◌, ◌++◌, length, IfOk};
 ghost use mathlib.Core.List.{IsPrefix};
+ghost use Rattle.mud_chron.specs.declared.limits.TheConstants.{MOST_ENTRIES};
 ghost use Rattle.mud_hall.specs.Settling.{IsGathered};
 
 use crate::close::gather;
@@ -52,7 +53,7 @@ impl<J: HallName> Reader<J> {
     /// How many entries were read.
     pub fn len(&self) -> u32
         ensures len { result ≡ length self.now }
-        ensures limit { result ≤ 65536 }
+        ensures limit { result ≤ MOST_ENTRIES }
     {
         self.pass.known()
     }

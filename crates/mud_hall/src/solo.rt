@@ -5,15 +5,16 @@ ghost use Rattle.std.specs.Prelude.{Some, None, IfOk, IfErr, OnOk, OnErr, IsTrue
 ghost use Rattle.std.specs.Thread.{IsSync};
 ghost use Rattle.mud_world.specs.State.{is_player};
 ghost use Rattle.mud_world.specs.Legal.{refusal, after};
+ghost use Rattle.mud_chron.specs.declared.limits.TheConstants.{MOST_ENTRIES};
 ghost use Rattle.mud_chron.specs.inner.Texts.{written_text};
 ghost use Rattle.mud_words.specs.Line.{line_of};
-ghost use Rattle.mud_words.specs.Parse.{parsed};
+ghost use Rattle.mud_words.specs.Parse.{parse_of};
 ghost use Rattle.mud_rules.specs.Outcome.{IsJourney, IsLawful};
 ghost use Rattle.mud_rules.specs.Replies.{reply_text};
 ghost use Rattle.mud_hall.specs.Told.{world_after};
 ghost use Rattle.mud_hall.specs.Desk.{as_player, as_accepted, with_told};
-ghost use Rattle.mud_hall.specs.Replies.{shown, verdict_on, Replies, Stores};
-ghost use Rattle.mud_hall.specs.Answers.{answered, Answers, IsGuided};
+ghost use Rattle.mud_hall.specs.Replies.{reply_shown, verdict_on, Replies, Stores};
+ghost use Rattle.mud_hall.specs.Answers.{answer_shown, Answers, IsGuided};
 ghost use Rattle.mud_hall.specs.Alone.{Alone, alone};
 
 use crate::answering;
@@ -63,7 +64,7 @@ impl Solo {
     /// The desk at first: the opening world, no entry, and the wizard, #1. The history holds at most
     /// `capacity` entries, up to 65,536. The only error is out of memory.
     pub fn open(alloc: Global, capacity: u32) -> Result<Solo, AllocError>
-        requires { capacity ≤ 65536 }
+        requires { capacity ≤ MOST_ENTRIES }
         ensures { IfOk result (λ solo. solo ≡ alone capacity 1 []) }
     {
         let world = World::opening(alloc)?;
@@ -89,7 +90,8 @@ impl Solo {
     /// desk is as it was.
     pub fn act(&mut self, line: &str) -> Result<Reply, Fault>
         ensures capacity { self.new.capacity ≡ self.old.capacity }
-        ensures replies { Replies self.old.capacity self.old.state (parsed line.now) (shown result) self.new.state }
+        ensures replies { Replies self.old.capacity self.old.state (parse_of line.now) (reply_shown result)
+            self.new.state }
         ensures stored { IfErr result (λ f. f ≢ Fault.Unpublished) }
     {
         let said = parse(self.alloc, line)?;
@@ -99,7 +101,8 @@ impl Solo {
     /// Acts on what a line says, as [`Solo::act`] on the line.
     pub fn act_on(&mut self, said: &Parsed) -> Result<Reply, Fault>
         ensures capacity { self.new.capacity ≡ self.old.capacity }
-        ensures replies { Replies self.old.capacity self.old.state (line_of said.now) (shown result) self.new.state }
+        ensures replies { Replies self.old.capacity self.old.state (line_of said.now) (reply_shown result)
+            self.new.state }
         ensures stored { IfErr result (λ f. f ≢ Fault.Unpublished) }
     {
         match self.verdict(said)? {
@@ -138,7 +141,7 @@ impl Solo {
     // How many changes were accepted.
     fn version(&self) -> u32
         ensures version { result ≡ length self.now.state.seen }
-        ensures limit { result ≤ 65536 }
+        ensures limit { result ≤ MOST_ENTRIES }
     {
         // for the prover: reading the field says that the history has at most 65,536 entries
         let _capacity = self.capacity;
@@ -158,7 +161,7 @@ impl Solo {
     fn store(&mut self, change: Change) -> Result<Reply, Fault>
         requires { IsLawful (world_after self.old.state.seen) self.old.state.player (Verdict.Change change) }
         ensures capacity { self.new.capacity ≡ self.old.capacity }
-        ensures stores { Stores self.old.capacity self.old.state change (shown result) self.new.state }
+        ensures stores { Stores self.old.capacity self.old.state change (reply_shown result) self.new.state }
         ensures stored { IfErr result (λ f. f ≢ Fault.Unpublished) }
     {
         let version = self.version() + 1;
@@ -197,7 +200,7 @@ impl Solo {
 
     /// Answers a line, as `Desk::ask_with` at an open gate.
     pub fn ask<R: Threads + Wait + Sync>(&self, rt: &R, line: &str) -> Result<Answer, AllocError>
-        ensures { IfOk result (λ a. Answers self.now.state (parsed line.now) (answered a)) }
+        ensures { IfOk result (λ a. Answers self.now.state (parse_of line.now) (answer_shown a)) }
     {
         let said = parse(self.alloc, line)?;
         self.ask_on(rt, &said)
@@ -209,7 +212,7 @@ impl Solo {
         rt: &R,
         said: &Parsed,
     ) -> Result<Answer, AllocError>
-        ensures { IfOk result (λ a. Answers self.now.state (line_of said.now) (answered a)) }
+        ensures { IfOk result (λ a. Answers self.now.state (line_of said.now) (answer_shown a)) }
     {
         let workers = self.workers as usize;
         let by = Through {
@@ -217,7 +220,7 @@ impl Solo {
                 Answer,
                 AllocError,
             >
-                requires { IsSync R.row × (version ≤ 65536)
+                requires { IsSync R.row × (version ≤ MOST_ENTRIES)
                     × IsTrue (is_player world.now player) × IsJourney world.now journey.now }
                 ensures version { IfOk result (λ a. a.version ≡ version) }
                 ensures guided { IfOk result (IsGuided world.now version (Some player) journey.now) }
@@ -233,7 +236,7 @@ impl Solo {
     // Answers what a line says.
     fn respond<S: Guide>(&self, by: &S, said: &Parsed) -> Result<Answer, AllocError>
         requires { S.ready by.now }
-        ensures { IfOk result (λ a. Answers self.now.state (line_of said.now) (answered a)) }
+        ensures { IfOk result (λ a. Answers self.now.state (line_of said.now) (answer_shown a)) }
     {
         let (version, player) = (self.version(), Some(self.player));
         match answering::respond(by, self.alloc, &self.world, version, player, said)? {

@@ -1,6 +1,8 @@
 //! Answers that are texts of lines: a history's, and a certificate's.
 
 ghost use Rattle.std.specs.Prelude.{◌≡◌, ◌≤◌, ◌++◌, [], ◌∷◌, List, ℕ, IfOk, codes, length, string_bytes};
+ghost use Rattle.mud_chron.specs.declared.limits.TheConstants.{MOST_ENTRIES};
+ghost use Rattle.mud_chron.specs.declared.codes.TheConstants.{LF};
 ghost use Rattle.mud_chron.specs.inner.Texts.{written_text};
 ghost use Rattle.mud_cert.specs.Text.{cert_text};
 
@@ -12,7 +14,7 @@ use std::alloc::{AllocError, Global};
 
 /// The answer to `@history`: the word, and the lines of the history text, the last without its end.
 pub(crate) fn history_answer(alloc: Global, history: &[Entry]) -> Result<String, AllocError>
-    requires { length history.now ≤ 65536 }
+    requires { length history.now ≤ MOST_ENTRIES }
     ensures { IfOk result (λ text. string_bytes text ++ codes "\n" ≡ codes "history\n" ++ written_text history.now) }
 {
     let mut text = String::from_str(alloc, "history\n")?;
@@ -49,7 +51,7 @@ pub(crate) fn proof_answer(alloc: Global, cert: &Cert) -> Result<String, AllocEr
 
 // The text without the LF that ends its last line.
 fn without_last_line_end(text: String) -> String
-    requires { (front : List ℕ) × (string_bytes text ≡ front ++ 10 ∷ []) }
+    requires { (front : List ℕ) × (string_bytes text ≡ front ++ LF ∷ []) }
     ensures { string_bytes result ++ codes "\n" ≡ string_bytes text }
 {
     let mut text = text;

@@ -13,7 +13,7 @@ use Rattle.mud_chron.specs.Entry.{Entry}
 use Rattle.mud_chron.specs.inner.Texts.{written_text}
 use Rattle.mud_chron.specs.Text.{line_feed}
 use Rattle.mud_hall.specs.Desk.{View}
-use Rattle.mud_hall.specs.Settling.{HasNumber, IsSettled, made}
+use Rattle.mud_hall.specs.Settling.{HasNumber, IsSettled, entries_made}
 use Rattle.mud_hall.specs.Steps.{AreLoadable}
 use Rattle.mud_journal.specs.Disk.{Kept, Holds}
 use Rattle.mud_house.specs.declared.fault.ListenFault.{ListenFault}
@@ -41,7 +41,8 @@ may_end limits loaded history desks few settled loadable = record {
   desks = map number_of desks;
   few = subst (λ m. m ≤ limits.sessions) (sym (length-map desks number_of)) few;
   of_desks = All-weaker (λ (e : Entry). HasNumber desks e.desk)
-      (λ e. Contains (map number_of desks) e.desk) (λ e. numbered desks e.desk) (made loaded history) settled.named;
+      (λ e. Contains (map number_of desks) e.desk) (λ e. numbered desks e.desk) (entries_made loaded history)
+      settled.named;
 }
 
 pub end_of : (limits : Limits) (loaded begun history : List Entry) → begun ≡ loaded

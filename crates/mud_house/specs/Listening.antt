@@ -9,7 +9,7 @@ use Rattle.mud_chron.specs.Entry.{Entry}
 use Rattle.mud_chron.specs.Text.{line_feed, history_text}
 use Rattle.mud_chron.specs.declared.format.Format.TheVariants.{Two}
 use Rattle.mud_hall.specs.Opening.{IsLoadFault}
-use Rattle.mud_hall.specs.Settling.{made}
+use Rattle.mud_hall.specs.Settling.{entries_made}
 use Rattle.mud_hall.specs.Steps.{AreLoadable}
 use Rattle.mud_house.specs.declared.limits.Limits.{Limits}
 use Rattle.mud_house.specs.declared.fault.ListenFault.{ListenFault}
@@ -34,7 +34,7 @@ pub record MayEnd (limits : Limits) (loaded history : List Entry) : Type 0 where
   pub begun : IsPrefix loaded history
   pub desks : List ℕ
   pub few : length desks ≤ limits.sessions
-  pub of_desks : All (λ e. Contains desks e.desk) (made loaded history)
+  pub of_desks : All (λ e. Contains desks e.desk) (entries_made loaded history)
 
 -- the lines of some ports: one is of the web exactly where there is a door on the web
 pub record Opening (has_web : Bool) : Type 0 where

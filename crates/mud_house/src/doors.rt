@@ -41,7 +41,7 @@ pub struct Site {
 
 impl Doors {
     /// Where connections come, and what is at the door on the web.
-    pub fn parted(self) -> (Listeners, Option<Site>) {
+    pub fn into_parts(self) -> (Listeners, Option<Site>) {
         let Doors { telnet, web } = self;
         match web {
             None => (Listeners { telnet, web: None }, None),

@@ -1,8 +1,9 @@
 //! The history that a server ends with.
 
-ghost use Rattle.std.specs.Prelude.{◌≡◌, ◌≤◌, ℕ, List, length, IfOk, IfErr, OnOk};
+ghost use Rattle.std.specs.Prelude.{◌≡◌, ◌≤◌, ◌+◌, ℕ, List, length, IfOk, IfErr, OnOk};
 ghost use Rattle.mud_ends.specs.Ends.{Writer};
 ghost use Rattle.mud_chron.specs.Entry.{Entry};
+ghost use Rattle.mud_chron.specs.declared.limits.TheConstants.{MOST_ENTRIES};
 ghost use mathlib.Core.List.{IsPrefix};
 ghost use Rattle.mud_hall.specs.Settling.{IsGathered};
 ghost use Rattle.mud_hall.specs.Steps.{AreLoadable};
@@ -29,7 +30,7 @@ pub fn settle<J: HallName, R: Wait>(
     desks: Vec<Desk<J>>,
 ) -> Result<History, ListenFault>
     requires few { length desks.items ≤ limits.sessions }
-    requires capacity { limits.capacity ≤ 65536 }
+    requires capacity { limits.capacity ≤ MOST_ENTRIES }
     ensures ends { IfOk result (λ history. MayEnd limits J.loaded history) }
     ensures gathered { IfOk result (λ history. IsGathered J.loaded desks.items history) }
     ensures fault { IfErr result (λ f. (capacity : ℕ) (loaded : List Entry) (old new : Writer)
@@ -55,7 +56,7 @@ pub fn settle_journaled<J: HallName, D: Disk + Drop, R: Wait>(
     scribe: Scribe<J, D>,
 ) -> Result<(History, Journal<D>), ListenFault>
     requires few { length desks.items ≤ limits.sessions }
-    requires capacity { limits.capacity ≤ 65536 }
+    requires capacity { limits.capacity ≤ MOST_ENTRIES }
     requires begun { IsPrefix J.loaded scribe.entries }
     ensures ends { IfOk result (λ s. MayEnd limits J.loaded s.0) }
     ensures journaled { IfOk result (λ s. Holds (D.kept s.1.disk) s.0) }
@@ -86,7 +87,7 @@ fn of_close(fault: CloseFault) -> ListenFault
 // Tries whether a hall of this capacity can begin with the history, as a load does; the history stays as it was. A
 // settlement does not say of its entries that each is legal where it stands.
 fn try_history(alloc: Global, capacity: u32, history: &mut History) -> Result<(), ListenFault>
-    requires { capacity ≤ 65536 }
+    requires { capacity ≤ MOST_ENTRIES }
     ensures same { history.new ≡ history.old }
     ensures loadable { OnOk result (AreLoadable capacity history.old) }
     ensures fault { IfErr result (λ f. (limit : ℕ) (loaded : List Entry) (old new : Writer)
@@ -104,7 +105,7 @@ fn try_history(alloc: Global, capacity: u32, history: &mut History) -> Result<()
 
 // The entry of this version is not one that a history can have there.
 fn at_odds(version: usize) -> ListenFault
-    requires { version ≤ 65537 }
+    requires { version ≤ MOST_ENTRIES + 1 }
     ensures { (limit : ℕ) (loaded : List Entry) (old new : Writer) → IsListenFault limit loaded old new result }
 {
     ListenFault::Settle(CloseFault::Mismatch(version as u32))

@@ -1,6 +1,7 @@
 //! A hall, and the places for its sessions.
 
 ghost use Rattle.std.specs.Prelude.{◌≡◌, ◌≤◌, IfOk, length};
+ghost use Rattle.mud_search.specs.declared.limits.TheConstants.{MOST_WORKERS};
 
 use crate::doors::Site;
 use crate::limits::Limits;
@@ -49,7 +50,7 @@ pub struct House<H, D, B> {
     players: AtomicU32,
     stops: AtomicBool,
     was_warned: AtomicBool,
-    ghost few: { limits.workers ≤ 8 },
+    ghost few: { limits.workers ≤ MOST_WORKERS },
 }
 
 // This many free places.
@@ -118,7 +119,7 @@ impl<J: HallName> House<Hall<J>, Places<J>, Bells> {
         gate: Gate,
         site: Option<Site>,
     ) -> Result<House<Hall<J>, Places<J>, Bells>, AllocError>
-        requires { limits.workers ≤ 8 }
+        requires { limits.workers ≤ MOST_WORKERS }
         ensures { IfOk result (λ house. length house.places.list.items ≡ limits.sessions) }
     {
         Ok(House {

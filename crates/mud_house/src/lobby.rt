@@ -129,7 +129,7 @@ impl Lobby {
     }
 
     /// How many sessions have begun, where they count for a total.
-    pub fn begun(&self) -> u32 {
+    pub fn begun_count(&self) -> u32 {
         self.begun.load(Ordering::SeqCst)
     }
 }

@@ -28,7 +28,7 @@ impl Readiness {
 }
 
 // What is asked about a listener.
-fn asked(listener: &TcpListener) -> pollfd {
+fn poll_of(listener: &TcpListener) -> pollfd {
     pollfd {
         fd: listener.as_raw_fd(),
         events: POLLIN,
@@ -38,7 +38,7 @@ fn asked(listener: &TcpListener) -> pollfd {
 
 /// Waits a moment until one of two listeners has a connection; nothing where that can't be found out.
 pub fn wait_for_either(telnet: &TcpListener, web: &TcpListener) -> Option<Readiness> {
-    let mut both = [asked(telnet), asked(web)];
+    let mut both = [poll_of(telnet), poll_of(web)];
     if poll(&mut both, ACCEPT_MILLISECONDS as i32) < 0 {
         return None;
     }

@@ -1,10 +1,11 @@
 //! The file of a journal.
 
 ghost use Rattle.std.specs.Prelude.{◌≡◌, ◌≤◌, IfOk, length};
+ghost use Rattle.mud_chron.specs.declared.limits.TheConstants.{MOST_ENTRIES};
 
 use crate::fault::OpenFault;
 use crate::journal::Found;
-use crate::recovery::recovered;
+use crate::recovery::recover;
 use mud_chron::Entry;
 use std::fs::{File, OpenOptions, TryLockError};
 use std::io::{self, Read};
@@ -49,14 +50,14 @@ fn read_file<R: Files<File = File> + AllocGlobal>(
     Ok(bytes)
 }
 
-/// Opens the file of this name, which may be new, and has it for this program only. Answers what is [`recovered`] from
+/// Opens the file of this name, which may be new, and has it for this program only. Answers what [`recover`] finds in
 /// its bytes: the journal, its entries, and how many bytes at its end are torn. No byte of the file changes.
 pub fn found<R: Files<File = File> + AllocGlobal>(
     rt: &R,
     name: &str,
 ) -> Result<(Found<File>, Vec<Entry>, usize), OpenFault>
     ensures count { IfOk result (λ f. f.0.count ≡ length f.1.items) }
-    ensures few { IfOk result (λ f. length f.1.items ≤ 65536) }
+    ensures few { IfOk result (λ f. length f.1.items ≤ MOST_ENTRIES) }
 {
     let mut file = match open_file(rt, name) {
         Ok(file) => file,
@@ -67,5 +68,5 @@ pub fn found<R: Files<File = File> + AllocGlobal>(
         Ok(bytes) => bytes,
         Err(error) => return Err(OpenFault::of_file(&error)),
     };
-    recovered(rt.alloc(), file, &bytes)
+    recover(rt.alloc(), file, &bytes)
 }

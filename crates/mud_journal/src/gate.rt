@@ -7,7 +7,7 @@ use std::sync::{Condvar, Mutex, Wait};
 
 // What is asked of a journal, and what it answered.
 #[derive(Drop)]
-struct State {
+struct Mark {
     // The last version that is to be synced.
     wanted: usize,
     // What the journal synced; a gate without a journal keeps that of nothing.
@@ -23,7 +23,7 @@ struct State {
 /// else is locked. A gate without a journal is open: nothing waits there, and its lock is not taken.
 #[derive(Drop)]
 pub struct Gate {
-    state: Mutex<State>,
+    state: Mutex<Mark>,
     is_open: bool,
     // There is something to be synced, or the gate is closed.
     work: Condvar,
@@ -37,7 +37,7 @@ fn gate_at(synced: Receipt, is_open: bool) -> Gate
     ensures { result.is_open ≡ is_open }
 {
     Gate {
-        state: Mutex::new(State {
+        state: Mutex::new(Mark {
             wanted: synced.up_to(),
             synced,
             has_failed: false,
@@ -72,7 +72,7 @@ impl Gate {
     }
 
     /// How many entries are synced; where there is no journal, the largest number.
-    pub fn synced<R: Wait>(&self, rt: &R) -> usize {
+    pub fn synced_count<R: Wait>(&self, rt: &R) -> usize {
         if self.is_open {
             return usize::MAX;
         }

@@ -83,7 +83,7 @@ fn push_entries(
     text: &mut String,
 ) -> Result<(), AllocError>
     requires from { 1 ≤ version }
-    requires to { version + length entries.now ≤ 65537 }
+    requires to { version + length entries.now ≤ MOST_ENTRIES + 1 }
     ensures { OnOk result (string_bytes text.new ≡ string_bytes text.old ++ entries_text version entries.now) }
 {
     let mut next = version as u32;
@@ -164,7 +164,7 @@ impl<D: Disk + Drop> Journal<D> {
         ensures failed { OnErr result (self.new.has_failed ≡ true) }
         ensures same_count { OnErr result (self.new.count ≡ self.old.count) }
         ensures closed { self.old.has_failed ≡ true → (result ≡ Err JournalFault.Disk) × (self.new ≡ self.old) }
-        ensures full { result ≡ Err JournalFault.Full → 65536 < self.old.count + length entries.now }
+        ensures full { result ≡ Err JournalFault.Full → MOST_ENTRIES < self.old.count + length entries.now }
         ensures no_mismatch { result ≡ Err JournalFault.Mismatch → ⊥ }
     {
         if self.has_failed {

@@ -1,6 +1,6 @@
 //! A journal: a history's text, without its last line, that grows on a disk.
 //!
-//! [`found`] opens the file of a journal and reads what is there, without a change to it; [`recovered`] does the same
+//! [`found`] opens the file of a journal and reads what is there, without a change to it; [`recover`] does the same
 //! for the bytes of any disk. [`Found::begin`] cuts off what is torn, and goes on. [`Journal::commit`] adds entries by
 //! one append and one sync, and answers a [`Receipt`]. A [`Gate`] is told of receipts, and lets go those who wait for
 //! them: the bytes of a [`Held`] text come out only by a receipt for its version.
@@ -24,4 +24,4 @@ pub use file::found;
 pub use gate::Gate;
 pub use held::{Anything, Held, Telling};
 pub use journal::{Found, Journal, Receipt};
-pub use recovery::recovered;
+pub use recovery::recover;

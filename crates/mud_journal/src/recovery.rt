@@ -44,7 +44,7 @@ fn front_of(alloc: Global, bytes: &[u8]) -> Result<Front, OpenFault>
 
 /// The journal that is found on a disk whose bytes are these, whatever byte it was cut at; its entries; and how many
 /// bytes at its end are torn. The disk is not asked and not changed.
-pub fn recovered<D: Disk + Drop>(
+pub fn recover<D: Disk + Drop>(
     alloc: Global,
     disk: D,
     bytes: &[u8],

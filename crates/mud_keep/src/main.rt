@@ -15,7 +15,7 @@ use mud_chron::ChronFault;
 use mud_command::{CommandFault, Keeping, Wish, keeping_of, show, words_of};
 use mud_ends::Sink;
 use mud_keeping::{Answer, Note, recovered_text, shorter_text, world_table};
-use mud_map::{mapped, mapped_with};
+use mud_map::{map_of, mapped_with};
 use std::alloc::Global;
 use std::io;
 use std::process::ExitCode;
@@ -23,7 +23,7 @@ use std::process::ExitCode;
 fn main(rt: HostRuntime) -> ExitCode {
     match words_of(&rt) {
         Ok(words) => run(&rt, words.as_slice()),
-        Err(fault) => unasked(&rt, fault),
+        Err(fault) => tell_fault(&rt, fault),
     }
 }
 
@@ -32,7 +32,7 @@ fn run(rt: &HostRuntime, words: &[String]) -> ExitCode {
     match keeping_of(rt.alloc(), words) {
         Ok(Keeping::Text { wish, file }) => text(rt, wish, file),
         Ok(Keeping::Map { file, proof }) => map(rt, file, proof),
-        Err(fault) => unasked(rt, fault),
+        Err(fault) => tell_fault(rt, fault),
     }
 }
 
@@ -52,7 +52,7 @@ fn text(rt: &HostRuntime, wish: Wish, file: &str) -> ExitCode {
         Err(unkept) => return unread(rt, unkept),
     };
     match answer_to(rt.alloc(), wish, &bytes) {
-        Ok(answer) => ended(rt, answer.text.as_bytes(), answer.note),
+        Ok(answer) => print_answer(rt, answer.text.as_bytes(), answer.note),
         Err(fault) => unread(rt, Unkept::of_text(fault)),
     }
 }
@@ -64,8 +64,8 @@ fn map(rt: &HostRuntime, file: &str, proof: Option<&str>) -> ExitCode {
         Err(unkept) => return unread(rt, unkept),
     };
     let Some(proof) = proof else {
-        return match mapped(rt.alloc(), &bytes) {
-            Ok(text) => ended(rt, &text, Note::Nothing),
+        return match map_of(rt.alloc(), &bytes) {
+            Ok(text) => print_answer(rt, &text, Note::Nothing),
             Err(fault) => unread(rt, Unkept::of_text(fault)),
         };
     };
@@ -74,13 +74,13 @@ fn map(rt: &HostRuntime, file: &str, proof: Option<&str>) -> ExitCode {
         Err(unkept) => return unread(rt, unkept),
     };
     match mapped_with(rt.alloc(), &bytes, &proof) {
-        Ok(text) => ended(rt, &text, Note::Nothing),
+        Ok(text) => print_answer(rt, &text, Note::Nothing),
         Err(fault) => unread(rt, Unkept::of_map(fault)),
     }
 }
 
 // Says why the words ask for nothing, and answers the status.
-fn unasked(rt: &HostRuntime, fault: CommandFault) -> ExitCode {
+fn tell_fault(rt: &HostRuntime, fault: CommandFault) -> ExitCode {
     match fault {
         CommandFault::OutOfMemory => unread(rt, Unkept::OutOfMemory),
         CommandFault::Told(text) => ExitCode::from(show(rt, text.as_str())),
@@ -94,7 +94,7 @@ fn unread(rt: &HostRuntime, unkept: Unkept<'_>) -> ExitCode {
 }
 
 // Prints the text, tells what is told beside it, and answers the status.
-fn ended(rt: &HostRuntime, text: &[u8], note: Note) -> ExitCode {
+fn print_answer(rt: &HostRuntime, text: &[u8], note: Note) -> ExitCode {
     let mut sink = Sink::new(io::writer(rt));
     if !sink.write_all(text) {
         return unread(rt, Unkept::Write);

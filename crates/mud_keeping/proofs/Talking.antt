@@ -9,7 +9,7 @@ use Rattle.mud_world.specs.State.{State}
 use Rattle.mud_world.specs.Opening.{opening_state}
 use Rattle.mud_world.specs.Legal.{refusal, after, deed_result}
 use Rattle.mud_world.specs.History.{world_from}
-use Rattle.mud_world.specs.inner.Parts.{stepped}
+use Rattle.mud_world.specs.inner.Parts.{step_or_same}
 use Rattle.mud_world.specs.declared.change.Change.{Change}
 use Rattle.mud_world.specs.declared.change.Deed.{Deed}
 use Rattle.mud_world.specs.declared.change.Deed.TheVariants.{Dig, Make, Lock, Unlock, Move, Walk, Cost, Player, Rename}
@@ -35,7 +35,7 @@ silent w actor (Rename object names) is = absurd (true≢false (sym is))
 silent w actor (Recycle object) is = absurd (true≢false (sym is))
 
 -- a legal change is made
-made : (w : State) (c : Change) → refusal w c ≡ None → stepped w c ≡ after w c
+made : (w : State) (c : Change) → refusal w c ≡ None → step_or_same w c ≡ after w c
 made w c legal = ap (λ o. if is_none o then after w c else w) legal
 
 -- the shorter entries are legal from here on and lead to where the longer do

@@ -8,7 +8,7 @@ use Rattle.mud_world.specs.State.{State}
 use Rattle.mud_world.specs.declared.record.Kind.{Kind}
 use Rattle.mud_world.specs.declared.record.Kind.TheVariants.{Room, Exit, Thing, Player}
 use Rattle.mud_world.specs.declared.record.Record.{Record}
-use Rattle.mud_chron.specs.Text.{line_feed, quoted}
+use Rattle.mud_chron.specs.Text.{line_feed, in_quotes}
 
 -- the kind in a word
 abbrev pub kind_word : Kind → List ℕ
@@ -33,7 +33,7 @@ lock_text (Some key) = codes " key " ++ printed (by_text key)
 
 -- the number of an object, its kind, its names and its owner
 abbrev pub head_text : ℕ → Record → List ℕ
-head_text n r = number_text n ++ kind_word r.kind ++ quoted r.names ++ codes " owner " ++ number_text r.owner
+head_text n r = number_text n ++ kind_word r.kind ++ in_quotes r.names ++ codes " owner " ++ number_text r.owner
 
 -- the row of object n, with its end
 abbrev pub row : ℕ → Record → List ℕ

@@ -1,6 +1,7 @@
 //! What is read of a history or a journal.
 
 ghost use Rattle.std.specs.Prelude.{◌≢◌, ◌≤◌, length, IfOk, IfErr, string_bytes};
+ghost use Rattle.mud_chron.specs.declared.limits.TheConstants.{MOST_ENTRIES};
 ghost use Rattle.mud_chron.specs.Fronts.{HasFrontFault};
 ghost use Rattle.mud_keeping.specs.Reading.{KeepsEntries, HasKeptFault, IsRecovered};
 
@@ -11,7 +12,7 @@ use std::alloc::Global;
 /// bytes have the fault of a journal, or, where a line of that is bad, that of a history. Else the only error is out of
 /// memory.
 pub fn read_kept(alloc: Global, bytes: &[u8]) -> Result<Vec<Entry>, ChronFault>
-    ensures few { IfOk result (λ entries. length entries.items ≤ 65536) }
+    ensures few { IfOk result (λ entries. length entries.items ≤ MOST_ENTRIES) }
     ensures ok { IfOk result (λ entries. KeepsEntries bytes.now entries.items) }
     ensures err { IfErr result (λ fault. fault ≢ ChronFault.OutOfMemory → HasKeptFault bytes.now fault) }
 {

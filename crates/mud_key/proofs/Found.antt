@@ -6,6 +6,7 @@ use Rattle.std.specs.Option.{option_and_then}
 use Rattle.std.proofs.lemmas.List.Elements.{All-head}
 use Rattle.std.proofs.lemmas.Slice.Eq.{bytes_eq-Decides}
 use Rattle.std.proofs.lemmas.Bool.{leb-true, le-leb, and_parts, and_from, true≢false}
+use Rattle.mud_key.specs.declared.limits.TheConstants.{MOST_OBJECTS, MOST_NOTS}
 use Rattle.mud_key.specs.declared.names.NamesFault.{NamesFault}
 use Rattle.mud_key.specs.declared.names.NamesFault.TheVariants.{OutOfMemory as NoMemory, BadName}
 use Rattle.mud_key.specs.declared.key_fault.KeyFault.{KeyFault}
@@ -13,9 +14,9 @@ use Rattle.mud_key.specs.declared.key_fault.KeyFault.TheVariants.{OutOfMemory, B
 use Rattle.mud_key.specs.Tree.{Tree, objects_of, nots_of, IsWithinLimits}
 use Rattle.mud_key.specs.Name.{IsName}
 use Rattle.mud_key.specs.inner.NamesTexts.{IsNamesText, NamesReadAs, NameReadsAs, is_only, one}
-use Rattle.mud_key.specs.inner.NameReader.{Stand, name_run, name_start, settled}
+use Rattle.mud_key.specs.inner.NameReader.{Stand, name_run, name_start, names_at_end}
 use Rattle.mud_key.specs.KeyText.{SpellsKey, ReadsAs}
-use Rattle.mud_key.specs.inner.Machine.{run, start, State, Mode, settled as mode_settled}
+use Rattle.mud_key.specs.inner.Machine.{run, start, State, Mode, chain_at_end}
 use Rattle.mud_key.specs.inner.Builder.{outer_settled}
 use Rattle.mud_key.specs.Reading.{names_in, name_in, key_in, is_within_limits, FindsNames, FindsName, FindsKey}
 use Rattle.mud_key.specs.Laws.{IsTheName, IsTheKey}
@@ -27,7 +28,7 @@ use Rattle.mud_key.proofs.Complete.{taken, one_key, Reaches}
 -- ---- names
 
 found_names : (text : List ℕ) (names : List (List ℕ)) (s : Option Stand) → name_run (Some name_start) text ≡ s
-    → option_and_then settled s ≡ Some names → IsNamesText text names
+    → option_and_then names_at_end s ≡ Some names → IsNamesText text names
 found_names text names None e h = absurd (let bad : ◌≡◌ {A = Option (List (List ℕ))} None (Some names) = h in cc)
 found_names text names (Some s) e h = names_sound text s names e h
 
@@ -35,7 +36,7 @@ pub names_law : (text : List ℕ) (names : List (List ℕ)) → (names_in text �
 unfolding names_in
 names_law = λ text names. (
   (λ h. found_names text names (name_run (Some name_start) text) refl h),
-  (λ spells. let t = names_taken text names spells in ap (option_and_then settled) t.1 ∙ t.2),
+  (λ spells. let t = names_taken text names spells in ap (option_and_then names_at_end) t.1 ∙ t.2),
 )
 
 pub names_found : (text : List ℕ) (result : Result (List (List ℕ)) NamesFault) → NamesReadAs text result
@@ -125,11 +126,11 @@ not_alone text names h e is =
 -- ---- keys
 
 within : (k : Tree (List ℕ)) → IsWithinLimits k → is_within_limits k ≡ true
-within k h = and_from _ _ (le-leb (objects_of k) 16 h.objects) (le-leb (nots_of k) 64 h.nots)
+within k h = and_from _ _ (le-leb (objects_of k) MOST_OBJECTS h.objects) (le-leb (nots_of k) MOST_NOTS h.nots)
 
 is_within : (k : Tree (List ℕ)) → is_within_limits k ≡ true → IsWithinLimits k
-is_within k e = let parts = and_parts (nat_le (objects_of k) 16) (nat_le (nots_of k) 64) e in
-    record { objects = leb-true (objects_of k) 16 parts.0; nots = leb-true (nots_of k) 64 parts.1 }
+is_within k e = let parts = and_parts (nat_le (objects_of k) MOST_OBJECTS) (nat_le (nots_of k) MOST_NOTS) e in
+    record { objects = leb-true (objects_of k) MOST_OBJECTS parts.0; nots = leb-true (nots_of k) MOST_NOTS parts.1 }
 
 abbrev limited : Tree (List ℕ) → Option (Tree (List ℕ))
 limited key = if is_within_limits key then Some key else None
@@ -144,7 +145,7 @@ limited_is k key true e h =
 limited_is k key false e h = absurd (let bad : ◌≡◌ {A = Option (Tree (List ℕ))} None (Some key) = h in cc)
 
 settled_key : (text : List ℕ) (key : Tree (List ℕ)) (m : Mode) (o : Option (Tree (List ℕ)))
-    → run start text ≡ Some ([], m) → mode_settled m ≡ o → option_and_then limited o ≡ Some key
+    → run start text ≡ Some ([], m) → chain_at_end m ≡ o → option_and_then limited o ≡ Some key
     → SpellsKey text key × IsWithinLimits key
 settled_key text key m None at e h = absurd (let bad : ◌≡◌ {A = Option (Tree (List ℕ))} None (Some key) = h in cc)
 settled_key text key m (Some k) at e h =
@@ -154,7 +155,7 @@ settled_key text key m (Some k) at e h =
 found_key : (text : List ℕ) (key : Tree (List ℕ)) (s : Option State) → run start text ≡ s
     → option_and_then limited (option_and_then whole_of s) ≡ Some key → SpellsKey text key × IsWithinLimits key
 found_key text key None at h = absurd (let bad : ◌≡◌ {A = Option (Tree (List ℕ))} None (Some key) = h in cc)
-found_key text key (Some ([], m)) at h = settled_key text key m (mode_settled m) at refl h
+found_key text key (Some ([], m)) at h = settled_key text key m (chain_at_end m) at refl h
 found_key text key (Some (f ∷ outer, m)) at h =
     absurd (let bad : ◌≡◌ {A = Option (Tree (List ℕ))} None (Some key) = h in cc)
 

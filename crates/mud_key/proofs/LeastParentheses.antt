@@ -6,6 +6,7 @@ use Rattle.std.specs.List.{All}
 use Rattle.std.specs.Fmt.{decimal}
 use Rattle.std.proofs.lemmas.Fmt.{decimal_by_steps, decimal_nonempty, length-decimal-le}
 use Rattle.std.proofs.lemmas.List.Elements.{All-nil, All-cons, All-push}
+use Rattle.mud_key.specs.declared.limits.TheConstants.{LAST_NUMBER}
 use Rattle.mud_key.specs.declared.operator.Operator.{Operator}
 use Rattle.mud_key.specs.declared.operator.Operator.TheVariants.{And, Or}
 use Rattle.mud_key.specs.Tree.{Tree, Has, Asks, Not, Join, AllObjects, IsKey}
@@ -15,7 +16,7 @@ use Rattle.mud_key.specs.KeyText.{unary, join, space_before, space_behind, Spell
 use Rattle.mud_key.specs.declared.namer.Miss.{Miss}
 use Rattle.mud_key.specs.Namer.{result_map, joined_result, resolved}
 use Rattle.mud_key.proofs.Complete.{one_key}
-use Rattle.mud_key.specs.Printed.{number_text, by_text, enclosed, printed, opens, ReadsBack}
+use Rattle.mud_key.specs.Printed.{number_text, by_text, in_parentheses, printed, opens, ReadsBack}
 
 -- a text that is an object as it stands
 abbrev pub IsObjectText : List ℕ → Type 0
@@ -23,7 +24,7 @@ IsObjectText o = Spells Object o (Has o)
 
 record Printed (k : Tree (List ℕ)) : Type 0 where
   chain : Spells Chain (printed k) k
-  operand : Spells Unary (enclosed k (printed k)) k
+  operand : Spells Unary (in_parentheses k (printed k)) k
 
 printed_spells : (k : Tree (List ℕ)) → AllObjects IsObjectText k → Printed k
 printed_spells (Has o) h = record { chain = unary (object h); operand = object h }
@@ -35,7 +36,7 @@ printed_spells (Join op a b) h = go (printed_spells a h.0) (printed_spells b h.1
     go : Printed a → Printed b → Printed (Join op a b)
     go p q =
         let whole : Spells Chain (printed (Join op a b)) (Join op a b) =
-        rw (append_assoc (printed a ++ codes " " ++ sign op) (codes " ") (enclosed b (printed b)))
+        rw (append_assoc (printed a ++ codes " " ++ sign op) (codes " ") (in_parentheses b (printed b)))
         (join (space_behind p.chain) op (space_before q.operand)) in
         record { chain = whole; operand = parentheses whole }
 
@@ -47,17 +48,17 @@ opens-append [] y = omega arith
 opens-append (b ∷ x) y = omega (arith, opens-append x y)
 
 abbrev Least : Level → List ℕ → Tree (List ℕ) → Type 0
-Least Object x k = opens (enclosed k (printed k)) ≤ opens x
-Least Unary x k = opens (enclosed k (printed k)) ≤ opens x
+Least Object x k = opens (in_parentheses k (printed k)) ≤ opens x
+Least Unary x k = opens (in_parentheses k (printed k)) ≤ opens x
 Least Chain x k = opens (printed k) ≤ opens x
 
-enclosed_at_most : (k : Tree (List ℕ)) → opens (enclosed k (printed k)) ≤ suc (opens (printed k))
+enclosed_at_most : (k : Tree (List ℕ)) → opens (in_parentheses k (printed k)) ≤ suc (opens (printed k))
 enclosed_at_most (Has o) = omega arith
 enclosed_at_most (Asks o) = omega arith
 enclosed_at_most (Not k) = omega arith
 enclosed_at_most (Join op a b) = omega (arith, opens-append (printed (Join op a b)) (41 ∷ []))
 
-enclosed_at_least : (k : Tree (List ℕ)) → opens (printed k) ≤ opens (enclosed k (printed k))
+enclosed_at_least : (k : Tree (List ℕ)) → opens (printed k) ≤ opens (in_parentheses k (printed k))
 enclosed_at_least (Has o) = omega arith
 enclosed_at_least (Asks o) = omega arith
 enclosed_at_least (Not k) = omega arith
@@ -91,7 +92,7 @@ least (join {x = x} {y = y} {a = a} {b = b} s op t) =
       arith,
       least s,
       least t,
-      opens-join (printed a) (sign op) (enclosed b (printed b)),
+      opens-join (printed a) (sign op) (in_parentheses b (printed b)),
       opens-append
           (x ++ sign op) y,
       opens-append x (sign op),
@@ -114,7 +115,7 @@ decimal_digits n h =
     P : ℕ → List ℕ → Type 0
     P m ds = All IsDigit ds
 
-number_is_object : (n : ℕ) → n ≤ 8191 → IsObjectText (number_text n)
+number_is_object : (n : ℕ) → n ≤ LAST_NUMBER → IsObjectText (number_text n)
 number_is_object n h =
     let small : n < 2 ^ 64 = omega arith in
     let few : n < 10 ^ 4 = omega arith in
@@ -127,21 +128,21 @@ number_is_object n h =
       each = decimal_digits n small;
     })
 
-all_objects : (k : Tree ℕ) → AllObjects (λ n. n ≤ 8191) k → AllObjects IsObjectText (by_text k)
+all_objects : (k : Tree ℕ) → AllObjects (λ n. n ≤ LAST_NUMBER) k → AllObjects IsObjectText (by_text k)
 all_objects (Has n) h = number_is_object n h
 all_objects (Asks n) h = number_is_object n h
 all_objects (Not k) h = all_objects k h
 all_objects (Join op a b) h = (all_objects a h.0, all_objects b h.1)
 
-key_reads_back : (k : Tree ℕ) (text : List ℕ) → AllObjects (λ n. n ≤ 8191) k → text ≡ printed (by_text k)
+key_reads_back : (k : Tree ℕ) (text : List ℕ) → AllObjects (λ n. n ≤ LAST_NUMBER) k → text ≡ printed (by_text k)
     → SpellsKey text (by_text k)
 key_reads_back k text h same = rw same (printed_is_key_text (by_text k) (all_objects k h))
 
 pub key_is_least : (k : Tree ℕ) (text : List ℕ) → text ≡ printed (by_text k) → HasLeastParentheses text (by_text k)
 key_is_least k text same = rw same (printed_is_least (by_text k))
 
-named_again : (meaning : List ℕ → Result ℕ Miss) → ((n : ℕ) → n ≤ 8191 → meaning (number_text n) ≡ Ok n) → (k : Tree ℕ)
-    → AllObjects (λ n. n ≤ 8191) k → resolved meaning (by_text k) ≡ Ok k
+named_again : (meaning : List ℕ → Result ℕ Miss) → ((n : ℕ) → n ≤ LAST_NUMBER → meaning (number_text n) ≡ Ok n)
+    → (k : Tree ℕ) → AllObjects (λ n. n ≤ LAST_NUMBER) k → resolved meaning (by_text k) ≡ Ok k
 named_again meaning own (Has n) h = ap (λ (r : Result ℕ Miss). result_map Has r) (own n h)
 named_again meaning own (Asks n) h = ap (λ (r : Result ℕ Miss). result_map Asks r) (own n h)
 named_again meaning own (Not k) h = ap (λ (r : Result (Tree ℕ) Miss). result_map Not r) (named_again meaning own k h)

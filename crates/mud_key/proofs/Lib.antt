@@ -5,7 +5,7 @@ pub mod Viable
 pub mod Scans
 pub mod Scanned
 pub mod Building
-pub mod Limits
+pub mod WithinLimits
 pub mod LeastParentheses
 pub mod Resolving
 pub mod Sizes

@@ -1,5 +1,6 @@
 -- A resolved key counts what its text counts.
 use Rattle.std.proofs.Common.{◌≡◌, ℕ, ◌+◌, List, ◌≤◌, Result, Ok, Err, refl, subst, arith}
+use Rattle.mud_key.specs.declared.limits.TheConstants.{LAST_NUMBER}
 use Rattle.mud_key.specs.declared.namer.Miss.{Miss}
 use Rattle.mud_key.specs.declared.operator.Operator.{Operator}
 use Rattle.mud_key.specs.Tree.{Tree, Has, Asks, Not, Join, objects_of, nots_of, AllObjects, IsWithinLimits, IsKey}
@@ -40,7 +41,7 @@ resolved_counts meaning (Join op a b) =
 
 -- a key that was resolved from a key text, to numbers
 pub resolved_key : (meaning : List ℕ → Result ℕ Miss) (t : Tree (List ℕ)) (k : Tree ℕ) → resolved meaning t ≡ Ok k
-    → IsWithinLimits t → AllObjects (λ n. n ≤ 8191) k → IsKey k
+    → IsWithinLimits t → AllObjects (λ n. n ≤ LAST_NUMBER) k → IsKey k
 resolved_key meaning t k e h numbers =
     go (subst (λ r. CountsAs (objects_of t) (nots_of t) r) e (resolved_counts meaning t))
   where

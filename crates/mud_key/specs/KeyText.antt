@@ -1,6 +1,8 @@
 -- Key texts: which text stands for which key, with no reading position.
 use Rattle.std.specs.Prelude.{ℕ, ◌<◌, ◌≤◌, List, ◌++◌, length, take, codes, Result, Ok, Err}
 use Rattle.std.specs.List.{All}
+use Rattle.mud_key.specs.declared.codes.TheConstants.{ZERO, NINE}
+use Rattle.mud_key.specs.declared.limits.TheConstants.{MOST_DIGITS}
 use Rattle.mud_key.specs.declared.key_fault.KeyFault.{KeyFault}
 use Rattle.mud_key.specs.declared.key_fault.KeyFault.TheVariants.{OutOfMemory, BadKey, TooManyAtoms}
 use Rattle.mud_key.specs.declared.operator.Operator.{Operator}
@@ -11,8 +13,8 @@ use Rattle.mud_key.specs.Name.{IsNameText}
 -- a sharp and one to nine digits
 pub record IsNumberText (digits : List ℕ) : Type 0 where
   pub some : 0 < length digits
-  pub few : length digits ≤ 9
-  pub each : All (λ b. (48 ≤ b) × (b ≤ 57)) digits
+  pub few : length digits ≤ MOST_DIGITS
+  pub each : All (λ b. (ZERO ≤ b) × (b ≤ NINE)) digits
 
 -- the sign of an operator
 abbrev pub sign : Operator → List ℕ

@@ -1,6 +1,8 @@
 -- The text that a key is printed as.
 use Rattle.std.specs.Prelude.{ℕ, ◌≤◌, ◌+◌, List, [], ◌∷◌, ◌++◌, codes, nat_eq, if◌then◌else◌, ◌≡◌, Result, Ok}
 use Rattle.std.specs.Fmt.{decimal}
+use Rattle.mud_key.specs.declared.codes.TheConstants.{PARENTHESIS}
+use Rattle.mud_key.specs.declared.limits.TheConstants.{LAST_NUMBER}
 use Rattle.mud_key.specs.Tree.{Tree, Has, Asks, Not, Join}
 use Rattle.mud_key.specs.declared.namer.Miss.{Miss}
 use Rattle.mud_key.specs.Namer.{resolved}
@@ -18,29 +20,29 @@ by_text (Not k) = Not (by_text k)
 by_text (Join op a b) = Join op (by_text a) (by_text b)
 
 -- the text of a key where a unary is wanted: in parentheses if the key joins two
-abbrev pub enclosed : Tree (List ℕ) → List ℕ → List ℕ
-enclosed (Join op a b) text = codes "(" ++ text ++ codes ")"
-enclosed other text = text
+abbrev pub in_parentheses : Tree (List ℕ) → List ℕ → List ℕ
+in_parentheses (Join op a b) text = codes "(" ++ text ++ codes ")"
+in_parentheses other text = text
 
 -- the printed text of a key
 abbrev pub printed : Tree (List ℕ) → List ℕ
 printed (Has o) = o
 printed (Asks o) = codes "?" ++ o
-printed (Not k) = codes "!" ++ enclosed k (printed k)
-printed (Join op a b) = printed a ++ codes " " ++ sign op ++ codes " " ++ enclosed b (printed b)
+printed (Not k) = codes "!" ++ in_parentheses k (printed k)
+printed (Join op a b) = printed a ++ codes " " ++ sign op ++ codes " " ++ in_parentheses b (printed b)
 
 -- how many parentheses a text opens
 abbrev pub opens : List ℕ → ℕ
 opens [] = 0
-opens (b ∷ text) = (if nat_eq b 40 then 1 else 0) + opens text
+opens (b ∷ text) = (if nat_eq b PARENTHESIS then 1 else 0) + opens text
 
 -- the text is a key text, and it is read as this key wherever each text `#n` means n
 pub record ReadsBack (text : List ℕ) (key : Tree ℕ) : Type 0 where
   pub is_key_text : (read : Tree (List ℕ)) × SpellsKey text read
   pub again : (read : Tree (List ℕ)) → SpellsKey text read → (meaning : List ℕ → Result ℕ Miss)
-      → ((n : ℕ) → n ≤ 8191 → meaning (number_text n) ≡ Ok n) → resolved meaning read ≡ Ok key
+      → ((n : ℕ) → n ≤ LAST_NUMBER → meaning (number_text n) ≡ Ok n) → resolved meaning read ≡ Ok key
 
--- the parentheses that `enclosed` puts round a key, or none; only clauses of private parts cite them
+-- the parentheses that `in_parentheses` puts round a key, or none; only clauses of private parts cite them
 abbrev pub opening_of : Tree (List ℕ) → List ℕ
 opening_of (Join op a b) = codes "("
 opening_of other = []

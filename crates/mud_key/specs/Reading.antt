@@ -3,19 +3,20 @@
 use Rattle.std.specs.Prelude.{◌≡◌, ℕ, Bool, ◌&&◌, nat_le, List, Option, Some, None, Result, Ok, Err}
 use Rattle.std.specs.Prelude.{if◌then◌else◌}
 use Rattle.std.specs.Option.{option_and_then}
+use Rattle.mud_key.specs.declared.limits.TheConstants.{MOST_OBJECTS, MOST_NOTS}
 use Rattle.mud_key.specs.declared.names.NamesFault.{NamesFault}
 use Rattle.mud_key.specs.declared.names.NamesFault.TheVariants.{OutOfMemory as NoMemory, BadName}
 use Rattle.mud_key.specs.declared.key_fault.KeyFault.{KeyFault}
 use Rattle.mud_key.specs.declared.key_fault.KeyFault.TheVariants.{OutOfMemory, BadKey, TooManyAtoms}
 use Rattle.mud_key.specs.Tree.{Tree, objects_of, nots_of}
 use Rattle.mud_key.specs.inner.NamesTexts.{is_only}
-use Rattle.mud_key.specs.inner.NameReader.{name_run, name_start, settled}
+use Rattle.mud_key.specs.inner.NameReader.{name_run, name_start, names_at_end}
 use Rattle.mud_key.specs.inner.Machine as machine
 use Rattle.mud_key.specs.inner.Builder.{outer_settled}
 
 -- the names of a text, where it is a names text. A reader need not look into this: `laws::names` says what it finds
 unfoldable pub names_in : List ℕ → Option (List (List ℕ))
-names_in text = option_and_then settled (name_run (Some name_start) text)
+names_in text = option_and_then names_at_end (name_run (Some name_start) text)
 
 -- the name that a text is, where it is one. A reader need not look into this: `laws::name` says what it finds
 unfoldable pub name_in : List ℕ → Option (List ℕ)
@@ -23,7 +24,7 @@ name_in text = option_and_then (λ names. if is_only text names then Some text e
 
 -- no more objects and `!` than a key can have
 abbrev pub is_within_limits : Tree (List ℕ) → Bool
-is_within_limits key = nat_le (objects_of key) 16 && nat_le (nots_of key) 64
+is_within_limits key = nat_le (objects_of key) MOST_OBJECTS && nat_le (nots_of key) MOST_NOTS
 
 -- the key of a key text within the limits. A reader need not look into this: `laws::key` says what it finds
 unfoldable pub key_in : List ℕ → Option (Tree (List ℕ))

@@ -1,5 +1,6 @@
 -- A key as a tree.
 use Rattle.std.specs.Prelude.{ℕ, ◌+◌, ◌≤◌, List, [], ◌∷◌, ◌++◌}
+use Rattle.mud_key.specs.declared.limits.TheConstants.{LAST_NUMBER, MOST_OBJECTS, MOST_NOTS}
 use Rattle.mud_key.specs.declared.operator.Operator.{Operator}
 
 -- a key over texts, as it is written, or over numbers: an object, one after `?`, `!` and a key, or two keys joined
@@ -39,13 +40,13 @@ AllObjects P (Join op a b) = AllObjects P a × AllObjects P b
 
 -- the key has at most 16 objects and at most 64 `!`
 pub record IsWithinLimits {O : Type 0} (key : Tree O) : Type 0 where
-  pub objects : objects_of key ≤ 16
-  pub nots : nots_of key ≤ 64
+  pub objects : objects_of key ≤ MOST_OBJECTS
+  pub nots : nots_of key ≤ MOST_NOTS
 
 -- what is true of every key over numbers: it is within the limits, and no number is above 8,191
 pub record IsKey (key : Tree ℕ) : Type 0 where
   pub limits : IsWithinLimits key
-  pub numbers : AllObjects (λ n. n ≤ 8191) key
+  pub numbers : AllObjects (λ n. n ≤ LAST_NUMBER) key
 
 -- the objects of the key, each as often as it stands there, in the order of the text
 abbrev pub atoms_of : Tree ℕ → List ℕ

@@ -8,6 +8,7 @@ ghost use Rattle.mud_key.specs.Reading.{FindsKey};
 
 use crate::builder::build;
 use crate::key_fault::KeyFault;
+use crate::limits::{MOST_NOTS, MOST_OBJECTS};
 use crate::node::Node;
 use crate::scan::scan_text;
 use std::alloc::Global;
@@ -75,7 +76,3 @@ fn read_text(alloc: Global, text: &str) -> Result<KeyText, KeyFault>
         None => unreachable!(),
     }
 }
-
-const MOST_OBJECTS: usize = 16;
-
-const MOST_NOTS: usize = 64;

@@ -3,7 +3,7 @@
 //! An object has 1 to 4 names, which are read from a names text as `brass key, key`. A lock holds
 //! a key, an expression over objects as `#4 || #1 && ?chest`. The manner of keys is that of
 //! LambdaCore; the grammar, the limits and the rules of names are this project's own profile,
-//! and stand in docs/KEYS.md.
+//! and stand in docs/KEYS.md. [`limits`] has the limits as constants, and [`codes`] the bytes that have a name.
 //!
 //! | Call | What it does |
 //! |---|---|
@@ -36,6 +36,7 @@
 
 mod builder;
 mod class;
+pub mod codes;
 mod commas;
 mod draft;
 mod front;
@@ -43,15 +44,16 @@ mod key;
 mod key_fault;
 mod key_text;
 pub mod laws;
+pub mod limits;
 mod name;
 mod name_reader;
 mod namer;
 mod names;
 mod node;
 mod operator;
-mod place;
 mod printing;
 mod scan;
+mod stage;
 
 pub use commas::parts;
 pub use key::{Key, asks, atoms};

@@ -1,6 +1,7 @@
 //! What the texts of a key name.
 
 ghost use Rattle.std.specs.Prelude.{◌≡◌, ◌≤◌, ℕ, List, Result, Ok, Err, IfOk, MatchResult};
+ghost use Rattle.mud_key.specs.declared.limits.TheConstants.{LAST_NUMBER};
 ghost use Rattle.mud_key.specs.declared.namer.Miss.{Miss};
 ghost use Rattle.mud_key.specs.Tree.{AllObjects};
 ghost use Rattle.mud_key.specs.Node.{reading_of, key_of};
@@ -32,7 +33,7 @@ pub trait Namer {
     /// The number of the object that the text names, from 0 to 8,191.
     fn name(&self, text: &str) -> Result<u32, Miss>
         ensures means { result ≡ meaning self.now text.now }
-        ensures number { IfOk result (λ n. n ≤ 8191) };
+        ensures number { IfOk result (λ n. n ≤ LAST_NUMBER) };
 }
 
 /// The key over the objects that the texts name, or the fault of the first text, in order, that
@@ -49,7 +50,7 @@ fn resolve_node<N: Namer>(
     namer: &N,
 ) -> Result<Node<u32>, KeyFault>
     ensures resolves { NodeResolvesAs (resolved (N.meaning namer.now) (reading_of node.now)) result }
-    ensures numbers { IfOk result (λ k. AllObjects (λ n. n ≤ 8191) (key_of k)) }
+    ensures numbers { IfOk result (λ k. AllObjects (λ n. n ≤ LAST_NUMBER) (key_of k)) }
 {
     match node {
         Node::Has(text) => Ok(Node::Has(number(text.as_str(), namer)?)),
@@ -64,7 +65,7 @@ fn resolve_node<N: Namer>(
 }
 
 fn number<N: Namer>(text: &str, namer: &N) -> Result<u32, KeyFault>
-    ensures number { IfOk result (λ n. n ≤ 8191) }
+    ensures number { IfOk result (λ n. n ≤ LAST_NUMBER) }
     ensures means { MatchResult result (λ n. N.meaning namer.now text.now ≡ Ok n)
         (λ e. (m : Miss) × (e ≡ fault_of m) × (N.meaning namer.now text.now ≡ Err m)) }
 {

@@ -5,10 +5,12 @@ ghost use Rattle.std.specs.Prelude.{IfOk, IfErr, IfNone, IsTrue, OnOk, OnErr, is
 ghost use mathlib.Core.List.{IsPrefix};
 ghost use Rattle.mud_ends.specs.Ends.{Writer};
 ghost use Rattle.mud_chron.specs.Entry.{Entry};
+ghost use Rattle.mud_chron.specs.declared.limits.TheConstants.{MOST_DESKS, MOST_ENTRIES};
 ghost use Rattle.mud_journal.specs.Disk.{Holds, Begins};
 ghost use Rattle.mud_house.specs.Listening.{MayEnd, Settles, SettlesInPart, IsListenFault};
+ghost use Rattle.mud_search.specs.declared.limits.TheConstants.{MOST_WORKERS};
 
-use crate::listen::{is_well_ended, resumed, serve_house};
+use crate::listen::{is_well_ended, resume_hall, serve_house};
 use log::Log;
 use mud_chron::Entry;
 use mud_ends::Sink;
@@ -177,8 +179,8 @@ fn serve_all<J: HallName + Send + Sync, D: Disk + Drop, R: Threads + Wait + Log 
 ) -> Result<(History, Journal<D>, bool), ListenFault>
     requires cells { hall.cells ≡ J.cells }
     requires loaded { hall.loaded ≡ J.loaded }
-    requires workers { limits.workers ≤ 8 }
-    requires capacity { limits.capacity ≤ 65536 }
+    requires workers { limits.workers ≤ MOST_WORKERS }
+    requires capacity { limits.capacity ≤ MOST_ENTRIES }
     requires holds { Holds (D.kept journal.disk) J.loaded }
     requires count { journal.count ≡ length J.loaded }
     requires going { journal.has_failed ≡ false }
@@ -188,14 +190,14 @@ fn serve_all<J: HallName + Send + Sync, D: Disk + Drop, R: Threads + Wait + Log 
     ensures fault { IfErr result (λ f. (capacity : ℕ) (loaded : List Entry) (old new : Writer)
         → IsListenFault capacity loaded old new f) }
 {
-    let hall = hall.named::<J>();
+    let hall = hall.with_name::<J>();
     let reader = hall.reader(rt)?;
     let scribe = Scribe::new(alloc, journal, reader);
     let gate = Gate::new(&scribe.receipt());
     let Ok(house) = House::new(alloc, hall, limits, gate, site) else {
         return Err(ListenFault::OutOfMemory);
     };
-    house.warn_if_nearly_full(rt, house.hall.loaded() as usize);
+    house.warn_if_nearly_full(rt, house.hall.loaded_count() as usize);
     let (written, is_served) = serve_journaled::<J, D, R>(
         rt, alloc, &house, listeners, limits, stop, scribe,
     )?;
@@ -217,8 +219,8 @@ fn serve<D: Disk + Drop, R: Threads + Wait + Log + Clock + Sync>(
     stop: Option<&StopSign>,
     journal: Journal<D>,
 ) -> Result<(History, Journal<D>, bool), ListenFault>
-    requires workers { limits.workers ≤ 8 }
-    requires capacity { limits.capacity ≤ 65536 }
+    requires workers { limits.workers ≤ MOST_WORKERS }
+    requires capacity { limits.capacity ≤ MOST_ENTRIES }
     requires holds { Holds (D.kept journal.disk) hall.loaded }
     requires count { journal.count ≡ length hall.loaded }
     requires going { journal.has_failed ≡ false }
@@ -228,7 +230,7 @@ fn serve<D: Disk + Drop, R: Threads + Wait + Log + Clock + Sync>(
     ensures fault { IfErr result (λ f. (capacity : ℕ) (loaded : List Entry) (old new : Writer)
         → IsListenFault capacity loaded old new f) }
 {
-    let (listeners, site) = doors.parted();
+    let (listeners, site) = doors.into_parts();
     serve_all::<Brand, D, R>(rt, alloc, hall, listeners, site, limits, stop, journal)
 }
 
@@ -244,7 +246,7 @@ fn copies(alloc: Global, entries: &[Entry]) -> Result<Vec<Entry>, AllocError>
 }
 
 // Goes on from what was found, and adds these entries.
-fn begun<D: Disk + Drop>(
+fn begin_journal<D: Disk + Drop>(
     alloc: Global,
     found: Found<D>,
     more: &[Entry],
@@ -276,10 +278,10 @@ pub fn listen_journaled<D: Disk + Drop, R: Threads + Wait + Log + Clock + Sync, 
     stop: Option<&StopSign>,
     out: &mut Sink<W>,
 ) -> Result<Journal<D>, ListenFault>
-    requires sessions { limits.sessions ≤ 64 }
-    requires workers { limits.workers ≤ 8 }
+    requires sessions { limits.sessions ≤ MOST_DESKS }
+    requires workers { limits.workers ≤ MOST_WORKERS }
     requires from { 1 ≤ limits.capacity }
-    requires to { limits.capacity ≤ 65536 }
+    requires to { limits.capacity ≤ MOST_ENTRIES }
     requires found { Begins (D.kept found.disk) found.keep (take found.count loaded.items) }
     requires within { found.count ≤ length loaded.items }
     ensures ok { IfOk result (λ j. (s : Settles limits (is_some doors.web) loaded.items out.old.holds out.new.holds)
@@ -290,9 +292,9 @@ pub fn listen_journaled<D: Disk + Drop, R: Threads + Wait + Log + Clock + Sync, 
     ensures total { OnOk result (IfNone stop.entry (0 < limits.total)) }
 {
     let more = copies(alloc, &loaded[found.len()..])?;
-    let hall = resumed(alloc, limits.capacity, loaded)?;
+    let hall = resume_hall(alloc, limits.capacity, loaded)?;
     let ports = doors.ports()?;
-    let journal = begun(alloc, found, &more)?;
+    let journal = begin_journal(alloc, found, &more)?;
     write_ports(alloc, out, ports)?;
     let (mut history, journal, is_well) = serve(rt, alloc, hall, doors, limits, stop, journal)?;
     write_entries(alloc, out, &mut history)?;

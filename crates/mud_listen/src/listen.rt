@@ -4,7 +4,9 @@ ghost use Rattle.std.specs.Prelude.{◌≡◌, ◌≤◌, ◌<◌, length, true,
 ghost use Rattle.std.specs.Prelude.{ℕ, List, IfNone, IsSome, IsTrue, is_some};
 ghost use Rattle.mud_ends.specs.Ends.{Writer};
 ghost use Rattle.mud_chron.specs.Entry.{Entry};
+ghost use Rattle.mud_chron.specs.declared.limits.TheConstants.{MOST_DESKS, MOST_ENTRIES};
 ghost use Rattle.mud_house.specs.Listening.{MayEnd, Settles, SettlesInPart, IsListenFault};
+ghost use Rattle.mud_search.specs.declared.limits.TheConstants.{MOST_WORKERS};
 
 use log::Log;
 use mud_chron::Entry;
@@ -61,7 +63,7 @@ where
 {
     let mut arrivals = arrivals;
     for _ in server.rt.forever() {
-        if is_done(stop, limits.total, server.counted()) {
+        if is_done(stop, limits.total, server.counted_sessions()) {
             return true;
         }
         match arrivals.next(server.rt) {
@@ -147,16 +149,16 @@ fn serve_all<J: HallName + Send + Sync, R: Threads + Wait + Log + Clock + Sync>(
 ) -> Result<(History, bool), ListenFault>
     requires cells { hall.cells ≡ J.cells }
     requires loaded { hall.loaded ≡ J.loaded }
-    requires workers { limits.workers ≤ 8 }
-    requires capacity { limits.capacity ≤ 65536 }
+    requires workers { limits.workers ≤ MOST_WORKERS }
+    requires capacity { limits.capacity ≤ MOST_ENTRIES }
     ensures ends { IfOk result (λ s. MayEnd limits J.loaded s.0) }
     ensures total { IfOk result (λ s. IsTrue s.1 → IfNone stop.entry (0 < limits.total)) }
     ensures fault { IfErr result (λ f. (capacity : ℕ) (loaded : List Entry) (old new : Writer)
         → IsListenFault capacity loaded old new f) }
 {
-    let hall = hall.named::<J>();
+    let hall = hall.with_name::<J>();
     let house = House::new(alloc, hall, limits, Gate::open(), site)?;
-    house.warn_if_nearly_full(rt, house.hall.loaded() as usize);
+    house.warn_if_nearly_full(rt, house.hall.loaded_count() as usize);
     let is_served = serve_house(rt, alloc, &house, listeners, limits, stop);
     let Ok((hall, desks)) = house.into_parts(alloc) else {
         return Err(ListenFault::OutOfMemory);
@@ -174,25 +176,25 @@ fn serve<R: Threads + Wait + Log + Clock + Sync>(
     limits: Limits,
     stop: Option<&StopSign>,
 ) -> Result<(History, bool), ListenFault>
-    requires workers { limits.workers ≤ 8 }
-    requires capacity { limits.capacity ≤ 65536 }
+    requires workers { limits.workers ≤ MOST_WORKERS }
+    requires capacity { limits.capacity ≤ MOST_ENTRIES }
     ensures ends { IfOk result (λ s. MayEnd limits hall.loaded s.0) }
     ensures total { IfOk result (λ s. IsTrue s.1 → IfNone stop.entry (0 < limits.total)) }
     ensures fault { IfErr result (λ f. (capacity : ℕ) (loaded : List Entry) (old new : Writer)
         → IsListenFault capacity loaded old new f) }
 {
-    let (listeners, site) = doors.parted();
+    let (listeners, site) = doors.into_parts();
     serve_all::<Brand, R>(rt, alloc, hall, listeners, site, limits, stop)
 }
 
 /// The hall that goes on from what was loaded.
-pub(crate) fn resumed(
+pub(crate) fn resume_hall(
     alloc: Global,
     capacity: u32,
     loaded: Vec<Entry>,
 ) -> Result<NewHall, ListenFault>
     requires from { 1 ≤ capacity }
-    requires to { capacity ≤ 65536 }
+    requires to { capacity ≤ MOST_ENTRIES }
     ensures loaded { IfOk result (λ hall. hall.loaded ≡ loaded.items) }
     ensures fault { IfErr result (λ f. (writer : Writer) → IsListenFault capacity loaded.items writer writer f) }
 {
@@ -227,17 +229,17 @@ pub fn listen_on<R: Threads + Wait + Log + Clock + Sync, W: Write>(
     stop: Option<&StopSign>,
     out: &mut Sink<W>,
 ) -> Result<(), ListenFault>
-    requires sessions { limits.sessions ≤ 64 }
-    requires workers { limits.workers ≤ 8 }
+    requires sessions { limits.sessions ≤ MOST_DESKS }
+    requires workers { limits.workers ≤ MOST_WORKERS }
     requires from { 1 ≤ limits.capacity }
-    requires to { limits.capacity ≤ 65536 }
+    requires to { limits.capacity ≤ MOST_ENTRIES }
     ensures ok { OnOk result (Settles limits (is_some doors.web) loaded.items out.old.holds out.new.holds) }
     ensures front { OnErr result (SettlesInPart limits (is_some doors.web) loaded.items
         out.old.holds out.new.holds) }
     ensures fault { IfErr result (IsListenFault limits.capacity loaded.items out.old out.new) }
     ensures total { OnOk result (IfNone stop.entry (0 < limits.total)) }
 {
-    let hall = resumed(alloc, limits.capacity, loaded)?;
+    let hall = resume_hall(alloc, limits.capacity, loaded)?;
     let ports = doors.ports()?;
     write_ports(alloc, out, ports)?;
     let (mut history, is_served) = serve(rt, alloc, hall, doors, limits, stop)?;

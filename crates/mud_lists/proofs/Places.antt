@@ -4,17 +4,17 @@ use Rattle.std.proofs.Common.{get_or, refl, sym, ap, inl, inr, arith}
 use Rattle.std.specs.Prelude.{nat_eq, Ok, Err, is_ok}
 use Rattle.std.specs.declared.result.Result.{Result}
 use Rattle.std.specs.Ordering.{nat_cmp}
-use Rattle.std.specs.List.{insert, remove, list_any}
+use Rattle.std.specs.List.{insert as insert_at, remove, list_any}
 use Rattle.std.specs.List.Sorted.{IsNonDecreasing, IsBinarySearchResult}
 use Rattle.std.proofs.lemmas.Bool.{lt-ltb, le-ltb, eq-eqb, ne_eqb, cases_lt, or_right}
 use Rattle.std.proofs.lemmas.List.Edits.{length-remove, get_or-remove_below, get_or-remove_above}
 use Rattle.std.proofs.lemmas.List.Sorted.{searched}
-use Rattle.mud_lists.specs.Rising.{inserted, without}
+use Rattle.mud_lists.specs.Rising.{insert, without}
 
 -- after all that aren't above it, and before all that are
 pub placed : (n : ℕ) (xs : List ℕ) (i : ℕ) → i ≤ length xs → ((k : ℕ) → k < i → get_or xs k 0 ≤ n)
     → ((k : ℕ) → i ≤ k → k < length xs → n < get_or xs k 0)
-    → insert xs i n ≡ inserted n xs
+    → insert_at xs i n ≡ insert n xs
 placed n [] zero at low high = refl
 placed n [] (suc i) at low high = absurd (omega arith)
 placed n (x ∷ xs) zero at low high =

@@ -1,11 +1,11 @@
 -- The lists as they are seen, by the map in memory.
-use Rattle.std.proofs.Common.{◌≡◌, ◌∙◌, ℕ, Bool, true, false, cond, List, [], ◌∷◌, Option, None, refl, sym, ap}
+use Rattle.std.proofs.Common.{◌≡◌, ◌∙◌, ℕ, Bool, true, false, cond, List, [], ◌∷◌, Option, refl, sym, ap}
 use Rattle.std.specs.Prelude.{nat_eq, if◌then◌else◌}
 use Rattle.std.specs.Option.{unwrap_or}
 use Rattle.std.specs.Map.{lookup}
 use Rattle.std.specs.List.{AllZip, list_any}
 use Rattle.std.proofs.lemmas.Bool.{eqb-true, eqb-false, eq-eqb, ne_eqb}
-use Rattle.mud_lists.specs.Rising.{inserted, put}
+use Rattle.mud_lists.specs.Rising.{insert, put}
 use Rattle.mud_lists.specs.Lists.{list_at, AreChanged, AreSame}
 
 bool_cases : {P : Type 0} (b : Bool) → (b ≡ true → P) → (b ≡ false → P) → P
@@ -51,16 +51,6 @@ cloned C same [] (f ∷ fs) all = absurd all
 cloned C same (e ∷ es) [] all = absurd all
 cloned C same (e ∷ es) (f ∷ fs) all = λ i. (same e.0 f.0 all.0.0 i, all.0.1 i) ∷ cloned C same es fs all.1 i
 
--- a change that leaves the empty list, at a holder that has none
-pub missing_seen : (es : List (ℕ × List ℕ)) (h : ℕ) (f : List ℕ → List ℕ) → lookup (nat_eq h) es ≡ None → f [] ≡ []
-    → AreChanged (λ n. nat_eq n h) f es es
-missing_seen es h f none empty = λ n.
-    bool_cases (nat_eq n h)
-    (λ here.
-    let gone : list_at es n ≡ [] = ap (list_at es) (eqb-true n h here) ∙ ap (λ o. unwrap_or o []) none in
-    gone ∙ sym empty ∙ ap f (sym gone) ∙ sym (ap (λ t. if t then f (list_at es n) else list_at es n) here))
-    (λ past. sym (ap (λ t. if t then f (list_at es n) else list_at es n) past))
-
 pub zipped : (C : ℕ → ℕ → Type 0) → ((x y : ℕ) → C x y → y ≡ x) → (xs ys : List ℕ) → AllZip C xs ys → ys ≡ xs
 zipped C same [] [] all = refl
 zipped C same [] (y ∷ ys) all = absurd all
@@ -75,20 +65,20 @@ put-there l h m there = λ n.
     (λ here.
     let is : list_any (nat_eq m) (list_at l n) ≡ true = ap (λ v. list_any (nat_eq m) (list_at l v)) (eqb-true n h here)
     ∙ there in
-    sym (ap (λ b. if b then list_at l n else inserted m (list_at l n)) is)
+    sym (ap (λ b. if b then list_at l n else insert m (list_at l n)) is)
     ∙ sym (ap (λ t. if t then put m (list_at l n) else list_at l n) here))
     (λ past. sym (ap (λ t. if t then put m (list_at l n) else list_at l n) past))
 
 pub put-new : (l l' : List (ℕ × List ℕ)) (h m : ℕ) → list_any (nat_eq m) (list_at l h) ≡ false
-    → AreChanged (λ n. nat_eq n h) (inserted m) l l' → AreChanged (λ n. nat_eq n h) (put m) l l'
+    → AreChanged (λ n. nat_eq n h) (insert m) l l' → AreChanged (λ n. nat_eq n h) (put m) l l'
 put-new l l' h m new is = λ n.
     is n
     ∙ bool_cases (nat_eq n h)
     (λ here.
     let not_in : list_any (nat_eq m) (list_at l n) ≡ false =
     ap (λ v. list_any (nat_eq m) (list_at l v)) (eqb-true n h here) ∙ new in
-    ap (λ t. if t then inserted m (list_at l n) else list_at l n) here
-    ∙ sym (ap (λ b. if b then list_at l n else inserted m (list_at l n)) not_in)
+    ap (λ t. if t then insert m (list_at l n) else list_at l n) here
+    ∙ sym (ap (λ b. if b then list_at l n else insert m (list_at l n)) not_in)
     ∙ sym (ap (λ t. if t then put m (list_at l n) else list_at l n) here))
-    (λ past. ap (λ t. if t then inserted m (list_at l n) else list_at l n) past
+    (λ past. ap (λ t. if t then insert m (list_at l n) else list_at l n) past
     ∙ sym (ap (λ t. if t then put m (list_at l n) else list_at l n) past))

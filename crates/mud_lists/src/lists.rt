@@ -1,7 +1,7 @@
 //! A rising list for each number.
 
-ghost use Rattle.std.specs.Prelude.{◌≡◌, [], nat_eq, OnOk, OnErr, IfOk, ℕ};
-ghost use Rattle.mud_lists.specs.Rising.{inserted, put, without};
+ghost use Rattle.std.specs.Prelude.{◌≡◌, [], nat_eq, OnOk, OnErr, IfOk, IsTrue, ℕ};
+ghost use Rattle.mud_lists.specs.Rising.{insert, put, without};
 ghost use Rattle.std.specs.List.{list_any};
 ghost use Rattle.mud_lists.specs.Lists.{list_at, AreSame, AreChanged};
 
@@ -56,7 +56,7 @@ impl Lists {
 
     /// Puts a number into the list of the holder, or changes no list.
     pub fn insert(&mut self, holder: u32, number: u32) -> Result<(), AllocError>
-        ensures ok { OnOk result (AreChanged (λ n. nat_eq n holder) (inserted number) self.old self.new) }
+        ensures ok { OnOk result (AreChanged (λ n. nat_eq n holder) (insert number) self.old self.new) }
         ensures err { OnErr result (AreSame self.old self.new) }
     {
         match self.lists.get_mut(&holder) {
@@ -89,7 +89,7 @@ impl Lists {
     // Begins a list with the number.
     fn begin(&mut self, holder: u32, number: u32) -> Result<(), AllocError>
         requires { list_at self.old holder ≡ [] }
-        ensures ok { OnOk result (AreChanged (λ n. nat_eq n holder) (inserted number) self.old self.new) }
+        ensures ok { OnOk result (AreChanged (λ n. nat_eq n holder) (insert number) self.old self.new) }
         ensures err { OnErr result (AreSame self.old self.new) }
     {
         let list = Rising::of(self.alloc, number)?;
@@ -99,12 +99,17 @@ impl Lists {
         }
     }
 
-    // Takes a number out of the list of the holder, who keeps an entry.
-    fn take_out(&mut self, holder: u32, number: u32)
-        ensures { AreChanged (λ n. nat_eq n holder) (without number) self.old self.new }
+    // Takes a number out of the list of the holder, whose entry stays, and says whether an empty one is left.
+    fn take_out(&mut self, holder: u32, number: u32) -> bool
+        ensures lists { AreChanged (λ n. nat_eq n holder) (without number) self.old self.new }
+        ensures empty { IsTrue result → list_at self.new holder ≡ [] }
     {
-        if let Some(list) = self.lists.get_mut(&holder) {
-            list.remove(number);
+        match self.lists.get_mut(&holder) {
+            Some(list) => {
+                list.remove(number);
+                list.as_slice().is_empty()
+            }
+            None => false,
         }
     }
 
@@ -121,8 +126,7 @@ impl Lists {
     pub fn remove(&mut self, holder: u32, number: u32)
         ensures { AreChanged (λ n. nat_eq n holder) (without number) self.old self.new }
     {
-        self.take_out(holder, number);
-        if self.get(holder).is_empty() {
+        if self.take_out(holder, number) {
             self.free(holder);
         }
     }

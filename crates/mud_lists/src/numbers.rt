@@ -1,9 +1,9 @@
 //! Rising lists of numbers.
 
 ghost use Rattle.std.specs.Prelude.{◌≡◌, ◌≤◌, [], ◌∷◌, length, nat_eq, OnOk, OnErr, IfOk};
-ghost use Rattle.std.specs.List.{insert, list_any};
+ghost use Rattle.std.specs.List.{insert as insert_at, list_any};
 ghost use Rattle.std.specs.List.Sorted.{IsNonDecreasing};
-ghost use Rattle.mud_lists.specs.Rising.{inserted, without};
+ghost use Rattle.mud_lists.specs.Rising.{insert, without};
 
 use std::alloc::{AllocError, Global};
 use std::marker::Model;
@@ -29,8 +29,8 @@ impl Model for Rising {
 fn place_for(numbers: &[u32], number: u32) -> usize
     requires { IsNonDecreasing numbers.now }
     ensures within { result ≤ length numbers.now }
-    ensures place { insert numbers.now result number ≡ inserted number numbers.now }
-    ensures rising { IsNonDecreasing (inserted number numbers.now) }
+    ensures place { insert_at numbers.now result number ≡ insert number numbers.now }
+    ensures rising { IsNonDecreasing (insert number numbers.now) }
 {
     numbers.partition_point(|other| *other <= number)
 }
@@ -69,7 +69,7 @@ impl Rising {
     }
 
     pub(crate) fn insert(&mut self, number: u32) -> Result<(), AllocError>
-        ensures ok { OnOk result (self.new ≡ inserted number self.old) }
+        ensures ok { OnOk result (self.new ≡ insert number self.old) }
         ensures err { OnErr result (self.new ≡ self.old) }
     {
         let at = place_for(&self.numbers, number);

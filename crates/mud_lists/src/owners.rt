@@ -13,6 +13,9 @@ use indexmap::IndexMap;
 use std::alloc::{AllocError, Global};
 use std::marker::Model;
 
+// The most bytes of a text whose owner is found without going through all.
+const SHORT: usize = 60;
+
 // The texts in lower case.
 fn lower_all(alloc: Global, texts: &[String]) -> Result<Vec<Vec<u8>>, AllocError>
     ensures { IfOk result (λ lower. items_of lower.items
@@ -124,8 +127,8 @@ impl Owners {
         ensures { result ≡ owner_of self.now (str_to_ascii_lowercase text.now) }
     {
         let bytes = text.as_bytes();
-        let mut lower = [0u8; 60];
-        if bytes.len() > 60 {
+        let mut lower = [0u8; SHORT];
+        if bytes.len() > SHORT {
             return self.find(bytes);
         }
         let part = &mut lower[..bytes.len()];

@@ -6,7 +6,7 @@ use std::fs;
 use std::rt::Files;
 
 /// The entries of the history in the file of this name. The file is read whole before its text is.
-pub fn loaded<R: Files + AllocGlobal>(rt: &R, name: &str) -> Result<Vec<Entry>, Unloaded> {
+pub fn load<R: Files + AllocGlobal>(rt: &R, name: &str) -> Result<Vec<Entry>, Unloaded> {
     let text = match fs::read(rt, name) {
         Ok(text) => text,
         Err(error) => return Err(Unloaded::of_file(&error)),

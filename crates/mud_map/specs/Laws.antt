@@ -1,7 +1,8 @@
 -- Laws of the definitions.
 use Rattle.std.specs.Prelude.{◌≡◌, ℕ, List, ◌∷◌, ◌++◌, Some}
-use Rattle.mud_map.specs.Quoted.{escaped, read_quoted}
+use Rattle.mud_map.specs.declared.codes.TheConstants.{QUOTE}
+use Rattle.mud_map.specs.Quoted.{escape, read_quoted}
 
 -- whatever stands after the quote that ends it, an escaped text is read as it was meant
 abbrev pub IsReadAsMeant : Type 0
-IsReadAsMeant = (text rest : List ℕ) → read_quoted (escaped text ++ 34 ∷ rest) ≡ Some (text, rest)
+IsReadAsMeant = (text rest : List ℕ) → read_quoted (escape text ++ QUOTE ∷ rest) ≡ Some (text, rest)

@@ -13,7 +13,7 @@ use Rattle.mud_roads.specs.declared.label.Label.{Label}
 use Rattle.mud_cert.specs.Certificate.{Account, Certificate}
 use Rattle.mud_cert.specs.declared.cert.Conclusion.{Conclusion}
 use Rattle.mud_cert.specs.declared.cert.Conclusion.TheVariants.{Route, Meet}
-use Rattle.mud_map.specs.Quoted.{quoted}
+use Rattle.mud_map.specs.Quoted.{in_quotes}
 
 -- what is drawn into a map: what is claimed of some players, and the room where they meet, if there is one
 pub record Drawing : Type 0 where
@@ -48,7 +48,7 @@ exit_text n r p = title_text n r ++ codes " (" ++ decimal p.cost ++ codes ")"
 -- what is locked is dashed, and its key is a tooltip
 abbrev pub lock_text : Option (Tree ℕ) → List ℕ
 lock_text None = []
-lock_text (Some key) = codes " style=dashed tooltip=" ++ quoted (printed (by_text key))
+lock_text (Some key) = codes " style=dashed tooltip=" ++ in_quotes (printed (by_text key))
 
 -- the room of the meeting has a second line around it
 abbrev pub meeting_text : Option ℕ → ℕ → List ℕ
@@ -68,7 +68,7 @@ walk_text accounts exit = if is_walked accounts exit then codes " color=red penw
 
 -- the label that is read as this text
 abbrev pub label_part : List ℕ → List ℕ
-label_part text = codes " [label=" ++ quoted text
+label_part text = codes " [label=" ++ in_quotes text
 
 -- the node of a room
 abbrev pub node_text : Drawing → ℕ → Record → List ℕ

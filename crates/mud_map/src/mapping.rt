@@ -51,7 +51,7 @@ fn legal_entries(alloc: Global, bytes: &[u8]) -> Result<Vec<Entry>, ChronFault>
 }
 
 /// The map of the world of a history (docs/KEEPING.md, "Map").
-pub fn mapped(alloc: Global, bytes: &[u8]) -> Result<Vec<u8>, ChronFault>
+pub fn map_of(alloc: Global, bytes: &[u8]) -> Result<Vec<u8>, ChronFault>
     ensures ok { IfOk result (λ text. IsMap bytes.now text.items) }
     ensures err { IfErr result (λ fault. fault ≢ ChronFault.OutOfMemory
         → HasKeptFault bytes.now fault ⊎ KeepsIllegal bytes.now fault) }

@@ -1,19 +1,20 @@
 //! Texts in double quotes.
 
 ghost use Rattle.std.specs.Prelude.{◌≡◌, ◌++◌, OnOk};
-ghost use Rattle.mud_map.specs.Quoted.{escaped_byte, escaped, quoted};
+ghost use Rattle.mud_map.specs.Quoted.{escaped_byte, escape, in_quotes};
 
+use crate::codes::{BACKSLASH, LF, QUOTE};
 use std::alloc::AllocError;
 
 // Appends a byte as it is written between quotes.
 fn push_byte(out: &mut Vec<u8>, byte: u8) -> Result<(), AllocError>
     ensures { OnOk result (out.new.items ≡ out.old.items ++ escaped_byte byte) }
 {
-    if byte == b'\n' {
+    if byte == LF {
         return out.extend_from_slice(b"\\n");
     }
-    if byte == b'"' || byte == b'\\' {
-        out.push(b'\\')?;
+    if byte == QUOTE || byte == BACKSLASH {
+        out.push(BACKSLASH)?;
     }
     out.push(byte)?;
     Ok(())
@@ -21,7 +22,7 @@ fn push_byte(out: &mut Vec<u8>, byte: u8) -> Result<(), AllocError>
 
 // Appends a text as it is written between quotes.
 fn push_escaped(out: &mut Vec<u8>, text: &[u8]) -> Result<(), AllocError>
-    ensures { OnOk result (out.new.items ≡ out.old.items ++ escaped text.now) }
+    ensures { OnOk result (out.new.items ≡ out.old.items ++ escape text.now) }
 {
     for byte in text {
         push_byte(out, *byte)?;
@@ -31,7 +32,7 @@ fn push_escaped(out: &mut Vec<u8>, text: &[u8]) -> Result<(), AllocError>
 
 /// Appends a text with its quotes. The only error is out of memory.
 pub(crate) fn push_quoted(out: &mut Vec<u8>, text: &[u8]) -> Result<(), AllocError>
-    ensures { OnOk result (out.new.items ≡ out.old.items ++ quoted text.now) }
+    ensures { OnOk result (out.new.items ≡ out.old.items ++ in_quotes text.now) }
 {
     out.extend_from_slice(b"\"")?;
     push_escaped(out, text)?;

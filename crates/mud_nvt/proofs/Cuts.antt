@@ -7,7 +7,7 @@ use Rattle.std.proofs.lemmas.Bool.Decides.{nat_tests}
 use Rattle.mud_nvt.specs.declared.codes.TheConstants.{IAC, SE, SB}
 use Rattle.mud_nvt.specs.declared.telnet.Piece.{Piece}
 use Rattle.mud_nvt.specs.declared.telnet.Piece.TheVariants.{Data, Command}
-use Rattle.mud_nvt.specs.declared.telnet.Place.TheVariants.{Between, Inside}
+use Rattle.mud_nvt.specs.declared.telnet.Position.TheVariants.{Between, Inside}
 use Rattle.mud_nvt.specs.Telnet.{is_verb, pieces, pieces_up_to, first_piece, behind_iac, behind_end, request}
 use Rattle.mud_nvt.specs.Telnet.{subnegotiation}
 use Rattle.mud_nvt.specs.Grammar.{IsInside, at_end, a_byte, a_pair, Spells, a_plain_byte, a_doubled_iac, a_command}

@@ -4,8 +4,8 @@ use Rattle.std.proofs.Common.{Option, Some, None, ◌==◌, if◌then◌else◌,
 use Rattle.mud_nvt.specs.declared.codes.TheConstants.{IAC, SE, SB}
 use Rattle.mud_nvt.specs.declared.telnet.Piece.{Piece}
 use Rattle.mud_nvt.specs.declared.telnet.Piece.TheVariants.{Data, Command, Subnegotiation}
-use Rattle.mud_nvt.specs.declared.telnet.Place.{Place}
-use Rattle.mud_nvt.specs.declared.telnet.Place.TheVariants.{Between, BehindIac, BehindVerb, Inside, InsideBehindIac}
+use Rattle.mud_nvt.specs.declared.telnet.Position.{Position}
+use Rattle.mud_nvt.specs.declared.telnet.Position.TheVariants.{Between, BehindIac, BehindVerb, Inside, InsideBehindIac}
 use Rattle.mud_nvt.specs.Telnet.{behind_end, is_verb, request, subnegotiation, behind_iac, first_piece, pieces_up_to}
 use Rattle.mud_nvt.specs.Telnet.{pieces}
 use Rattle.mud_nvt.specs.Machine.{next_place, finished_piece}
@@ -16,7 +16,7 @@ put None ps = ps
 put (Some p) ps = p ∷ ps
 
 -- the pieces that these bytes finish, from this place on
-abbrev pub scan : Place → List ℕ → List Piece
+abbrev pub scan : Position → List ℕ → List Piece
 scan place [] = []
 scan place (b ∷ bytes) = put (finished_piece place b) (scan (next_place place b) bytes)
 

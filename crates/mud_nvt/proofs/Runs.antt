@@ -10,7 +10,7 @@ use Rattle.std.proofs.lemmas.Bool.Decides.{nat_tests}
 use Rattle.mud_nvt.specs.declared.codes.TheConstants.{IAC, NUL, BS, HT, LF, CR, DEL, SPACE, TILDE}
 use Rattle.mud_nvt.specs.declared.TheConstants.{MOST}
 use Rattle.mud_nvt.specs.declared.telnet.Piece.TheVariants.{Data}
-use Rattle.mud_nvt.specs.declared.telnet.Place.TheVariants.{Between}
+use Rattle.mud_nvt.specs.declared.telnet.Position.TheVariants.{Between}
 use Rattle.mud_nvt.specs.declared.strokes.Stroke.TheVariants.{Character}
 use Rattle.mud_nvt.specs.Lines.{IsPrintable}
 use Rattle.mud_nvt.specs.Editing.{stroke}

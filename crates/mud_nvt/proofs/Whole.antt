@@ -3,7 +3,7 @@ use Rattle.std.proofs.Common.{ℕ, ◌≡◌, refl, ap, sym, ◌∙◌, false, L
 use Rattle.std.proofs.Common.{take, drop, ◌+◌}
 use Rattle.std.proofs.Math.Seq.{take-add}
 use Rattle.mud_nvt.specs.declared.telnet.Piece.{Piece}
-use Rattle.mud_nvt.specs.declared.telnet.Place.TheVariants.{Between}
+use Rattle.mud_nvt.specs.declared.telnet.Position.TheVariants.{Between}
 use Rattle.mud_nvt.specs.Units.{Given, units}
 use Rattle.mud_nvt.specs.History.{TakesIn}
 use Rattle.mud_nvt.specs.Machine.{Held, start, next, next_place, finished_piece, after_piece, piece_units}

@@ -6,8 +6,8 @@ use Rattle.mud_nvt.specs.declared.codes.TheConstants.{IAC, SE, SB}
 use Rattle.mud_nvt.specs.declared.TheConstants.{MOST}
 use Rattle.mud_nvt.specs.declared.telnet.Piece.{Piece}
 use Rattle.mud_nvt.specs.declared.telnet.Piece.TheVariants.{Data, Command, Request, Subnegotiation}
-use Rattle.mud_nvt.specs.declared.telnet.Place.{Place}
-use Rattle.mud_nvt.specs.declared.telnet.Place.TheVariants.{Between, BehindIac, BehindVerb, Inside, InsideBehindIac}
+use Rattle.mud_nvt.specs.declared.telnet.Position.{Position}
+use Rattle.mud_nvt.specs.declared.telnet.Position.TheVariants.{Between, BehindIac, BehindVerb, Inside, InsideBehindIac}
 use Rattle.mud_nvt.specs.declared.strokes.Stroke.{Stroke}
 use Rattle.mud_nvt.specs.declared.strokes.Stroke.TheVariants.{Character, EraseCharacter, EraseLine, EndLine}
 use Rattle.mud_nvt.specs.declared.strokes.Stroke.TheVariants.{AreYouThere, Refuse}
@@ -16,7 +16,7 @@ use Rattle.mud_nvt.specs.Editing.{stroke, is_cr}
 use Rattle.mud_nvt.specs.Units.{Given, Text, TooLong, Ayt, Answer}
 
 -- where the byte leads
-abbrev pub next_place : Place → ℕ → Place
+abbrev pub next_place : Position → ℕ → Position
 next_place Between b = if b == IAC then BehindIac else Between
 next_place BehindIac b =
     if b == IAC then Between
@@ -28,7 +28,7 @@ next_place Inside b = if b == IAC then InsideBehindIac else Inside
 next_place InsideBehindIac b = if b == SE then Between else Inside
 
 -- the piece that the byte finishes, if it finishes one
-abbrev pub finished_piece : Place → ℕ → Option Piece
+abbrev pub finished_piece : Position → ℕ → Option Piece
 finished_piece Between b = if b == IAC then None else Some (Data b)
 finished_piece BehindIac b =
     if b == IAC then Some (Data IAC)
@@ -41,7 +41,7 @@ finished_piece InsideBehindIac b = if b == SE then Some Subnegotiation else None
 
 -- what a terminal holds: its place in a piece, whether the piece before is a CR, the line, whether that is too long
 pub record Held : Type 0 where
-  pub place : Place
+  pub place : Position
   pub after_cr : Bool
   pub text : List ℕ
   pub too_long : Bool

@@ -6,12 +6,12 @@ use Rattle.mud_nvt.specs.declared.Unit.TheVariants as code
 use Rattle.mud_nvt.specs.Units.{Given, Text, TooLong, Ayt, Answer}
 
 -- a unit as a caller sees it
-abbrev pub shown : {A : Type 0} → CodeUnit A → Given
-shown (code.Text text) = Text (string_bytes text)
-shown code.TooLong = TooLong
-shown code.Ayt = Ayt
-shown (code.Answer bytes) = Answer bytes
+abbrev pub unit_shown : {A : Type 0} → CodeUnit A → Given
+unit_shown (code.Text text) = Text (string_bytes text)
+unit_shown code.TooLong = TooLong
+unit_shown code.Ayt = Ayt
+unit_shown (code.Answer bytes) = Answer bytes
 
 -- units as a caller sees them
 abbrev pub all_shown : {A : Type 0} → List (CodeUnit A) → List Given
-all_shown units = map shown units
+all_shown units = map unit_shown units

@@ -13,7 +13,7 @@ pub fn cutting()
 {}
 
 /// What is given stays given: the units of more bytes begin with the units of the first of them.
-pub fn lasting()
+pub fn permanence()
     ensures { (bytes more : List ℕ) → (fresh : List Given) × (units (bytes ++ more) ≡ units bytes ++ fresh) }
 {}
 

@@ -43,7 +43,7 @@ ghost use Rattle.std.specs.List.{list_any};
 ghost use Rattle.mud_nvt.specs.Machine.{next, byte_units, byte_strokes, after_stroke, stroke_units, run, run_units};
 ghost use Rattle.mud_nvt.specs.inner.Typing.{IsTyped, with_text};
 ghost use Rattle.mud_nvt.specs.Memory.{takes_memory, StopsBefore};
-ghost use Rattle.mud_nvt.specs.Shown.{shown, all_shown};
+ghost use Rattle.mud_nvt.specs.Shown.{unit_shown, all_shown};
 ghost use Rattle.mud_nvt.specs.Lines.{IsPlain, IsPrintable, IsSound};
 ghost use Rattle.mud_nvt.specs.History.{StandsAfter, TakesIn};
 
@@ -58,7 +58,7 @@ use std::alloc::{AllocError, Allocator, Global};
 use std::marker::Model;
 use std::mem;
 use strokes::{Stroke, is_return, stroke_of};
-use telnet::{Place, step};
+use telnet::{Position, step};
 use thiserror::Error;
 use typed::printable_len;
 
@@ -96,7 +96,7 @@ pub struct Stop {
 /// their memory from `A`.
 #[derive(Drop)]
 pub struct Nvt<A: Allocator = Global> {
-    place: Place,
+    place: Position,
     after_cr: bool,
     line: String<A>,
     is_too_long: bool,
@@ -132,7 +132,7 @@ impl<A: Allocator + Clone + Drop> Nvt<A> {
         ensures { StandsAfter result [] }
     {
         Nvt {
-            place: Place::Between,
+            place: Position::Between,
             after_cr: false,
             line: String::new(alloc),
             is_too_long: false,
@@ -183,7 +183,7 @@ impl<A: Allocator + Clone + Drop> Nvt<A> {
         ensures memory { OnErr result (IsTrue (list_any takes_memory
             (byte_strokes self.old (slice_index bytes.now 0)))) }
     {
-        match self.typed(bytes) {
+        match self.plain_front(bytes) {
             Some(text) => {
                 self.add_text(text)?;
                 Ok(text.len())
@@ -196,13 +196,13 @@ impl<A: Allocator + Clone + Drop> Nvt<A> {
     }
 
     // The characters in front, if there are any and all go to the end of the line.
-    fn typed<'a>(&self, bytes: &'a [u8]) -> Option<&'a str>
+    fn plain_front<'a>(&self, bytes: &'a [u8]) -> Option<&'a str>
         ensures { IfSome result (λ text. IsTyped self.now bytes.now text.now) }
     {
         if self.is_too_long {
             return None;
         }
-        let Place::Between = self.place else {
+        let Position::Between = self.place else {
             return None;
         };
         let room = MOST - self.line.len();
@@ -319,8 +319,8 @@ impl<A: Allocator + Clone + Drop> Nvt<A> {
     fn take_line(&mut self) -> Result<Unit<A>, AllocError>
         ensures state { OnOk result (self.new ≡ after_stroke self.old Stroke.EndLine) }
         ensures given { IfOk result (λ unit.
-            shown unit ∷ [] ≡ stroke_units self.old.too_long self.old.text Stroke.EndLine) }
-        ensures sound { IfOk result (λ unit. IsSound (shown unit)) }
+            unit_shown unit ∷ [] ≡ stroke_units self.old.too_long self.old.text Stroke.EndLine) }
+        ensures sound { IfOk result (λ unit. IsSound (unit_shown unit)) }
         ensures err { OnErr result (self.new ≡ self.old) }
     {
         let empty = String::new(self.line.allocator().clone()?);
@@ -334,7 +334,7 @@ impl<A: Allocator + Clone + Drop> Nvt<A> {
 
 // Adds a unit at the end.
 fn give<A: Allocator + Drop>(units: &mut Vec<Unit<A>, A>, unit: Unit<A>) -> Result<(), AllocError>
-    ensures given { OnOk result (all_shown units.new.items ≡ all_shown units.old.items ++ shown unit ∷ []) }
+    ensures given { OnOk result (all_shown units.new.items ≡ all_shown units.old.items ++ unit_shown unit ∷ []) }
     ensures err { OnErr result (all_shown units.new.items ≡ all_shown units.old.items) }
 {
     units.push(unit)?;

@@ -20,7 +20,7 @@ pub enum Piece {
 
 /// How far the piece that has begun has come.
 #[derive(Clone, Copy)]
-pub enum Place {
+pub enum Position {
     /// No piece has begun.
     Between,
     /// After IAC.
@@ -34,29 +34,29 @@ pub enum Place {
 }
 
 /// Where the next byte leads, and the piece that it finishes.
-pub fn step(place: Place, byte: u8) -> (Place, Option<Piece>)
+pub fn step(place: Position, byte: u8) -> (Position, Option<Piece>)
     ensures place { result.0 ≡ next_place place byte }
     ensures piece { result.1 ≡ finished_piece place byte }
 {
     match place {
-        Place::Between => match byte {
-            IAC => (Place::BehindIac, None),
-            _ => (Place::Between, Some(Piece::Data(byte))),
+        Position::Between => match byte {
+            IAC => (Position::BehindIac, None),
+            _ => (Position::Between, Some(Piece::Data(byte))),
         },
-        Place::BehindIac => match byte {
-            IAC => (Place::Between, Some(Piece::Data(IAC))),
-            SB => (Place::Inside, None),
-            WILL | WONT | DO | DONT => (Place::BehindVerb(byte), None),
-            _ => (Place::Between, Some(Piece::Command(byte))),
+        Position::BehindIac => match byte {
+            IAC => (Position::Between, Some(Piece::Data(IAC))),
+            SB => (Position::Inside, None),
+            WILL | WONT | DO | DONT => (Position::BehindVerb(byte), None),
+            _ => (Position::Between, Some(Piece::Command(byte))),
         },
-        Place::BehindVerb(verb) => (Place::Between, Some(Piece::Request(verb, byte))),
-        Place::Inside => match byte {
-            IAC => (Place::InsideBehindIac, None),
-            _ => (Place::Inside, None),
+        Position::BehindVerb(verb) => (Position::Between, Some(Piece::Request(verb, byte))),
+        Position::Inside => match byte {
+            IAC => (Position::InsideBehindIac, None),
+            _ => (Position::Inside, None),
         },
-        Place::InsideBehindIac => match byte {
-            SE => (Place::Between, Some(Piece::Subnegotiation)),
-            _ => (Place::Inside, None),
+        Position::InsideBehindIac => match byte {
+            SE => (Position::Between, Some(Piece::Subnegotiation)),
+            _ => (Position::Inside, None),
         },
     }
 }

@@ -2,8 +2,9 @@
 //! that only what is needed.
 
 ghost use Rattle.std.specs.Prelude.{◌≤◌};
+ghost use Rattle.mud_chron.specs.declared.limits.TheConstants.{MOST_DESKS};
 
-use crate::delivering::{Step, steps_of};
+use crate::delivering::{Delivery, steps_of};
 use crate::routing::way;
 use crate::stop::Stop;
 use crate::survey::{Survey, survey_of};
@@ -37,7 +38,7 @@ impl Site<'_> {
     #[tactic(auto, using(crate::proofs::Spelling::spelled))]
     fn act(&mut self, desk: u32, actor: u32, deed: Deed) -> Result<(), Stop>
         requires from { 1 ≤ desk }
-        requires to { desk ≤ 64 }
+        requires to { desk ≤ MOST_DESKS }
     {
         let change = Change { actor, deed };
         if self.world.legal(&change).is_err() {
@@ -73,14 +74,14 @@ impl Site<'_> {
     }
 
     // A player moves a thing.
-    fn deliver(&mut self, step: Step) -> Result<(), Stop> {
+    fn deliver(&mut self, step: Delivery) -> Result<(), Stop> {
         if let Some(room) = step.room {
             self.walk_to(step.actor, room)?;
             if self.world.is_player(step.to) {
                 self.walk_to(step.to, room)?;
             }
         }
-        let Step { thing, to, .. } = step;
+        let Delivery { thing, to, .. } = step;
         self.act(DESK, step.actor, Deed::Move { thing, to })
     }
 
@@ -235,7 +236,7 @@ impl Site<'_> {
     }
 
     // Makes the steps of this time, from this one on, and answers which is the next.
-    fn deliver_at(&mut self, steps: &[Step], from: usize, time: usize) -> Result<usize, Stop> {
+    fn deliver_at(&mut self, steps: &[Delivery], from: usize, time: usize) -> Result<usize, Stop> {
         for at in from..steps.len() {
             let step = steps[at];
             if step.time > time {
@@ -247,7 +248,12 @@ impl Site<'_> {
     }
 
     // Makes what the entries make, their actors in these rooms, each entry after the steps before it.
-    fn make_all(&mut self, entries: &[Entry], places: &[u32], steps: &[Step]) -> Result<(), Stop> {
+    fn make_all(
+        &mut self,
+        entries: &[Entry],
+        places: &[u32],
+        steps: &[Delivery],
+    ) -> Result<(), Stop> {
         let mut next = 0;
         for (time, entry) in entries.iter().enumerate() {
             next = self.deliver_at(steps, next, time)?;

@@ -8,7 +8,7 @@ use std::alloc::Global;
 
 /// A player moves a thing.
 #[derive(Clone, Copy)]
-pub(crate) struct Step {
+pub(crate) struct Delivery {
     /// Before this entry.
     pub(crate) time: usize,
     /// The player.
@@ -53,8 +53,8 @@ struct Plan<'a> {
     survey: &'a Survey,
     end: usize,
     freights: Vec<Freight>,
-    packing: Vec<Step>,
-    steps: Vec<Step>,
+    packing: Vec<Delivery>,
+    steps: Vec<Delivery>,
 }
 
 // The things that lie in no thing.
@@ -107,7 +107,7 @@ impl Plan<'_> {
     }
 
     // The step that puts the thing in the thing in which it lies, if they have one maker.
-    fn bag(&self, thing: u32) -> Result<Option<Step>, Stop> {
+    fn bag(&self, thing: u32) -> Result<Option<Delivery>, Stop> {
         let Some(bag) = self.world.place(thing) else {
             return Err(Stop::GivenUp);
         };
@@ -119,7 +119,7 @@ impl Plan<'_> {
         if maker != bag_maker {
             return Ok(None);
         }
-        Ok(Some(Step {
+        Ok(Some(Delivery {
             time: born.max(bag_born),
             actor: maker,
             room: None,
@@ -181,7 +181,7 @@ impl Plan<'_> {
         thing: u32,
         to: u32,
     ) -> Result<(), Stop> {
-        self.steps.push(Step {
+        self.steps.push(Delivery {
             time,
             actor,
             room: Some(room),
@@ -282,7 +282,7 @@ impl Plan<'_> {
             return Ok(());
         }
         if !self.world.is_room(holder) {
-            self.steps.push(Step {
+            self.steps.push(Delivery {
                 time: self.end,
                 actor: holder,
                 room: None,
@@ -339,7 +339,7 @@ impl Plan<'_> {
     fn sort(&mut self) -> Result<(), Stop> {
         self.packing.extend_from_slice(self.steps.as_slice())?;
         self.packing
-            .sort_by_key(|step: &Step| -> usize { step.time })?;
+            .sort_by_key(|step: &Delivery| -> usize { step.time })?;
         Ok(())
     }
 }
@@ -390,7 +390,7 @@ pub(crate) fn steps_of<'a>(
     world: &'a World,
     survey: &'a Survey,
     end: usize,
-) -> Result<Vec<Step>, Stop> {
+) -> Result<Vec<Delivery>, Stop> {
     let mut plan = Plan {
         world,
         survey,

@@ -4,7 +4,7 @@ use mud_world::World;
 use std::alloc::{AllocError, Global};
 
 // By which exit each room is first reached from a room, by its number, up to where the other is reached.
-fn reached(
+fn exits_by_room(
     alloc: Global,
     world: &World,
     from: u32,
@@ -59,7 +59,7 @@ pub(crate) fn way(
     from: u32,
     to: u32,
 ) -> Result<Option<Vec<u32>>, AllocError> {
-    let by = reached(alloc, world, from, to)?;
+    let by = exits_by_room(alloc, world, from, to)?;
     let mut exits = Vec::new(alloc);
     let mut room = to;
     for _ in 0..world.next_number() {

@@ -7,6 +7,7 @@ use Rattle.std.specs.List.{list_any, filter_map, cons_option}
 use Rattle.std.proofs.lemmas.Bool.{eqb-true, eq-eqb, true≢false, or_cases, or_left, or_right}
 use Rattle.std.proofs.lemmas.List.Elements.{All-cons}
 use Rattle.std.proofs.lemmas.List.Kept.{AllPairs-cons}
+use Rattle.mud_world.specs.declared.limits.TheConstants.{MOST_COST}
 use Rattle.mud_world.specs.declared.record.Passage.{Passage}
 use Rattle.mud_world.specs.declared.record.Kind.{Kind}
 use Rattle.mud_world.specs.declared.record.Kind.TheVariants.{Room, Exit, Thing, Player}
@@ -181,14 +182,14 @@ room-below w sound n room =
 
 -- the ends of an exit are rooms, and its cost is within its limit
 pub passage-well : (w : State) → IsSound w → (n : ℕ) (a : Passage) → passage_of w n ≡ Some a
-    → IsTrue (is_room w a.source) × IsTrue (is_room w a.destination) × (a.cost ≤ 10000)
+    → IsTrue (is_room w a.source) × IsTrue (is_room w a.destination) × (a.cost ≤ MOST_COST)
 passage-well w sound n a is =
     record_cases (record_at w n)
     (λ e. let bad : None ≡ Some a = sym (ap (option_and_then (λ r. kind_passage r.kind)) e) ∙ is in absurd (cc))
     (λ r e. of_kind r.kind (sym (ap (option_and_then (λ r. kind_passage r.kind)) e) ∙ is) (sound.placed n r e))
   where
     of_kind : (k : Kind) → kind_passage k ≡ Some a → IsPlacedWell w k → IsTrue (is_room w a.source)
-        × IsTrue (is_room w a.destination) × (a.cost ≤ 10000)
+        × IsTrue (is_room w a.destination) × (a.cost ≤ MOST_COST)
     of_kind Room e well = absurd (let bad : None ≡ Some a = e in cc)
     of_kind (Exit b) e well = let same : b ≡ a = cc in subst (λ (v : Passage). IsPlacedWell w (Exit v)) same well
     of_kind (Thing q) e well = absurd (let bad : None ≡ Some a = e in cc)
@@ -203,7 +204,7 @@ steps-rooms w sound p room s c =
     (well.0, well.1)
 
 pub steps-inside : (w : State) → IsSound w → (p room : ℕ) (s : Step) → Contains (roads_of w p room) s
-    → (s.to < w.next) × (s.cost ≤ 10000)
+    → (s.to < w.next) × (s.cost ≤ MOST_COST)
 steps-inside w sound p room s c =
     let well = passage-well w sound s.exit (record { source = room; destination = s.to; cost = s.cost })
     (road-at w sound p room s c).0 in

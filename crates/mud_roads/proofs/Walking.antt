@@ -19,7 +19,7 @@ use Rattle.mud_world.specs.State.{State, record_at, exists, has, is_exit, is_num
 use Rattle.mud_world.specs.State.{within, passage_of, destination_of, leaving_of, opens, unlocked}
 use Rattle.mud_world.specs.Sound.{IsSound}
 use Rattle.mud_world.specs.Legal.{fails, refusal, after as world_after}
-use Rattle.mud_world.specs.inner.Parts.{with_record, moved, leaves_from}
+use Rattle.mud_world.specs.inner.Parts.{with_record, with_place, leaves_from}
 use Rattle.mud_world.proofs.KindLemmas.{same_passage, same_player}
 use Rattle.mud_world.proofs.Records.{record_cases, lookup-set_value_same, lookup-set_value_other}
 use Rattle.mud_world.proofs.Numbering.{passing-keep}
@@ -192,7 +192,7 @@ module _ (w : State) (p from : ℕ) (s : Step) (player : IsTrue (is_player w p))
 
   pub step-after : (r : Record) → record_at w p ≡ Some r
       → world_after w change ≡ with_record w p (record r { kind = kind_at s.to r.kind })
-  step-after r at = ap (λ v. option_map_or (moved w p) v w) leads ∙ moved_by w p s.to r at
+  step-after r at = ap (λ v. option_map_or (with_place w p) v w) leads ∙ moved_by w p s.to r at
 
 -- ---- the whole walk
 pub walks_law : (w : State) → IsSound w → (p from to : ℕ) (ss : List Step) → IsTrue (is_player w p)

@@ -28,15 +28,15 @@ pub record Knowledge : Type 0 where
   rows : List (List Step)
 
 -- what is in memory, by number: whether each object is unlocked, and the open steps of each room
-abbrev pub known : ℕ → ℕ → List Bool → List (List Step) → Knowledge
-known player place opened rows = record { player = player; place = place; opened = opened; rows = rows }
+abbrev pub knowledge_of : ℕ → ℕ → List Bool → List (List Step) → Knowledge
+knowledge_of player place opened rows = record { player = player; place = place; opened = opened; rows = rows }
 
 -- it is stored as the tuple of its fields
 abbrev pub knowledge_code : Coded Knowledge
 knowledge_code =
     code_by (ℕ × (ℕ × (List Bool × List (List Step))))
     (coded× coded_ℕ (coded× coded_ℕ (coded× (coded_list coded_bool) (coded_list (coded_list step.the_row.coded)))))
-    (λ t. (t.player, (t.place, (t.opened, t.rows)))) (λ p. known p.0 p.1.0 p.1.1.0 p.1.1.1) (λ _. refl)
+    (λ t. (t.player, (t.place, (t.opened, t.rows)))) (λ p. knowledge_of p.0 p.1.0 p.1.1.0 p.1.1.1) (λ _. refl)
 
 -- whether he knows the object to be unlocked for him
 abbrev pub knows_unlocked : Knowledge → ℕ → Bool

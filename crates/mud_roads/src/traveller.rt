@@ -22,13 +22,13 @@ pub struct Traveller {
 }
 
 impl Model for Traveller {
-    ghost use Rattle.mud_roads.specs.Open.{Knowledge, known, knowledge_code};
+    ghost use Rattle.mud_roads.specs.Open.{Knowledge, knowledge_of, knowledge_code};
 
     ghost Value = { Knowledge };
 
     ghost coded = { knowledge_code };
 
-    ghost view = { λ t. known t.access.player t.place t.access.opened.items t.roads };
+    ghost view = { λ t. knowledge_of t.access.player t.place t.access.opened.items t.roads };
 }
 
 impl Traveller {

@@ -7,7 +7,7 @@ use Rattle.mud_world.specs.State.{State}
 use Rattle.mud_world.specs.Opening.{opening_state}
 use Rattle.mud_world.specs.History.{world_from, world_of}
 use Rattle.mud_world.specs.Legal.{refusal, after}
-use Rattle.mud_world.specs.inner.Parts.{stepped}
+use Rattle.mud_world.specs.inner.Parts.{step_or_same}
 use Rattle.mud_world.specs.declared.change.Change.{Change}
 use Rattle.mud_world.specs.declared.refusal.Refusal.{Refusal}
 use Rattle.mud_chron.specs.Entry.{Entry}
@@ -15,7 +15,7 @@ use Rattle.mud_chron.specs.Replay.{changes_of, world_at, AreLegalFrom, AreLegal,
 use Rattle.mud_row.proofs.Worlds.{world_at-next}
 
 -- a legal change is made
-made : (w : State) (c : Change) → refusal w c ≡ None → stepped w c ≡ after w c
+made : (w : State) (c : Change) → refusal w c ≡ None → step_or_same w c ≡ after w c
 made w c legal = ap (λ o. if is_none o then after w c else w) legal
 
 legal_from-take : (w : State) (es : List Entry) (n : ℕ) (e : Entry) → slice_get es n ≡ Some e

@@ -2,6 +2,7 @@
 use Rattle.std.specs.Prelude.{◌≡◌, ◌≤◌, ◌+◌, length, ℕ, zero, suc, List, [], ◌∷◌, ◌++◌, Option, Some, None}
 use Rattle.std.specs.Prelude.{slice_get, take, drop}
 use Rattle.once_cell.specs.declared.race.note.Note.{Note}
+use Rattle.mud_chron.specs.declared.limits.TheConstants.{MOST_ENTRIES}
 use Rattle.mud_chron.specs.Entry.{Entry}
 use Rattle.mud_chron.specs.Text.{entries_text}
 
@@ -38,7 +39,7 @@ known_of count notes = record { row = names_of notes; list = known_front count n
 
 -- how notes stand in memory. A reader need not look into this: contracts speak only of a `Known`
 abbrev pub AreCounted : ℕ → List (Note Entry) → Type 0
-AreCounted count notes = (length notes ≤ 65536) × (length (known_front count notes) ≡ count)
+AreCounted count notes = (length notes ≤ MOST_ENTRIES) × (length (known_front count notes) ≡ count)
 
 -- entry n, counted from 1
 abbrev pub entry_at : List Entry → ℕ → Option Entry

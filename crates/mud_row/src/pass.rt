@@ -5,6 +5,7 @@
 
 ghost use Rattle.std.specs.Prelude.{◌≡◌, ◌⊎◌, ◌≤◌, length, take, IfOk};
 ghost use mathlib.Core.List.{IsPrefix};
+ghost use Rattle.mud_chron.specs.declared.limits.TheConstants.{MOST_ENTRIES};
 ghost use Rattle.mud_row.specs.Known.{names_of, known_front};
 
 use mud_chron::Entry;
@@ -39,7 +40,7 @@ impl Pass {
     /// How many entries are known, 0 to 65,536.
     pub fn known(&self) -> u32
         ensures known { result ≡ length self.now.list }
-        ensures limit { result ≤ 65536 }
+        ensures limit { result ≤ MOST_ENTRIES }
     {
         self.count
     }

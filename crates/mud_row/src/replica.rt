@@ -4,9 +4,10 @@ ghost use Rattle.std.specs.Prelude.{◌≡◌, ◌++◌, ◌∷◌, [], ◌<◌,
 ghost use Rattle.std.specs.Prelude.{IfOk, IfErr, OnErr, OnOk, IsErrAnd, MatchBool, MatchOption, string_bytes};
 ghost use Rattle.std.specs.Option.{option_copied};
 ghost use mathlib.Core.List.{IsPrefix};
-ghost use Rattle.mud_world.specs.inner.Parts.{stepped};
+ghost use Rattle.mud_world.specs.inner.Parts.{step_or_same};
 ghost use Rattle.mud_chron.specs.Replay.{world_at};
 ghost use Rattle.mud_chron.specs.declared.format.Format.TheVariants.{Two};
+ghost use Rattle.mud_chron.specs.declared.limits.TheConstants.{MOST_ENTRIES};
 ghost use Rattle.mud_chron.specs.Text.{history_text};
 ghost use Rattle.mud_row.specs.Known.{entry_at};
 
@@ -78,7 +79,7 @@ impl Replica {
     /// How many entries are known, 0 to 65,536.
     pub fn known(&self) -> u32
         ensures known { result ≡ length self.now.list }
-        ensures limit { result ≤ 65536 }
+        ensures limit { result ≤ MOST_ENTRIES }
     {
         self.pass.known()
     }
@@ -117,7 +118,7 @@ impl Replica {
         ensures entry { option_copied result ≡ slice_get self.old.list self.old.at }
         ensures place { MatchOption result (self.old.at ≡ length self.old.list)
             (λ _. self.old.at < length self.old.list) }
-        ensures limit { length self.old.list ≤ 65536 }
+        ensures limit { length self.old.list ≤ MOST_ENTRIES }
     {
         if self.at == self.pass.known() {
             return None;
@@ -214,7 +215,7 @@ impl Replica {
     ) -> Result<(), AllocError>
         requires { self.old.row ≡ row.now }
         ensures same { self.new ≡ self.old }
-        ensures limit { length self.old.list ≤ 65536 }
+        ensures limit { length self.old.list ≤ MOST_ENTRIES }
         ensures ok { OnOk result (string_bytes out.new ≡ string_bytes out.old ++ history_text Two self.old.list) }
     {
         // for the prover: `known` says that they are at most 65,536
@@ -282,7 +283,7 @@ impl Replica {
 // Takes an entry into the world: one whose change is not legal changes nothing. Where memory is
 // refused the world stays as it was.
 fn take_in(world: &mut World, entry: &Entry) -> Result<(), AllocError>
-    ensures ok { OnOk result (world.new ≡ stepped world.old entry.now.change) }
+    ensures ok { OnOk result (world.new ≡ step_or_same world.old entry.now.change) }
     ensures err { OnErr result (world.new ≡ world.old) }
 {
     let change = entry.change();

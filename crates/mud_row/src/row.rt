@@ -3,6 +3,7 @@
 ghost use Rattle.std.specs.Prelude.{◌≡◌, ◌++◌, ◌∷◌, [], ◌<◌, ◌≤◌, ◌+◌, ◌↔◌, ◌⊎◌, length, take};
 ghost use Rattle.std.specs.Prelude.{IfOk, IfErr, IsErrAnd, MatchOption, OnOk, OnErr};
 ghost use Rattle.std.specs.Option.{option_copied};
+ghost use Rattle.mud_chron.specs.declared.limits.TheConstants.{MOST_ENTRIES};
 ghost use Rattle.mud_row.specs.Known.{entry_at, Fills};
 
 use crate::fault::{FillFault, RowFault};
@@ -22,19 +23,20 @@ pub struct Row {
 impl Model for Row {
     ghost use Rattle.std.specs.Prelude.{ℕ, List, map, length, ◌≤◌};
     ghost use Rattle.once_cell.specs.Once.{cell_name};
+    ghost use Rattle.mud_chron.specs.declared.limits.TheConstants.{MOST_ENTRIES};
 
     ghost Value = { List ℕ };
 
     ghost view = { λ r. map cell_name r.cells.items };
 
-    ghost invariant = { λ r. (1 ≤ length r.cells.items) × (length r.cells.items ≤ 65536) };
+    ghost invariant = { λ r. (1 ≤ length r.cells.items) × (length r.cells.items ≤ MOST_ENTRIES) };
 }
 
 impl Row {
     /// A row of so many empty cells, 1 to 65,536. The only error is out of memory.
     pub fn new(alloc: Global, capacity: u32) -> Result<Row, AllocError>
         requires from { 1 ≤ capacity }
-        requires to { capacity ≤ 65536 }
+        requires to { capacity ≤ MOST_ENTRIES }
         ensures { IfOk result (λ r. length r ≡ capacity) }
     {
         let mut cells = Vec::with_capacity(alloc, capacity as usize)?;
@@ -48,7 +50,7 @@ impl Row {
     pub fn capacity(&self) -> u32
         ensures capacity { result ≡ length self.now }
         ensures from { 1 ≤ result }
-        ensures to { result ≤ 65536 }
+        ensures to { result ≤ MOST_ENTRIES }
     {
         self.cells.len() as u32
     }

@@ -4,6 +4,7 @@ use Rattle.std.proofs.Common.{arith}
 use Rattle.std.specs.Prelude.{nat_eq, is_some}
 use Rattle.std.specs.Map.{lookup}
 use Rattle.std.proofs.lemmas.Bool.{eqb-true}
+use Rattle.mud_key.specs.declared.limits.TheConstants.{LAST_NUMBER}
 use Rattle.mud_world.specs.declared.record.Record.{Record}
 use Rattle.mud_world.specs.State.{State, exists}
 use Rattle.mud_world.specs.Sound.{IsRising, IsSound}
@@ -27,7 +28,7 @@ below_high low high n (e ∷ es) rises at =
     (sym (ap (λ b. is_some (cond b (Some e.1) (lookup (nat_eq n) es))) past) ∙ at))
 
 -- an object of a sound world has a number that a key can hold
-pub number_of_object : (w : State) (n : ℕ) → IsSound w → exists w n ≡ true → n ≤ 8191
+pub number_of_object : (w : State) (n : ℕ) → IsSound w → exists w n ≡ true → n ≤ LAST_NUMBER
 number_of_object w n sound at =
     let below = below_high 0 w.next n w.objects sound.rising at in
     omega (arith, below, sound.limit)

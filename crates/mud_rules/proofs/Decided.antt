@@ -7,6 +7,7 @@ use Rattle.std.specs.Option.{option_map, option_map_or, option_and_then, option_
 use Rattle.std.specs.Result.{result_ok, result_map_both}
 use Rattle.std.specs.List.{before_first, after_first}
 use Rattle.std.proofs.lemmas.Bool.{cases_Bool, cond-true, cond-false, true≢false}
+use Rattle.mud_key.specs.declared.limits.TheConstants.{LAST_NUMBER}
 use Rattle.mud_key.specs.Name.{IsName}
 use Rattle.mud_key.specs.Names.{AreNames}
 use Rattle.mud_key.specs.Tree.{Tree, Has, Asks, Not, Join, AllObjects, IsKey}
@@ -18,8 +19,8 @@ use Rattle.mud_key.proofs.Found.{names_law, name_law, key_law}
 use Rattle.mud_key.proofs.NamesTaken.{are_names}
 use Rattle.mud_key.proofs.Resolving.{resolved_key}
 use Rattle.mud_words.specs.Line.{Line}
-use Rattle.mud_words.specs.Parse.{parsed}
-use Rattle.mud_words.specs.inner.Searching.{joined}
+use Rattle.mud_words.specs.Parse.{parse_of}
+use Rattle.mud_words.specs.inner.Searching.{join_words}
 use Rattle.mud_words.specs.declared.Prep.TheVariants.{With, To, Is}
 use Rattle.mud_world.specs.Speech.{is_speech}
 use Rattle.mud_world.specs.Refusals.{number, lesser}
@@ -46,15 +47,15 @@ use Rattle.mud_rules.specs.declared.verdict.Query.TheVariants as query
 use Rattle.mud_rules.specs.declared.verdict.Verdict.{Verdict}
 use Rattle.mud_rules.specs.declared.verdict.Verdict.TheVariants as verdict
 use Rattle.mud_rules.specs.Matching.{is_empty, number_in, local_match, room_match, object_number}
-use Rattle.mud_rules.specs.Outcome.{outcome, does, does_read, found, of_kind, on_found, shaped}
+use Rattle.mud_rules.specs.Outcome.{outcome, does, does_read, found, of_kind, on_found, if_shaped}
 use Rattle.mud_rules.specs.Outcome.{IsActor, IsJourney, IsQuestion, IsLawful}
 use Rattle.mud_rules.specs.declared.verdict.Journey.{Journey}
 use Rattle.mud_rules.specs.declared.verdict.Journey.TheVariants.{Route}
 use Rattle.mud_rules.proofs.Parties.{meet-lawful}
 use Rattle.mud_rules.specs.Commands.{key_meant}
 use Rattle.mud_rules.specs.Commands.{doors_in, is_bar, target_in, dig_between}
-use Rattle.mud_rules.specs.inner.Parts.{create, rename, cost, lock, dig_room, has_bar, dig_exits, connecting, connect}
-use Rattle.mud_rules.specs.inner.Parts.{route, meet, is_aimed}
+use Rattle.mud_rules.specs.inner.Parts.{create, rename, cost, lock, dig_room, has_bar, dig_exits, connect_named}
+use Rattle.mud_rules.specs.inner.Parts.{connect, route, meet, is_aimed}
 use Rattle.mud_rules.specs.inner.Parts.{near_named}
 use Rattle.mud_rules.specs.inner.Parts.{first_of, has_empty_side}
 use Rattle.mud_rules.specs.Shapes.{all_of, looked_at, is_pair, text_behind}
@@ -132,7 +133,7 @@ fine-found w player (Ok x) f is = is x
 fine-found w player (Err g) f is = tt
 
 fine-shaped : (w : State) (player : Option ℕ) (b : Bool) (v : Verdict) → IsFine w player v
-    → IsFine w player (shaped b v)
+    → IsFine w player (if_shaped b v)
 fine-shaped w player true v is = is
 fine-shaped w player false v is = tt
 
@@ -162,11 +163,11 @@ emotes-speech w p text legal =
 
 -- ---- keys
 abbrev AreNumbers : Result (Tree ℕ) Miss → Type 0
-AreNumbers (Ok k) = AllObjects (λ n. n ≤ 8191) k
+AreNumbers (Ok k) = AllObjects (λ n. n ≤ LAST_NUMBER) k
 AreNumbers (Err e) = Unit {0}
 
 abbrev IsNumber : Result ℕ Miss → Type 0
-IsNumber (Ok n) = n ≤ 8191
+IsNumber (Ok n) = n ≤ LAST_NUMBER
 IsNumber (Err e) = Unit {0}
 
 numbers-has : (r : Result ℕ Miss) → IsNumber r → AreNumbers (result_map Has r)
@@ -287,14 +288,14 @@ fine-dig : (w : State) (p : ℕ) (l : Line) → IsFine w (Some p) (command w p l
 fine-dig w p l =
     let fits = is_pair To l && not (has_empty_side l.direct) in
     fine-if w (Some p) (is_none l.prep) (on_found (text_behind l) (dig_room w p))
-    (shaped fits (dig_exits w p l.direct l.indirect))
+    (if_shaped fits (dig_exits w p l.direct l.indirect))
     (fine-found w (Some p) (text_behind l) (dig_room w p) (fine-dig_room w p))
     (fine-shaped w (Some p) fits (dig_exits w p l.direct l.indirect)
     (fine-between w p (doors_in l.direct) (target_in l.indirect) (doors-are l.direct) (target-is l.indirect)))
 
 -- ---- players
 fine-connecting : (w : State) → IsSound w → (player : Option ℕ) (name : List ℕ) → IsName name
-    → IsFine w player (connecting w name)
+    → IsFine w player (connect_named w name)
 fine-connecting w sound player name is = go (named_player w name) refl
   where
     new : Change
@@ -311,7 +312,7 @@ fine-connect_line w sound player l =
     fine-shaped w player (not (is_empty (first_of l))) (connect w (first_of l)) (go (name_in (first_of l)) refl)
   where
     go : (o : Option (List ℕ)) → name_in (first_of l) ≡ o
-        → IsFine w player (option_map_or (connecting w) o (verdict.Refused BadName))
+        → IsFine w player (option_map_or (connect_named w) o (verdict.Refused BadName))
     go None is = tt
     go (Some name) is =
         let h = (name_law (first_of l) name).0 is in fine-connecting w sound player name (subst IsName (sym h.0) h.1)
@@ -360,7 +361,7 @@ fine-proof w player (Err f) is = tt
 fine-command : (w : State) → IsSound w → (p : ℕ) (l : Line) (v : Verb) → IsFine w (Some p) (command w p l v)
 fine-command w sound p l verb.Connect = fine-connect_line w sound (Some p) l
 fine-command w sound p l verb.Look =
-    let object = object_named w p (joined (looked_at l.args)) in
+    let object = object_named w p (join_words (looked_at l.args)) in
     fine-if w (Some p) (is_empty l.args) (verdict.Ask (query.View Look))
     (on_found object (λ x. verdict.Ask (query.View (LookAt x)))) tt
     (fine-found w (Some p) object (λ x. verdict.Ask (query.View (LookAt x))) (λ x. tt))
@@ -392,7 +393,7 @@ fine-command w sound p l verb.Route =
 fine-command w sound p l verb.Meet =
     fine-asked w (Some p) (journey_of w p l (Some verb.Meet)) (journey-is w p l (Some verb.Meet))
 fine-command w sound p l verb.Proof =
-    let line = parsed l.rest in
+    let line = parse_of l.rest in
     fine-proof w (Some p) (journey_of w p line (verb_named line.verb)) (journey-is w p line (verb_named line.verb))
 fine-command w sound p l verb.Version = fine-shaped w (Some p) (is_empty l.args) _ tt
 fine-command w sound p l verb.History = fine-shaped w (Some p) (is_empty l.args) _ tt

@@ -16,9 +16,9 @@ use Rattle.mud_rules.specs.declared.verdict.Query.{Query}
 use Rattle.mud_rules.specs.declared.verdict.Query.TheVariants as query
 use Rattle.mud_rules.specs.declared.verdict.Verdict.{Verdict}
 use Rattle.mud_rules.specs.declared.verdict.Verdict.TheVariants as verdict
-use Rattle.mud_rules.specs.Outcome.{outcome, shaped}
+use Rattle.mud_rules.specs.Outcome.{outcome, if_shaped}
 use Rattle.mud_rules.specs.Matching.{is_empty}
-use Rattle.mud_rules.specs.inner.Parts.{connect, connecting, first_of}
+use Rattle.mud_rules.specs.inner.Parts.{connect, connect_named, first_of}
 use Rattle.mud_rules.specs.Table.{guest, decision, verb_named}
 use Rattle.mud_rules.specs.declared.verdict.Journey.{Journey}
 use Rattle.mud_rules.proofs.Ordered.{outcome_is}
@@ -36,7 +36,7 @@ IsAskable (verdict.Change e) = Unit {0}
 IsAskable (verdict.Become p) = Unit {0}
 IsAskable (verdict.Refused f) = Unit {0}
 
-askable-shaped : (fits : Bool) (v : Verdict) → IsAskable v → IsAskable (shaped fits v)
+askable-shaped : (fits : Bool) (v : Verdict) → IsAskable v → IsAskable (if_shaped fits v)
 askable-shaped true v is = is
 askable-shaped false v is = tt
 
@@ -53,7 +53,7 @@ askable-connecting w None v is = is
 askable-connecting w (Some p) v is = tt
 
 askable-connect : (w : State) (o : Option (List ℕ))
-    → IsAskable (option_map_or (connecting w) o (verdict.Refused BadName))
+    → IsAskable (option_map_or (connect_named w) o (verdict.Refused BadName))
 askable-connect w None = tt
 askable-connect w (Some name) = askable-connecting w (named_player w name) _ (askable-outcome w None _)
 

@@ -4,7 +4,7 @@ use Rattle.std.proofs.Common.{◌∙◌, append_assoc, None}
 use Rattle.std.specs.Prelude.{cond, filter, not, codes}
 use Rattle.std.proofs.lemmas.List.{at_drop_more}
 use Rattle.mud_world.specs.State.{State, is_number}
-use Rattle.mud_rules.specs.Listing.{entry_text, listed, listed_under}
+use Rattle.mud_rules.specs.Listing.{entry_text, object_list, listed_under}
 use Rattle.mud_rules.specs.inner.Steps.{listed_after}
 
 after_first : (lead : List ℕ) (w : State) (n : ℕ) (ns : List ℕ)
@@ -56,9 +56,10 @@ pub contents_shown : (w : State) (ns : List ℕ)
 contents_shown w [] = refl
 contents_shown w (n ∷ ns) = refl
 
-listed_alone : (w : State) (ns : List ℕ) → listed_after [] w ns ≡ listed w ns
+listed_alone : (w : State) (ns : List ℕ) → listed_after [] w ns ≡ object_list w ns
 listed_alone w [] = refl
 listed_alone w (n ∷ ns) = refl
 
-pub all_shown : (w : State) (ns : List ℕ) → listed_after [] w (filter (λ o. not (is_number o None)) ns) ≡ listed w ns
+pub all_shown : (w : State) (ns : List ℕ)
+    → listed_after [] w (filter (λ o. not (is_number o None)) ns) ≡ object_list w ns
 all_shown w ns = ap (listed_after [] w) (all_others ns) ∙ listed_alone w ns

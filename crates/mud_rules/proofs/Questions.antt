@@ -9,8 +9,8 @@ use Rattle.std.specs.Str.{str_eq_ignore_ascii_case}
 use Rattle.std.proofs.lemmas.Bool.{true≢false}
 use Rattle.mud_key.specs.Reading.{name_in}
 use Rattle.mud_words.specs.Line.{Line}
-use Rattle.mud_words.specs.Parse.{parsed}
-use Rattle.mud_words.specs.inner.Searching.{joined}
+use Rattle.mud_words.specs.Parse.{parse_of}
+use Rattle.mud_words.specs.inner.Searching.{join_words}
 use Rattle.mud_words.specs.declared.Prep.TheVariants.{To}
 use Rattle.mud_world.specs.Refusals.{lesser}
 use Rattle.mud_world.specs.State.{State, named_player}
@@ -27,8 +27,8 @@ use Rattle.mud_rules.specs.declared.verdict.Verdict.{Verdict}
 use Rattle.mud_rules.specs.declared.verdict.Verdict.TheVariants as verdict
 use Rattle.mud_rules.specs.Matching.{is_empty}
 use Rattle.mud_rules.specs.inner.Steps.{asks}
-use Rattle.mud_rules.specs.Outcome.{outcome, does, on_found, shaped}
-use Rattle.mud_rules.specs.inner.Parts.{connect, connecting, dig_room, dig_exits, first_of, has_empty_side}
+use Rattle.mud_rules.specs.Outcome.{outcome, does, on_found, if_shaped}
+use Rattle.mud_rules.specs.inner.Parts.{connect, connect_named, dig_room, dig_exits, first_of, has_empty_side}
 use Rattle.mud_rules.specs.Shapes.{all_of, looked_at, object_named, is_pair, text_behind}
 use Rattle.mud_rules.specs.Table.{journey_of}
 use Rattle.mud_rules.specs.Table.{question_verbs, other_verbs, verb_named, connect_line, command, other_line, guest}
@@ -53,7 +53,7 @@ asks-either : (b t : Bool) (u v : Verdict) → AsksIf b u → AsksIf b v → Ask
 asks-either b true u v x y = x
 asks-either b false u v x y = y
 
-asks-shaped : (b t : Bool) (v : Verdict) → AsksIf b v → AsksIf b (shaped t v)
+asks-shaped : (b t : Bool) (v : Verdict) → AsksIf b v → AsksIf b (if_shaped t v)
 asks-shaped b true v is = is
 asks-shaped b false v is = tt
 
@@ -73,7 +73,7 @@ asks-connecting b None v is = is
 asks-connecting b (Some n) v is = tt
 
 asks-connect : (b : Bool) (w : State) (o : Option (List ℕ))
-    → AsksIf b (option_map_or (connecting w) o (verdict.Refused BadName))
+    → AsksIf b (option_map_or (connect_named w) o (verdict.Refused BadName))
 asks-connect b w None = tt
 asks-connect b w (Some name) = asks-connecting b (named_player w name) _ (asks-outcome b w None _)
 
@@ -87,7 +87,7 @@ asks-connect_line b w l =
 asks-command : (w : State) (p : ℕ) (l : Line) (v : Verb) → AsksIf (asks v) (command w p l v)
 asks-command w p l verb.Connect = asks-connect_line false w l
 asks-command w p l verb.Look =
-    let named = object_named w p (joined (looked_at l.args)) in
+    let named = object_named w p (join_words (looked_at l.args)) in
     let shown : ℕ → Verdict = λ x. verdict.Ask (query.View (LookAt x)) in
     asks-either true (is_empty l.args) (verdict.Ask (query.View Look)) (on_found named shown) refl
     (asks-found true named shown (λ x. refl))
@@ -96,7 +96,7 @@ asks-command w p l verb.Say = asks-does false w p _ _
 asks-command w p l verb.Emote = asks-does false w p _ _
 asks-command w p l verb.Dig =
     asks-either false (is_none l.prep) (on_found (text_behind l) (dig_room w p))
-    (shaped (is_pair To l && not (has_empty_side l.direct)) (dig_exits w p l.direct l.indirect))
+    (if_shaped (is_pair To l && not (has_empty_side l.direct)) (dig_exits w p l.direct l.indirect))
     (asks-found false (text_behind l) (dig_room w p) (λ x. asks-does false w p _ _))
     (asks-shaped false (is_pair To l && not (has_empty_side l.direct)) (dig_exits w p l.direct l.indirect)
     (asks-does false w p _ _))
@@ -107,7 +107,7 @@ asks-command w p l verb.Route =
 asks-command w p l verb.Meet =
     asks-found true (journey_of w p l (Some verb.Meet)) (λ j. verdict.Ask (query.Journey j)) (λ j. refl)
 asks-command w p l verb.Proof =
-    let line = parsed l.rest in
+    let line = parse_of l.rest in
     asks-found true (journey_of w p line (verb_named line.verb)) (λ j. verdict.Ask (query.Proof j)) (λ j. refl)
 asks-command w p l verb.Version = asks-shaped true (is_empty l.args) (verdict.Ask (query.View Version)) refl
 asks-command w p l verb.History = asks-shaped true (is_empty l.args) (verdict.Ask query.History) refl

@@ -8,7 +8,7 @@ use Rattle.mud_rules.specs.declared.verdict.View.{View}
 use Rattle.mud_rules.specs.declared.verdict.View.TheVariants.{Look, LookAt, Inventory, KeyOf, Version, Quit}
 use Rattle.mud_world.specs.State.{State, record_at, place_of, is_number, contents_of, leaving_of, key_of}
 use Rattle.mud_rules.specs.Matching.{is_empty}
-use Rattle.mud_rules.specs.Listing.{entry_text, listed, listed_under}
+use Rattle.mud_rules.specs.Listing.{entry_text, object_list, listed_under}
 
 -- what is seen of a kind: the exits of a room, the ends and the cost of an exit
 abbrev pub kind_text : State → ℕ → Kind → List ℕ
@@ -27,7 +27,8 @@ look_text w player n =
 -- what he has, directly, or the word for none
 abbrev pub inventory_text : State → ℕ → List ℕ
 inventory_text w player =
-    codes "inventory " ++ (if is_empty (contents_of w player) then codes "nothing" else listed w (contents_of w player))
+    codes "inventory "
+    ++ (if is_empty (contents_of w player) then codes "nothing" else object_list w (contents_of w player))
 
 abbrev pub key_of_text : State → ℕ → List ℕ
 key_of_text w n =

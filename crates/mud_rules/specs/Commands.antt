@@ -18,6 +18,7 @@ use Rattle.mud_world.specs.declared.refusal.Refusal.TheVariants.{NoSuch, WrongKi
 use Rattle.mud_world.specs.Refusals.{lesser, refused_if}
 use Rattle.mud_world.specs.State.{State, exists, is_player, within}
 use Rattle.mud_world.specs.Conditions.{shares_room}
+use Rattle.mud_rules.specs.declared.digging.TheConstants.{BAR}
 use Rattle.mud_rules.specs.declared.verdict.Verdict.{Verdict}
 use Rattle.mud_rules.specs.Matching.{object_number, local_match}
 use Rattle.mud_rules.specs.Outcome.{does, found, of_kind}
@@ -47,7 +48,7 @@ key_meant w p text =
 -- ---- digging
 
 abbrev pub is_bar : ℕ → Bool
-is_bar c = nat_eq c 124
+is_bar c = nat_eq c BAR
 
 -- an exit `NAMES`, or with one back `NAMES|NAMES`: a name has no bar, so there is no second one
 abbrev pub doors_in : List ℕ → Option Doors

@@ -13,10 +13,10 @@ abbrev pub entry_text : State → ℕ → List ℕ
 entry_text w n = first_name w n ++ codes " #" ++ decimal n
 
 -- NAME #n, NAME #m and so on
-abbrev pub listed : State → List ℕ → List ℕ
-listed w ns = join_by (entry_text w) (codes ", ") ns
+abbrev pub object_list : State → List ℕ → List ℕ
+object_list w ns = join_by (entry_text w) (codes ", ") ns
 
 -- a further line, where there is something to list
 abbrev pub listed_under : State → List ℕ → List ℕ → List ℕ
 listed_under w heading [] = []
-listed_under w heading (n ∷ ns) = codes "\n  " ++ heading ++ listed w (n ∷ ns)
+listed_under w heading (n ∷ ns) = codes "\n  " ++ heading ++ object_list w (n ∷ ns)

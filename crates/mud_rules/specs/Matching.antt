@@ -1,11 +1,13 @@
 -- Which object a text means.
 use Rattle.std.specs.Prelude.{ℕ, ◌+◌, ◌-◌, ◌*◌, Bool, ◌&&◌, nat_eq, nat_lt, List, [], ◌∷◌, ◌++◌, length}
-use Rattle.std.specs.Prelude.{take}
+use Rattle.std.specs.Prelude.{take, nat_le}
 use Rattle.std.specs.Prelude.{filter, codes, Option, Some, None, ok_or, Result, Ok, Err, if◌then◌else◌}
 use Rattle.std.specs.Option.{option_map_or}
 use Rattle.std.specs.List.{list_any, list_all, fold, range_with_len}
 use Rattle.std.specs.Char.{is_ascii_digit}
 use Rattle.std.specs.Str.{str_eq_ignore_ascii_case}
+use Rattle.mud_key.specs.declared.codes.TheConstants.{SHARP}
+use Rattle.mud_key.specs.declared.limits.TheConstants.{MOST_DIGITS}
 pub use Rattle.mud_words.specs.Laws.{is_empty}
 use Rattle.mud_world.specs.State.{State, has, exists, is_room, is_player, place_of, contents_of, leaving_of}
 use Rattle.mud_rules.specs.declared.matching.Likeness.{Likeness}
@@ -41,14 +43,14 @@ or_else first second = first
 -- 1 to 9 digits, as a number
 abbrev pub number_in : List ℕ → Option ℕ
 number_in text =
-    if nat_lt 0 (length text) && nat_lt (length text) 10 then
+    if nat_lt 0 (length text) && nat_le (length text) MOST_DIGITS then
     (if list_all is_ascii_digit text then Some (fold (λ value digit. value * 10 + (digit - 48)) 0 text) else None)
     else None
 
 -- `#` and 1 to 9 digits, as a number
 abbrev pub object_number : List ℕ → Option ℕ
 object_number [] = None
-object_number (c ∷ digits) = if nat_eq c 35 then number_in digits else None
+object_number (c ∷ digits) = if nat_eq c SHARP then number_in digits else None
 
 -- ---- texts
 

@@ -60,8 +60,8 @@ on_found (Ok x) meaning = meaning x
 on_found (Err f) meaning = Refused f
 
 -- a line of another shape is not understood
-abbrev pub shaped : Bool → Verdict → Verdict
-shaped fits v = if fits then v else Refused NotUnderstood
+abbrev pub if_shaped : Bool → Verdict → Verdict
+if_shaped fits v = if fits then v else Refused NotUnderstood
 
 -- ---- what is true of all that a line comes to
 

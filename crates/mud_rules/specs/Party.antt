@@ -1,11 +1,12 @@
 -- Who meets: 2 to 8 players, none of them twice.
 use Rattle.std.specs.Prelude.{◌≢◌, ℕ, ◌≤◌, Bool, true, not, ◌&&◌, nat_eq, nat_le, List, [], ◌∷◌, length}
 use Rattle.std.specs.List.{AllPairs, list_any}
+use Rattle.mud_world.specs.declared.limits.TheConstants.{MOST_PARTY}
 
 -- 2 to 8 of them, and no two are the same
 pub record IsParty (party : List ℕ) : Type 0 where
   pub two : 2 ≤ length party
-  pub eight : length party ≤ 8
+  pub eight : length party ≤ MOST_PARTY
   pub distinct : AllPairs (λ p q. p ≢ q) party
 
 -- nobody is there twice
@@ -15,4 +16,4 @@ all_distinct (p ∷ ps) = not (list_any (λ q. nat_eq q p) ps) && all_distinct p
 
 -- the same as a test
 abbrev pub is_party : List ℕ → Bool
-is_party party = nat_le 2 (length party) && (nat_le (length party) 8 && all_distinct party)
+is_party party = nat_le 2 (length party) && (nat_le (length party) MOST_PARTY && all_distinct party)

@@ -3,6 +3,7 @@ use Rattle.std.specs.Prelude.{ℕ, Bool, true, false, not, ◌&&◌, List, ◌�
 use Rattle.std.specs.Prelude.{Err}
 use Rattle.std.specs.Prelude.{if◌then◌else◌}
 use Rattle.std.specs.Str.{str_eq_ignore_ascii_case}
+use Rattle.mud_words.specs.declared.codes.TheConstants.{SPACE}
 use Rattle.mud_words.specs.declared.Prep.{Prep}
 use Rattle.mud_words.specs.declared.Prep.TheVariants.{With, To, In, Is}
 use Rattle.mud_words.specs.Line.{Line}
@@ -17,7 +18,7 @@ use Rattle.std.specs.List.{join_with_byte}
 
 -- the words after the verb
 abbrev pub all_of : Line → List ℕ
-all_of l = join_with_byte 32 l.args
+all_of l = join_with_byte SPACE l.args
 
 -- without a first `at` that has more after it
 abbrev pub looked_at : List (List ℕ) → List (List ℕ)

@@ -7,9 +7,10 @@ use Rattle.std.specs.Option.{option_map_or, is_some}
 use Rattle.std.specs.List.{list_any, slice_split, join_with_byte}
 use Rattle.std.specs.Map.{lookup}
 use Rattle.std.specs.Str.{str_eq_ignore_ascii_case}
+use Rattle.mud_words.specs.declared.codes.TheConstants.{SPACE}
 use Rattle.mud_words.specs.declared.Prep.TheVariants.{With, To, In, Is}
 use Rattle.mud_words.specs.Line.{Line}
-use Rattle.mud_words.specs.Parse.{parsed}
+use Rattle.mud_words.specs.Parse.{parse_of}
 use Rattle.mud_world.specs.declared.change.Deed.TheVariants.{Move, Walk, Unlock, Recycle, Say, Emote, Dig, Make, Lock}
 use Rattle.mud_world.specs.declared.change.Deed.TheVariants.{Cost, Player, Rename}
 use Rattle.mud_world.specs.declared.refusal.Refusal.{Refusal}
@@ -25,7 +26,7 @@ use Rattle.mud_rules.specs.declared.verdict.Query.TheVariants as query
 use Rattle.mud_rules.specs.declared.verdict.Verdict.{Verdict}
 use Rattle.mud_rules.specs.declared.verdict.Verdict.TheVariants.{Ask, Refused, Become}
 use Rattle.mud_rules.specs.Matching.{is_empty, sole_like, number_in, room_match}
-use Rattle.mud_rules.specs.Outcome.{does, found, on_found, shaped, outcome, does_read, of_kind}
+use Rattle.mud_rules.specs.Outcome.{does, found, on_found, if_shaped, outcome, does_read, of_kind}
 use Rattle.mud_rules.specs.Commands.{give, key_meant, doors_in, target_in, dig_between, is_bar, kind_then_here}
 use Rattle.mud_rules.specs.Shapes.{all_of, looked_at, is_pair, text_behind, is_prep}
 use Rattle.mud_rules.specs.Shapes.{object_named, object_before, objects_round}
@@ -68,7 +69,7 @@ verb_named text = lookup (str_eq_ignore_ascii_case text) (question_verbs ++ othe
 abbrev pub connect_line : State → Line → Verdict
 connect_line w l =
     let text = get_or l.args 0 [] in
-    shaped (not (is_empty text))
+    if_shaped (not (is_empty text))
     (option_map_or
     (λ name.
     option_map_or Become (named_player w name) (outcome w None (record { actor = w.next; deed = Player name })))
@@ -89,8 +90,8 @@ abbrev pub command : State → ℕ → Line → Verb → Verdict
 command w p l verb.Connect = connect_line w l
 command w p l verb.Look =
     if is_empty l.args then Ask (query.View Look)
-    else on_found (object_named w p (join_with_byte 32 (looked_at l.args))) (λ x. Ask (query.View (LookAt x)))
-command w p l verb.Inventory = shaped (is_empty l.args) (Ask (query.View Inventory))
+    else on_found (object_named w p (join_with_byte SPACE (looked_at l.args))) (λ x. Ask (query.View (LookAt x)))
+command w p l verb.Inventory = if_shaped (is_empty l.args) (Ask (query.View Inventory))
 command w p l verb.Go = on_found (object_named w p (all_of l)) (λ x. does w p None (Walk x))
 command w p l verb.Take = on_found (object_named w p (all_of l)) (λ x. does w p None (Move x p))
 command w p l verb.Drop =
@@ -105,7 +106,7 @@ command w p l verb.Emote = does w p None (Emote l.rest)
 command w p l verb.Dig =
     if is_none l.prep then
     on_found (text_behind l) (λ text. does_read w p BadName [] (names_in text) (λ names. Dig (New names) None))
-    else shaped (is_pair To l && not (list_any is_empty (slice_split is_bar l.direct)))
+    else if_shaped (is_pair To l && not (list_any is_empty (slice_split is_bar l.direct)))
     (dig_between w p (doors_in l.direct) (target_in l.indirect))
 command w p l verb.Create = on_found (text_behind l) (λ text. does_read w p BadName [] (names_in text) Make)
 command w p l verb.Lock =
@@ -120,23 +121,23 @@ command w p l verb.Recycle = on_found (object_named w p (all_of l)) (λ x. does 
 command w p l verb.Route = on_found (journey_of w p l (Some verb.Route)) (λ journey. Ask (query.Journey journey))
 command w p l verb.Meet = on_found (journey_of w p l (Some verb.Meet)) (λ journey. Ask (query.Journey journey))
 command w p l verb.Proof =
-    let line = parsed l.rest in
+    let line = parse_of l.rest in
     on_found (journey_of w p line (verb_named line.verb)) (λ journey. Ask (query.Proof journey))
-command w p l verb.Version = shaped (is_empty l.args) (Ask (query.View Version))
-command w p l verb.History = shaped (is_empty l.args) (Ask query.History)
-command w p l verb.Quit = shaped (is_empty l.args) (Ask (query.View Quit))
+command w p l verb.Version = if_shaped (is_empty l.args) (Ask (query.View Version))
+command w p l verb.History = if_shaped (is_empty l.args) (Ask query.History)
+command w p l verb.Quit = if_shaped (is_empty l.args) (Ask (query.View Quit))
 
 -- any other line: the sole exit of the player's room that has the words of the whole line as a name
 abbrev pub other_line : State → ℕ → Line → Verdict
 other_line w p l =
     let exits = option_map_or (leaving_of w) (place_of w p) [] in
-    on_found (found NotUnderstood (sole_like Equal w (join_with_byte 32 (l.verb ∷ l.args)) exits))
+    on_found (found NotUnderstood (sole_like Equal w (join_with_byte SPACE (l.verb ∷ l.args)) exits))
     (λ x. does w p None (Walk x))
 
 -- a guest, who is no player, has `connect` and `quit` alone
 abbrev pub guest : State → Line → Option Verb → Verdict
 guest w l (Some verb.Connect) = connect_line w l
-guest w l (Some verb.Quit) = shaped (is_empty l.args) (Ask (query.View Quit))
+guest w l (Some verb.Quit) = if_shaped (is_empty l.args) (Ask (query.View Quit))
 guest w l other = Refused NotUnderstood
 
 -- what a line means to a player, or to a guest

@@ -4,7 +4,7 @@ ghost use Rattle.std.specs.Prelude.{◌≡◌, ◌++◌, [], Some, not, codes, f
 ghost use Rattle.std.specs.Option.{option_map_or};
 ghost use Rattle.mud_key.specs.Printed.{printed, by_text};
 ghost use Rattle.mud_world.specs.State.{contents_of, is_number, key_of, leaving_of, place_of};
-ghost use Rattle.mud_rules.specs.Listing.{listed, listed_under};
+ghost use Rattle.mud_rules.specs.Listing.{object_list, listed_under};
 ghost use Rattle.mud_rules.specs.Answers.{kind_text, look_text, inventory_text, key_of_text, show_text};
 
 use crate::View;
@@ -61,7 +61,7 @@ fn push_contents(
 // The objects of a list.
 fn push_all(text: &mut String, world: &World, numbers: &[u32]) -> Result<(), AllocError>
     ensures { OnOk result (string_bytes text.new
-        ≡ string_bytes text.old ++ listed world.now numbers.now) }
+        ≡ string_bytes text.old ++ object_list world.now numbers.now) }
 {
     push_listed(text, world, "", numbers, None)
 }

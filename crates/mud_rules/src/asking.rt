@@ -5,8 +5,8 @@ ghost use Rattle.mud_words.specs.Line.{line_of};
 ghost use Rattle.mud_rules.specs.Table.{command, journey_of, verb_named};
 
 use crate::actor::Actor;
-use crate::outcome::{asked_journey, asked_proof, on_found, on_given, shaped};
-use crate::shapes::{all_of, is_aimed, joined, looked_at};
+use crate::outcome::{asked_journey, asked_proof, if_shaped, on_found, on_given};
+use crate::shapes::{all_of, is_aimed, join_words, looked_at};
 use crate::verb::Verb;
 use crate::{Journey, Query, Verdict, View};
 use mud_words::{Parsed, Prep, parse};
@@ -21,7 +21,7 @@ impl Actor<'_> {
         if parsed.args.is_empty() {
             return Ok(Verdict::Ask(Query::View(View::Look)));
         }
-        let text = joined(self.alloc, looked_at(&parsed.args))?;
+        let text = join_words(self.alloc, looked_at(&parsed.args))?;
         let found = self.object_named(&text);
         on_found!(found, object => Ok(Verdict::Ask(Query::View(View::LookAt(object)))))
     }
@@ -30,7 +30,7 @@ impl Actor<'_> {
         ensures { IfOk result (λ v. v
             ≡ command self.now.world.now self.now.player (line_of parsed.now) Verb.Inventory) }
     {
-        Ok(shaped(parsed.args.is_empty(), Query::View(View::Inventory)))
+        Ok(if_shaped(parsed.args.is_empty(), Query::View(View::Inventory)))
     }
 
     pub(crate) fn key(&self, parsed: &Parsed) -> Result<Verdict, AllocError>
@@ -66,21 +66,21 @@ impl Actor<'_> {
         ensures { IfOk result (λ v. v
             ≡ command self.now.world.now self.now.player (line_of parsed.now) Verb.Version) }
     {
-        Ok(shaped(parsed.args.is_empty(), Query::View(View::Version)))
+        Ok(if_shaped(parsed.args.is_empty(), Query::View(View::Version)))
     }
 
     pub(crate) fn history(&self, parsed: &Parsed) -> Result<Verdict, AllocError>
         ensures { IfOk result (λ v. v
             ≡ command self.now.world.now self.now.player (line_of parsed.now) Verb.History) }
     {
-        Ok(shaped(parsed.args.is_empty(), Query::History))
+        Ok(if_shaped(parsed.args.is_empty(), Query::History))
     }
 
     pub(crate) fn quit(&self, parsed: &Parsed) -> Result<Verdict, AllocError>
         ensures { IfOk result (λ v. v
             ≡ command self.now.world.now self.now.player (line_of parsed.now) Verb.Quit) }
     {
-        Ok(shaped(parsed.args.is_empty(), Query::View(View::Quit)))
+        Ok(if_shaped(parsed.args.is_empty(), Query::View(View::Quit)))
     }
 
     // The journey that a line asks for.
@@ -89,7 +89,7 @@ impl Actor<'_> {
             ≡ journey_of self.now.world.now self.now.player (line_of parsed.now)
             (verb_named (line_of parsed.now).verb)) }
     {
-        match Verb::named(&parsed.verb) {
+        match Verb::of_word(&parsed.verb) {
             Some(Verb::Route) => Ok(self.route_meant(parsed)),
             Some(Verb::Meet) => self.meeting_meant(parsed),
             _ => Ok(Err(Refusal::NotUnderstood)),

@@ -2,7 +2,7 @@
 
 ghost use Rattle.std.specs.Prelude.{◌≡◌, IfOk};
 ghost use Rattle.mud_words.specs.Line.{line_of};
-ghost use Rattle.mud_rules.specs.inner.Parts.{connecting, connect as connect_as};
+ghost use Rattle.mud_rules.specs.inner.Parts.{connect_named, connect as connect_as};
 ghost use Rattle.mud_rules.specs.Table.{connect_line};
 
 use crate::Verdict;
@@ -35,7 +35,7 @@ fn connect_as(alloc: Global, world: &World, text: &str) -> Result<Verdict, Alloc
 }
 
 fn connect_named(world: &World, name: Name) -> Verdict
-    ensures { result ≡ connecting world.now name }
+    ensures { result ≡ connect_named world.now name }
 {
     match world.player_named(name.as_str()) {
         Some(player) => Verdict::Become(player),

@@ -9,6 +9,9 @@ use crate::naming::names_in;
 use mud_world::{Doors, Target};
 use std::alloc::{AllocError, Global};
 
+/// What stands between the names of an exit and those of the exit back (docs/COMMANDS.md, "The commands").
+const BAR: u8 = b'|';
+
 // The exits that a text names.
 pub(crate) fn doors_in(alloc: Global, text: &str) -> Result<Option<Doors>, AllocError>
     ensures { IfOk result (λ doors. doors ≡ doors_in text.now) }
@@ -51,7 +54,7 @@ pub(crate) fn has_empty_side(text: &str) -> bool
 {
     let mut fresh = true;
     for byte in text.as_bytes() {
-        if *byte == b'|' {
+        if *byte == BAR {
             if fresh {
                 return true;
             }

@@ -51,7 +51,13 @@ fn heard_deed(
 }
 
 // One name, words, and another name.
-fn said(alloc: Global, who: &str, does: &str, what: &str, end: &str) -> Result<String, AllocError>
+fn sentence(
+    alloc: Global,
+    who: &str,
+    does: &str,
+    what: &str,
+    end: &str,
+) -> Result<String, AllocError>
     ensures { IfOk result (λ line. string_bytes line ≡ who.now ++ does.now ++ what.now ++ end.now) }
 {
     let mut line = String::from_str(alloc, who)?;
@@ -73,7 +79,7 @@ fn said_of(
     ensures { IfOk result (λ line. string_bytes line
         ≡ who.now ++ does.now ++ what.now ++ end.now ++ whom.now ++ codes ".") }
 {
-    let mut line = said(alloc, who, does, what, end)?;
+    let mut line = sentence(alloc, who, does, what, end)?;
     line.push_str(whom)?;
     line.push_str(".")?;
     Ok(line)
@@ -90,7 +96,7 @@ fn heard_say(
         ≡ heard_deed world.now player actor (deed.Say text.now)) }
 {
     if together(world, actor, player) {
-        let line = said(alloc, first_name(world, actor), " says, \"", text, "\"")?;
+        let line = sentence(alloc, first_name(world, actor), " says, \"", text, "\"")?;
         Ok(Some(line))
     } else {
         Ok(None)
@@ -108,7 +114,7 @@ fn heard_emote(
         ≡ heard_deed world.now player actor (deed.Emote text.now)) }
 {
     if together(world, actor, player) {
-        let line = said(alloc, first_name(world, actor), " ", text, "")?;
+        let line = sentence(alloc, first_name(world, actor), " ", text, "")?;
         Ok(Some(line))
     } else {
         Ok(None)
@@ -147,13 +153,13 @@ fn moved_line(
     let who = first_name(world, actor);
     let what = first_name(world, thing);
     if to == actor {
-        said(alloc, who, " takes ", what, ".")
+        sentence(alloc, who, " takes ", what, ".")
     } else if world.is_in(actor, to) {
-        said(alloc, who, " drops ", what, ".")
+        sentence(alloc, who, " drops ", what, ".")
     } else if world.is_thing(to) {
         said_of(alloc, who, " puts ", what, " in ", first_name(world, to))
     } else if to == player {
-        said(alloc, who, " gives ", what, " to you.")
+        sentence(alloc, who, " gives ", what, " to you.")
     } else {
         said_of(alloc, who, " gives ", what, " to ", first_name(world, to))
     }
@@ -171,7 +177,7 @@ fn walked_line(
 {
     let who = first_name(world, actor);
     if together(world, actor, player) {
-        let line = said(alloc, who, " leaves by ", first_name(world, exit), ".")?;
+        let line = sentence(alloc, who, " leaves by ", first_name(world, exit), ".")?;
         return Ok(Some(line));
     }
     let to = match world.passage(exit) {

@@ -15,6 +15,7 @@ use crate::matching::{player_match, room_match};
 use crate::outcome::found;
 use crate::{Journey, Party};
 use mud_key::parts;
+use mud_world::limits::MOST_PARTY;
 use mud_world::{Refusal, lesser, refused_if};
 use std::alloc::{AllocError, Global};
 
@@ -112,7 +113,7 @@ fn all_distinct(party: &[u32]) -> bool
 fn is_party(party: &[u32]) -> bool
     ensures { result ≡ is_party party.now }
 {
-    2 <= party.len() && party.len() <= 8 && all_distinct(party)
+    2 <= party.len() && party.len() <= MOST_PARTY && all_distinct(party)
 }
 
 // The refusal of those who are no party.

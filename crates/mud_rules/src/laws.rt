@@ -16,7 +16,7 @@ pub fn whatever_is_read()
 {}
 
 /// In a sound world a change that a line comes to is legal, and its names, keys and texts are such.
-pub fn made()
+pub fn decisions()
     ensures { (w : State) → IsSound w → (player : Option ℕ) (l : Line) (e : Change)
         → decision w player l ≡ Changes e → IsMade w e }
 {}

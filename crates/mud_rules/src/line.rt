@@ -9,7 +9,7 @@ use crate::actor::Actor;
 use crate::comparing::is_word;
 use crate::connecting::connect;
 use crate::matching::{Likeness, Match, sole_fit};
-use crate::outcome::shaped;
+use crate::outcome::if_shaped;
 use crate::shapes::whole_of;
 use crate::verb::Verb;
 use crate::{Query, Verdict, View};
@@ -62,7 +62,7 @@ fn decision(
 ) -> Result<Verdict, AllocError>
     ensures { IfOk result (λ v. v ≡ decision world.now player (line_of parsed.now)) }
 {
-    let verb = Verb::named(&parsed.verb);
+    let verb = Verb::of_word(&parsed.verb);
     let Some(player) = player else {
         return guest(alloc, world, parsed, verb);
     };
@@ -137,7 +137,7 @@ fn guest(
 {
     match verb {
         Some(Verb::Connect) => connect(alloc, world, parsed),
-        Some(Verb::Quit) => Ok(shaped(parsed.args.is_empty(), Query::View(View::Quit))),
+        Some(Verb::Quit) => Ok(if_shaped(parsed.args.is_empty(), Query::View(View::Quit))),
         _ => Ok(Verdict::Refused(Refusal::NotUnderstood)),
     }
 }

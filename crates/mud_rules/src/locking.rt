@@ -1,6 +1,7 @@
 //! The commands that lock.
 
 ghost use Rattle.std.specs.Prelude.{◌≡◌, ◌≤◌, Result, IfOk, if◌then◌else◌};
+ghost use Rattle.mud_key.specs.declared.limits.TheConstants.{LAST_NUMBER};
 ghost use Rattle.mud_words.specs.Line.{line_of};
 ghost use Rattle.mud_world.specs.State.{exists};
 ghost use Rattle.mud_rules.specs.Commands.{key_meant};
@@ -23,16 +24,16 @@ impl Namer for Actor<'_> {
 
     fn name(&self, text: &str) -> Result<u32, Miss> {
         match local_match(self.world, self.player, text) {
-            Ok(number) => existing(self.world, number),
+            Ok(number) => check_object(self.world, number),
             Err(_) => Err(Miss::NoSuch),
         }
     }
 }
 
 // An object that exists.
-fn existing(world: &World, number: u32) -> Result<u32, Miss>
+fn check_object(world: &World, number: u32) -> Result<u32, Miss>
     ensures found { result ≡ (if exists world.now number then Result.Ok number else Result.Err Miss.NoSuch) }
-    ensures number { IfOk result (λ n. n ≤ 8191) }
+    ensures number { IfOk result (λ n. n ≤ LAST_NUMBER) }
 {
     // for the prover: `next_number` says that the world is sound
     let _next = world.next_number();

@@ -1,7 +1,8 @@
 //! Which object a text means.
 
-ghost use Rattle.std.specs.Prelude.{◌≡◌, ◌&&◌, ◌<◌, filter, length, map, string_bytes, Result, if◌then◌else◌};
+ghost use Rattle.std.specs.Prelude.{◌≡◌, ◌&&◌, ◌≤◌, filter, length, map, string_bytes, Result, if◌then◌else◌};
 ghost use Rattle.std.specs.List.{list_any, range_with_len};
+ghost use Rattle.mud_key.specs.declared.limits.TheConstants.{MOST_DIGITS};
 ghost use Rattle.mud_rules.specs.declared.matching.Likeness.TheVariants.{Equal, Prefix};
 ghost use Rattle.mud_rules.specs.Matching.{is_like, sole_like, or_else, number_in, object_number};
 ghost use Rattle.mud_rules.specs.inner.Parts.{is_named, digits_value};
@@ -10,6 +11,8 @@ ghost use Rattle.mud_rules.specs.inner.Steps.{direct_match, fits, sole_fit, toge
 ghost use Rattle.mud_world.specs.State.{exists, place_of};
 
 use crate::comparing::is_same;
+use mud_key::codes::SHARP;
+use mud_key::limits::MOST_DIGITS;
 use mud_world::World;
 
 /// Why a text means no object; the numbers -1, -3 and -2 of the LambdaMOO Programmer's Manual
@@ -89,7 +92,7 @@ fn direct_match(world: &World, player: u32, text: &str) -> Option<Result<u32, Ma
         return Some(Err(Match::Nothing));
     }
     if let Some(number) = object_number(text.as_bytes()) {
-        return Some(existing(world, number));
+        return Some(match_number(world, number));
     }
     if text.eq_ignore_ascii_case("me") {
         return Some(Ok(player));
@@ -100,7 +103,7 @@ fn direct_match(world: &World, player: u32, text: &str) -> Option<Result<u32, Ma
     None
 }
 
-fn existing(world: &World, number: u32) -> Result<u32, Match>
+fn match_number(world: &World, number: u32) -> Result<u32, Match>
     ensures { result ≡ (if exists world.now number then Result.Ok number else Result.Err Match.NoSuch) }
 {
     if world.exists(number) {
@@ -255,7 +258,7 @@ fn begins(text: &str, name: &str) -> bool
 pub(crate) fn object_number(text: &[u8]) -> Option<u32>
     ensures { result ≡ object_number text.now }
 {
-    if text.is_empty() || text[0] != b'#' {
+    if text.is_empty() || text[0] != SHARP {
         return None;
     }
     number_in(&text[1..])
@@ -265,14 +268,14 @@ pub(crate) fn object_number(text: &[u8]) -> Option<u32>
 pub(crate) fn number_in(text: &[u8]) -> Option<u32>
     ensures { result ≡ number_in text.now }
 {
-    if text.is_empty() || text.len() >= 10 {
+    if text.is_empty() || text.len() > MOST_DIGITS {
         return None;
     }
     digits_value(text)
 }
 
 fn digits_value(digits: &[u8]) -> Option<u32>
-    requires { length digits.now < 10 }
+    requires { length digits.now ≤ MOST_DIGITS }
     ensures { result ≡ digits_value 0 digits.now }
 {
     let mut value = 0;

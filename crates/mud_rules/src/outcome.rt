@@ -3,7 +3,7 @@
 ghost use Rattle.std.specs.Prelude.{◌≡◌, nat_lt, Option, Some, unwrap_or, if◌then◌else◌};
 ghost use Rattle.mud_world.specs.Legal.{refusal};
 ghost use Rattle.mud_world.specs.Refusals.{number, refused_if};
-ghost use Rattle.mud_rules.specs.Outcome.{outcome, found, on_found, both, shaped};
+ghost use Rattle.mud_rules.specs.Outcome.{outcome, found, on_found, both, if_shaped};
 ghost use Rattle.mud_rules.specs.Commands.{kind_then_here};
 
 use crate::matching::Match;
@@ -75,8 +75,8 @@ pub(crate) fn both(
 }
 
 // A question of the right shape.
-pub(crate) fn shaped(fits: bool, query: Query) -> Verdict
-    ensures { result ≡ shaped fits (Verdict.Ask query) }
+pub(crate) fn if_shaped(fits: bool, query: Query) -> Verdict
+    ensures { result ≡ if_shaped fits (Verdict.Ask query) }
 {
     if fits {
         Verdict::Ask(query)

@@ -3,7 +3,7 @@
 ghost use Rattle.std.specs.Prelude.{◌≡◌, ◌∷◌, IfOk, map, string_bytes};
 ghost use Rattle.std.specs.Cow.{cow_str_bytes};
 ghost use Rattle.mud_words.specs.Line.{line_of};
-ghost use Rattle.mud_words.specs.inner.Searching.{joined};
+ghost use Rattle.mud_words.specs.inner.Searching.{join_words};
 ghost use Rattle.mud_rules.specs.Shapes.{all_of, looked_at, is_prep, is_pair};
 ghost use Rattle.mud_rules.specs.inner.Parts.{first_of, is_aimed};
 
@@ -12,17 +12,17 @@ use std::alloc::{AllocError, Global};
 use std::borrow::CowStr;
 
 fn joined_text(alloc: Global, words: &[String]) -> Result<String, AllocError>
-    ensures { IfOk result (λ text. string_bytes text ≡ joined (map string_bytes words.now)) }
+    ensures { IfOk result (λ text. string_bytes text ≡ join_words (map string_bytes words.now)) }
 {
     words.join(alloc, " ")
 }
 
 // Words joined by one space. A lone word is not copied.
-pub(crate) fn joined<'a>(
+pub(crate) fn join_words<'a>(
     alloc: Global,
     words: &'a [String],
 ) -> Result<CowStr<'a, Global>, AllocError>
-    ensures { IfOk result (λ text. cow_str_bytes text ≡ joined (map string_bytes words.now)) }
+    ensures { IfOk result (λ text. cow_str_bytes text ≡ join_words (map string_bytes words.now)) }
 {
     match words {
         [word] => Ok(CowStr::Borrowed(word.as_str())),
@@ -37,13 +37,13 @@ pub(crate) fn all_of<'a>(
 ) -> Result<CowStr<'a, Global>, AllocError>
     ensures { IfOk result (λ text. cow_str_bytes text ≡ all_of (line_of parsed.now)) }
 {
-    joined(alloc, &parsed.args)
+    join_words(alloc, &parsed.args)
 }
 
 // The words of the line.
 pub(crate) fn whole_of(alloc: Global, parsed: &Parsed) -> Result<String, AllocError>
     ensures { IfOk result (λ text. string_bytes text
-        ≡ joined ((line_of parsed.now).verb ∷ (line_of parsed.now).args)) }
+        ≡ join_words ((line_of parsed.now).verb ∷ (line_of parsed.now).args)) }
 {
     let mut text = String::from_str(alloc, &parsed.verb)?;
     if !parsed.args.is_empty() {

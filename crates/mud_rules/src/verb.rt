@@ -55,7 +55,7 @@ const WITH_SIGN: &[(&str, Verb)] = &[
 
 impl Verb {
     /// The verb that a word names, if the table has it.
-    pub(crate) fn named(text: &str) -> Option<Verb>
+    pub(crate) fn of_word(text: &str) -> Option<Verb>
         ensures { result ≡ verb_named text.now }
     {
         let [letter, ..] = text.as_bytes() else {
@@ -68,7 +68,7 @@ impl Verb {
     pub(crate) fn asks(text: &str) -> bool
         ensures { result ≡ is_some (lookup (str_eq_ignore_ascii_case text.now) question_verbs) }
     {
-        match Verb::named(text) {
+        match Verb::of_word(text) {
             Some(verb) => verb.is_question(),
             None => false,
         }

@@ -7,6 +7,7 @@ use Rattle.std.proofs.lemmas.List.Sums.{sum_by-cons, get_or-le-sum_by}
 use Rattle.std.proofs.lemmas.List.{get_or_past}
 use Rattle.std.proofs.lemmas.Bool.{cases_eq, cases_lt}
 use Rattle.std.proofs.lemmas.Bool.Decides.{nat_tests}
+use Rattle.mud_world.specs.declared.limits.TheConstants.{MOST_COST}
 use Rattle.mud_roads.specs.declared.label.Label.{Label}
 use Rattle.mud_roads.specs.declared.label.Step.{Step}
 use Rattle.mud_roads.specs.Walks.{Roads, AtMost, after, total, IsLeast, Least}
@@ -14,10 +15,10 @@ use Rattle.mud_roads.specs.Labels.{start_label, Reaches, AreValid}
 use Rattle.mud_roads.proofs.Bounds.{valid_is_least}
 use Rattle.mud_roads.proofs.Routes.{label-ext}
 use Rattle.mud_search.specs.declared.slot.Slot.{Slot}
-use Rattle.mud_search.specs.declared.slot.Slot.TheVariants.{Unknown, Open, Held, Finished}
-use Rattle.mud_search.specs.Boards.{slot_at, label_at, is_below, falls, offered, offers, settled, Below, IsBoardOf}
-use Rattle.mud_search.specs.inner.Trails.{visited, is_in, IsWalked}
-use Rattle.mud_search.specs.Slots.{label_of, is_open, is_held}
+use Rattle.mud_search.specs.declared.slot.Slot.TheVariants.{Unknown, Waiting, Held, Finished}
+use Rattle.mud_search.specs.Boards.{slot_at, label_at, is_below, falls, offer, offers, settle, Below, IsBoardOf}
+use Rattle.mud_search.specs.inner.Trails.{rooms_of_walk, is_in, IsWalked}
+use Rattle.mud_search.specs.Slots.{label_of, is_waiting, is_held}
 use Rattle.mud_search.proofs.Inside.{AreWithin}
 use Rattle.mud_search.proofs.Trails.{Falls, trail-falls, trail-reaches, trail-walk, trail-short, trail-cost}
 use Rattle.mud_search.proofs.Trails.{total-reverse, exits-length}
@@ -138,21 +139,21 @@ pub faithful-lowered : (roads : Roads) (from rooms : ℕ) (slots : List Slot) �
     → AreWithin roads rooms
     → (by : ℕ) (l : Label) (s : Step) → label_at slots by ≡ Some l → Contains (roads by) s
     → ((k : Label) → label_at slots s.to ≡ Some k → Below (after 1 l s) k)
-    → IsBoardOf roads from rooms (set slots s.to (Open (after 1 l s)))
+    → IsBoardOf roads from rooms (set slots s.to (Waiting (after 1 l s)))
 faithful-lowered roads from rooms slots sound inside by l s was c less =
     let h : s.to < rooms = (inside by s c).0 in
     let within : s.to < length slots = omega (arith, sound.whole) in
-    let v = Open (after 1 l s) in
+    let v = Waiting (after 1 l s) in
     let low : (a : Label) → Reaches (label_at slots) s.to a → AtMost (after 1 l s) a = λ a r.
     let b : Below (after 1 l s) r.0 = less r.0 r.1 in
     let p : AtMost r.0 a = r.2 in
     (omega arith, λ e. omega arith) in
-    let now = label_at (set slots s.to (Open (after 1 l s))) in
+    let now = label_at (set slots s.to (Waiting (after 1 l s))) in
     let down : Falls (label_at slots) now = falls-set slots s.to v (after 1 l s) within refl low in
     let old : IsWalked roads (label_at slots) from by l = sound.faithful.walked by l was in
     let sum : total 1 (s ∷ old.0) ≡ after 1 l s = total-cons s old.0 ∙ ap (λ (k : Label). after 1 k s) old.2 in
-    let fresh : is_in s.to (visited from old.0) ≡ false =
-    elim (bool-cases (is_in s.to (visited from old.0))) [
+    let fresh : is_in s.to (rooms_of_walk from old.0) ≡ false =
+    elim (bool-cases (is_in s.to (rooms_of_walk from old.0))) [
       | inl seen ↦
           let r : Reaches (label_at slots) s.to (total 1 old.0) =
           trail-reaches roads (label_at slots) from sound.faithful.start old.0 by old.1 s.to seen in
@@ -191,18 +192,18 @@ self-loop l k s e b =
 pub follows-offered : (roads : Roads) (from rooms : ℕ) (slots : List Slot)
     → IsBoardOf roads from rooms slots → AreWithin roads rooms
     → (by : ℕ) (l : Label) (s : Step) → label_at slots by ≡ Some l → Contains (roads by) s
-    → Follows roads from rooms by l slots (offered l s slots)
-    × Reaches (label_at (offered l s slots)) s.to (after 1 l s)
+    → Follows roads from rooms by l slots (offer l s slots)
+    × Reaches (label_at (offer l s slots)) s.to (after 1 l s)
 follows-offered roads from rooms slots sound inside by l s was c =
     go (label_at slots s.to) refl (falls (after 1 l s) (label_at slots s.to)) refl
   where
     go : (o : Option Label) → label_at slots s.to ≡ o → (b : Bool) → falls (after 1 l s) (label_at slots s.to) ≡ b
-        → Follows roads from rooms by l slots (offered l s slots)
-        × Reaches (label_at (offered l s slots)) s.to (after 1 l s)
+        → Follows roads from rooms by l slots (offer l s slots)
+        × Reaches (label_at (offer l s slots)) s.to (after 1 l s)
     go o at true lower =
         let h : s.to < rooms = (inside by s c).0 in
         let within : s.to < length slots = omega (arith, sound.whole) in
-        let v = Open (after 1 l s) in
+        let v = Waiting (after 1 l s) in
         let less : (k : Label) → label_at slots s.to ≡ Some k → Below (after 1 l s) k = λ k e.
         below-from_test (after 1 l s) k (sym (ap (falls (after 1 l s)) e) ∙ lower) in
         let low : (a : Label) → Reaches (label_at slots) s.to a → AtMost (after 1 l s) a = λ a r.
@@ -250,7 +251,7 @@ follows-offers roads from rooms inside by l [] those slots sound was =
 follows-offers roads from rooms inside by l (s ∷ ss) those slots sound was =
     let one = follows-offered roads from rooms slots sound inside by l s was (those s (here s ss)) in
     let rest = follows-offers roads from rooms inside by l ss (λ t c. those t (there s ss t c))
-    (offered l s slots) one.0.sound one.0.still in (
+    (offer l s slots) one.0.sound one.0.still in (
       record {
         sound = rest.0.sound;
         still = rest.0.still;
@@ -260,7 +261,7 @@ follows-offers roads from rooms inside by l (s ∷ ss) those slots sound was =
       λ t c.
           elim (first-or s ss t c) [
             | inl same ↦
-                let P : Step → Type 0 = λ x. Reaches (label_at (offers l ss (offered l s slots))) x.to (after 1 l x) in
+                let P : Step → Type 0 = λ x. Reaches (label_at (offers l ss (offer l s slots))) x.to (after 1 l x) in
                 subst P same (rest.0.down s.to (after 1 l s) one.1)
             | inr later ↦ rest.1 t later
           ],
@@ -270,7 +271,7 @@ follows-offers roads from rooms inside by l (s ∷ ss) those slots sound was =
 pub faithful-settled : (roads : Roads) (from rooms : ℕ) → AreWithin roads rooms → (room : ℕ) (l : Label)
     → (steps : List Step) → steps ≡ roads room
     → (slots : List Slot) → IsBoardOf roads from rooms slots → label_at slots room ≡ Some l → room < rooms
-    → IsBoardOf roads from rooms (settled room l steps slots)
+    → IsBoardOf roads from rooms (settle room l steps slots)
 faithful-settled roads from rooms inside room l steps are slots sound was h =
     let P : Step → List Step → Type 0 = λ s ss. Contains ss s in
     let all = follows-offers roads from rooms inside room l steps (λ s c. subst (P s) are c) slots sound was in
@@ -280,7 +281,7 @@ faithful-settled roads from rooms inside room l steps are slots sound was h =
 -- no label is greater than the longest walk that visits no room twice
 pub label-bound : (roads : Roads) (from rooms : ℕ) (slots : List Slot)
     → IsBoardOf roads from rooms slots → AreWithin roads rooms
-    → (room : ℕ) (l : Label) → label_at slots room ≡ Some l → (l.exits < rooms) × (l.cost ≤ 10000 * l.exits)
+    → (room : ℕ) (l : Label) → label_at slots room ≡ Some l → (l.exits < rooms) × (l.cost ≤ MOST_COST * l.exits)
 label-bound roads from rooms slots sound inside room l e =
     let at = sound.faithful.walked room l e in
     let start : from < rooms =
@@ -288,7 +289,7 @@ label-bound roads from rooms slots sound inside room l e =
     let cost : (total 1 at.0).cost ≡ l.cost = ap (λ (k : Label). k.cost) at.2 in
     let exits : length at.0 ≡ l.exits = sym (exits-length at.0) ∙ ap (λ (k : Label). k.exits) at.2 in
     let short : length at.0 < rooms = trail-short roads (label_at slots) from rooms inside start at.0 room at.1 in
-    let dear : (total 1 at.0).cost ≤ 10000 * length at.0 =
+    let dear : (total 1 at.0).cost ≤ MOST_COST * length at.0 =
     trail-cost roads (label_at slots) from rooms inside at.0 room at.1 in
     (omega arith, omega arith)
   where
@@ -302,9 +303,9 @@ label-bound roads from rooms slots sound inside room l e =
               absurd (cc)
         ]
 
--- no room is open, and none is held
+-- no room waits, and none is held
 pub record AtRest (slots : List Slot) : Type 0 where
-  pub opened : count_by is_open slots ≡ 0
+  pub waiting : count_by is_waiting slots ≡ 0
   pub held : count_by is_held slots ≡ 0
 
 one-counted : (p : Slot → Bool) (slots : List Slot) (room : ℕ) → p Unknown ≡ false
@@ -320,15 +321,15 @@ one-counted p slots room u h =
           absurd (cc)
     ]
 
--- no room is open, and none is held
+-- no room waits, and none is held
 pub record IsStill (slots : List Slot) : Type 0 where
-  pub unopened : (room : ℕ) (l : Label) → slot_at slots room ≡ Open l → ⊥
-  pub unheld : (room : ℕ) (l : Label) → slot_at slots room ≡ Held l → ⊥
+  pub none_waiting : (room : ℕ) (l : Label) → slot_at slots room ≡ Waiting l → ⊥
+  pub none_held : (room : ℕ) (l : Label) → slot_at slots room ≡ Held l → ⊥
 
 pub still-from_rest : (slots : List Slot) → AtRest slots → IsStill slots
 still-from_rest slots rest = record {
-  unopened = λ room l e. omega (arith, rest.opened, one-counted is_open slots room refl (ap is_open e));
-  unheld = λ room l e. omega (arith, rest.held, one-counted is_held slots room refl (ap is_held e));
+  none_waiting = λ room l e. omega (arith, rest.waiting, one-counted is_waiting slots room refl (ap is_waiting e));
+  none_held = λ room l e. omega (arith, rest.held, one-counted is_held slots room refl (ap is_held e));
 }
 
 -- at rest a labelled room is finished
@@ -338,8 +339,8 @@ rest-finished slots rest room l e = go (slot_at slots room) refl
   where
     go : (v : Slot) → slot_at slots room ≡ v → slot_at slots room ≡ Finished l
     go Unknown at = let bad : Some l ≡ None = sym e ∙ ap label_of at in absurd (cc)
-    go (Open k) at = absurd (rest.unopened room k at)
-    go (Held k) at = absurd (rest.unheld room k at)
+    go (Waiting k) at = absurd (rest.none_waiting room k at)
+    go (Held k) at = absurd (rest.none_held room k at)
     go (Finished k) at = at ∙ ap Finished (some-inj k l (sym (ap label_of at) ∙ e))
 
 -- at rest the labels are the least
@@ -366,24 +367,24 @@ below-trans : (a j k : Label) → Below a j → AtMost j k → Below a k
 below-trans a j k p q = (omega arith, λ e. omega arith)
 
 falls-offered : (l : Label) (s : Step) (slots : List Slot) → s.to < length slots
-    → Falls (label_at slots) (label_at (offered l s slots))
+    → Falls (label_at slots) (label_at (offer l s slots))
 falls-offered l s slots within = go (falls (after 1 l s) (label_at slots s.to)) refl
   where
     go : (b : Bool) → falls (after 1 l s) (label_at slots s.to) ≡ b
-        → Falls (label_at slots) (label_at (offered l s slots))
-    go true lower = rw lower (falls-set slots s.to (Open (after 1 l s)) (after 1 l s) within refl (λ a r.
+        → Falls (label_at slots) (label_at (offer l s slots))
+    go true lower = rw lower (falls-set slots s.to (Waiting (after 1 l s)) (after 1 l s) within refl (λ a r.
         let b : Below (after 1 l s) r.0 =
         below-from_test (after 1 l s) r.0 (sym (ap (falls (after 1 l s)) r.1) ∙ lower) in
         let p : AtMost r.0 a = r.2 in
         (omega arith, λ e. omega arith)))
     go false higher = rw higher (λ room a r. r)
 
--- the slot is open with the label of a step that leads there, which is less than any before
+-- the slot waits with the label of a step that leads there, which is less than any before
 pub record Fell (l : Label) (ss : List Step) (slots : List Slot) (q : ℕ) (v : Slot) : Type 0 where
   pub step : Step
   pub among : Contains ss step
   pub leads : step.to ≡ q
-  pub now : v ≡ Open (after 1 l step)
+  pub now : v ≡ Waiting (after 1 l step)
   pub less : (k : Label) → label_at slots q ≡ Some k → Below (after 1 l step) k
 
 -- a room's slot is as before, or it fell
@@ -392,7 +393,7 @@ pub offers-slot : (l : Label) (ss : List Step) (slots : List Slot)
     → (slot_at (offers l ss slots) q ≡ slot_at slots q) ⊎ Fell l ss slots q (slot_at (offers l ss slots) q)
 offers-slot l [] slots inside q = inl refl
 offers-slot l (s ∷ ss) slots inside q =
-    elim (offers-slot l ss (offered l s slots) (λ t c. rw (offered-length l s slots) (inside t (there s ss t c))) q) [
+    elim (offers-slot l ss (offer l s slots) (λ t c. rw (offered-length l s slots) (inside t (there s ss t c))) q) [
       | inl same ↦
           elim (offered-slot l s slots (inside s (here s ss)) q) [
             | inl before ↦ inl (same ∙ before)
@@ -409,32 +410,32 @@ offers-slot l (s ∷ ss) slots inside q =
       })
     ]
   where
-    offered-length : (l : Label) (s : Step) (slots : List Slot) → length (offered l s slots) ≡ length slots
+    offered-length : (l : Label) (s : Step) (slots : List Slot) → length (offer l s slots) ≡ length slots
     offered-length l s slots = go (falls (after 1 l s) (label_at slots s.to)) refl
       where
-        go : (b : Bool) → falls (after 1 l s) (label_at slots s.to) ≡ b → length (offered l s slots) ≡ length slots
-        go true e = rw e (length-set slots s.to (Open (after 1 l s)))
+        go : (b : Bool) → falls (after 1 l s) (label_at slots s.to) ≡ b → length (offer l s slots) ≡ length slots
+        go true e = rw e (length-set slots s.to (Waiting (after 1 l s)))
         go false e = rw e refl
 
     offered-slot : (l : Label) (s : Step) (slots : List Slot) → s.to < length slots → (q : ℕ)
-        → (slot_at (offered l s slots) q ≡ slot_at slots q)
-        ⊎ ((s.to ≡ q) × (slot_at (offered l s slots) q ≡ Open (after 1 l s))
+        → (slot_at (offer l s slots) q ≡ slot_at slots q)
+        ⊎ ((s.to ≡ q) × (slot_at (offer l s slots) q ≡ Waiting (after 1 l s))
         × ((k : Label) → label_at slots q ≡ Some k → Below (after 1 l s) k))
     offered-slot l s slots within q = go (falls (after 1 l s) (label_at slots s.to)) refl
       where
         go : (b : Bool) → falls (after 1 l s) (label_at slots s.to) ≡ b
-            → (slot_at (offered l s slots) q ≡ slot_at slots q)
-            ⊎ ((s.to ≡ q) × (slot_at (offered l s slots) q ≡ Open (after 1 l s))
+            → (slot_at (offer l s slots) q ≡ slot_at slots q)
+            ⊎ ((s.to ≡ q) × (slot_at (offer l s slots) q ≡ Waiting (after 1 l s))
             × ((k : Label) → label_at slots q ≡ Some k → Below (after 1 l s) k))
         go true e =
             elim (cases_eq q s.to) [
               | inl same ↦
                   inr (
                     sym same,
-                    rw (e, same) (get_or-set_same slots s.to (Open (after 1 l s)) Unknown within),
+                    rw (e, same) (get_or-set_same slots s.to (Waiting (after 1 l s)) Unknown within),
                     λ k is. below-from_test (after 1 l s) k
                         (sym (ap (falls (after 1 l s)) (ap (label_at slots) (sym same) ∙ is)) ∙ e),
                   )
-              | inr other ↦ inl (rw e (get_or-set_other slots s.to q (Open (after 1 l s)) Unknown other))
+              | inr other ↦ inl (rw e (get_or-set_other slots s.to q (Waiting (after 1 l s)) Unknown other))
             ]
         go false e = inl (rw e refl)

@@ -1,4 +1,4 @@
--- The first of the open rooms.
+-- The first of the waiting rooms.
 use Rattle.std.proofs.Common.{◌≡◌, ℕ, ◌+◌, ◌<◌, ◌≤◌, Bool, true, false, List, [], length, Option, None, Some, inl, inr}
 use Rattle.std.proofs.Common.{refl, sym, ◌∙◌, ap, subst, arith, cond}
 use Rattle.std.specs.Prelude.{IfSome, IfNone}
@@ -7,18 +7,18 @@ use Rattle.std.proofs.lemmas.List.{get_or_past}
 use Rattle.std.proofs.lemmas.Bool.Decides.{nat_tests}
 use Rattle.mud_roads.specs.declared.label.Label.{Label}
 use Rattle.mud_search.specs.declared.slot.Slot.{Slot}
-use Rattle.mud_search.specs.declared.slot.Slot.TheVariants.{Unknown, Open}
+use Rattle.mud_search.specs.declared.slot.Slot.TheVariants.{Unknown, Waiting}
 use Rattle.mud_search.specs.declared.task.Task.{Task}
 use Rattle.mud_search.specs.Boards.{slot_at, is_below, IsBefore, slot_of, lesser}
 use Rattle.mud_search.specs.Tasks.{IsFirst}
 use Rattle.mud_search.specs.inner.Order.{IsTaskBefore}
 
--- the task is the first of the members so far; with none no room of theirs is open
+-- the task is the first of the members so far; with none no room of theirs waits
 abbrev pub BestSoFar : List (List Slot) → ℕ → Option Task → Type 0
-BestSoFar boards n None = (m r : ℕ) (l : Label) → m < n → slot_of boards m r ≡ Open l → ⊥
+BestSoFar boards n None = (m r : ℕ) (l : Label) → m < n → slot_of boards m r ≡ Waiting l → ⊥
 BestSoFar boards n (Some t) =
-    (t.member < n) × (slot_of boards t.member t.room ≡ Open t.label)
-    × ((m r : ℕ) (l : Label) → m < n → slot_of boards m r ≡ Open l → IsTaskBefore t m r l)
+    (t.member < n) × (slot_of boards t.member t.room ≡ Waiting t.label)
+    × ((m r : ℕ) (l : Label) → m < n → slot_of boards m r ≡ Waiting l → IsTaskBefore t m r l)
 
 -- labels alike in both are one
 same-cost : (a b : Label) → a ≡ b → a.cost ≡ b.cost
@@ -33,9 +33,9 @@ less-from a b h = (grind (arith, nat_tests), λ e. grind (arith, nat_tests))
 most-from : (a b : Label) → is_below a b ≡ false → (b.cost ≤ a.cost) × (b.cost ≡ a.cost → b.exits ≤ a.exits)
 most-from a b h = (grind (arith, nat_tests), λ e. grind (arith, nat_tests))
 
--- a member with no open room changes nothing
+-- a member with no waiting room changes nothing
 pub best-skip : (boards : List (List Slot)) (n : ℕ) (best : Option Task) → BestSoFar boards n best
-    → ((r : ℕ) (l : Label) → slot_of boards n r ≡ Open l → ⊥) → BestSoFar boards (n + 1) best
+    → ((r : ℕ) (l : Label) → slot_of boards n r ≡ Waiting l → ⊥) → BestSoFar boards (n + 1) best
 best-skip boards n None b none = λ m r l h e.
     elim (cases_eq m n) [
       | inl same ↦ none r l (ap (λ (k : ℕ). slot_of boards k r) (sym same) ∙ e)
@@ -53,8 +53,8 @@ best-skip boards n (Some t) b none = (
 
 -- the member's first room is better
 pub best-new : (boards : List (List Slot)) (n : ℕ) (best : Option Task) → BestSoFar boards n best
-    → (label : Label) (room : ℕ) → slot_of boards n room ≡ Open label
-    → ((r : ℕ) (l : Label) → slot_of boards n r ≡ Open l → IsBefore label room l r)
+    → (label : Label) (room : ℕ) → slot_of boards n room ≡ Waiting label
+    → ((r : ℕ) (l : Label) → slot_of boards n r ≡ Waiting l → IsBefore label room l r)
     → ((t : Task) → best ≡ Some t → is_below label t.label ≡ true)
     → BestSoFar boards (n + 1) (Some (record { member = n; room = room; label = label }))
 best-new boards n best b label room is first lower = (
@@ -70,7 +70,7 @@ best-new boards n best b label room is first lower = (
 )
   where
     beyond : (o : Option Task) → BestSoFar boards n o → ((t : Task) → o ≡ Some t → is_below label t.label ≡ true)
-        → (m r : ℕ) (l : Label) → m < n → slot_of boards m r ≡ Open l
+        → (m r : ℕ) (l : Label) → m < n → slot_of boards m r ≡ Waiting l
         → IsTaskBefore (record { member = n; room = room; label = label }) m r l
     beyond None b lower m r l h e = absurd (b m r l h e)
     beyond (Some t) b lower m r l h e =
@@ -87,7 +87,7 @@ best-new boards n best b label room is first lower = (
 
 -- the best so far stays
 pub best-keep : (boards : List (List Slot)) (n : ℕ) (t : Task) → BestSoFar boards n (Some t)
-    → (label : Label) (room : ℕ) → ((r : ℕ) (l : Label) → slot_of boards n r ≡ Open l → IsBefore label room l r)
+    → (label : Label) (room : ℕ) → ((r : ℕ) (l : Label) → slot_of boards n r ≡ Waiting l → IsBefore label room l r)
     → is_below label t.label ≡ false → BestSoFar boards (n + 1) (Some t)
 best-keep boards n t b label room first higher = (
   omega (arith, b.0),
@@ -112,9 +112,9 @@ some-inj a b e = cc
 
 -- what a member's first room is
 pub record IsFound (boards : List (List Slot)) (n : ℕ) (found : Option (Label × ℕ)) : Type 0 where
-  pub some : IfSome found (λ f. slot_of boards n f.1 ≡ Open f.0)
-  pub least : IfSome found (λ f. (r : ℕ) (l : Label) → slot_of boards n r ≡ Open l → IsBefore f.0 f.1 l r)
-  pub none : IfNone found ((r : ℕ) (l : Label) → slot_of boards n r ≡ Open l → ⊥)
+  pub some : IfSome found (λ f. slot_of boards n f.1 ≡ Waiting f.0)
+  pub least : IfSome found (λ f. (r : ℕ) (l : Label) → slot_of boards n r ≡ Waiting l → IsBefore f.0 f.1 l r)
+  pub none : IfNone found ((r : ℕ) (l : Label) → slot_of boards n r ≡ Waiting l → ⊥)
 
 -- one member more
 pub best-more : (boards : List (List Slot)) (n : ℕ) (best : Option Task) (found : Option (Label × ℕ))
@@ -136,13 +136,15 @@ best-more boards n (Some t) (Some f) b found = go (is_below f.0 t.label) refl
         λ x. BestSoFar boards (n + 1) (cond x (Some (record { member = n; room = f.1; label = f.0 })) (Some t)) in
         subst P (sym e) (best-keep boards n t b f.0 f.1 found.least e)
 
--- an open room is one of a member's
-pub open-member : (boards : List (List Slot)) (m r : ℕ) (l : Label) → slot_of boards m r ≡ Open l → m < length boards
-open-member boards m r l e =
+-- a waiting room is one of a member's
+pub waiting-member : (boards : List (List Slot)) (m r : ℕ) (l : Label) → slot_of boards m r ≡ Waiting l
+    → m < length boards
+waiting-member boards m r l e =
     elim (cases_lt m (length boards)) [
       | inl h ↦ h
       | inr past ↦
-          let bad : Unknown ≡ Open l = sym (ap (λ (b : List Slot). slot_at b r) (get_or_past boards m [] past)) ∙ e in
+          let bad : Unknown ≡ Waiting l =
+          sym (ap (λ (b : List Slot). slot_at b r) (get_or_past boards m [] past)) ∙ e in
           absurd (cc)
     ]
 
@@ -152,12 +154,12 @@ pub best-all-some : (boards : List (List Slot)) (n : ℕ) (best : Option Task)
     → IfSome best (λ t. IsFirst (slot_of boards) t)
 best-all-some boards n None h b = tt
 best-all-some boards n (Some t) h b = record {
-  is_open = b.1;
-  before = λ m r l e. b.2 m r l (omega (arith, open-member boards m r l e)) e;
+  is_waiting = b.1;
+  before = λ m r l e. b.2 m r l (omega (arith, waiting-member boards m r l e)) e;
 }
 
 pub best-all-none : (boards : List (List Slot)) (n : ℕ) (best : Option Task)
     → length boards ≤ n → BestSoFar boards n best
-    → IfNone best ((m r : ℕ) (l : Label) → slot_of boards m r ≡ Open l → ⊥)
-best-all-none boards n None h b = λ m r l e. b m r l (omega (arith, open-member boards m r l e)) e
+    → IfNone best ((m r : ℕ) (l : Label) → slot_of boards m r ≡ Waiting l → ⊥)
+best-all-none boards n None h b = λ m r l e. b m r l (omega (arith, waiting-member boards m r l e)) e
 best-all-none boards n (Some t) h b = tt

@@ -15,15 +15,16 @@ use Rattle.mud_roads.specs.declared.label.Label.{Label}
 use Rattle.mud_roads.specs.declared.label.Step.{Step}
 use Rattle.mud_roads.specs.Walks.{AtMost, after}
 use Rattle.mud_roads.specs.Labels.{start_label, Reaches}
+use Rattle.mud_world.specs.declared.limits.TheConstants.{NUMBERS, MOST_COST, MOST_PARTY}
 use Rattle.mud_world.specs.State.{State}
-use Rattle.mud_roads.specs.Open.{Knowledge, known, IsTraveller, roads_of}
+use Rattle.mud_roads.specs.Open.{Knowledge, knowledge_of, IsTraveller, roads_of}
 use Rattle.mud_world.specs.Sound.{IsSound}
 use Rattle.mud_search.proofs.Inside.{world-within, place-within}
 use Rattle.mud_search.specs.declared.slot.Slot.{Slot}
-use Rattle.mud_search.specs.declared.slot.Slot.TheVariants.{Unknown, Open, Held, Finished}
-use Rattle.mud_search.specs.Boards.{slot_at, label_at, settled, offers, IsBoardOf, IsKept, board_of, slot_of, begun_at}
+use Rattle.mud_search.specs.declared.slot.Slot.TheVariants.{Unknown, Waiting, Held, Finished}
+use Rattle.mud_search.specs.Boards.{slot_at, label_at, settle, offers, IsBoardOf, IsKept, board_of, slot_of, begun_at}
 use Rattle.mud_search.specs.Boards.{potential, weight, lists_of, Below}
-use Rattle.mud_search.specs.Slots.{label_of, is_open, is_held}
+use Rattle.mud_search.specs.Slots.{label_of, is_waiting, is_held}
 use Rattle.mud_search.specs.Facts.{IsFrontier}
 use Rattle.mud_search.specs.Tasks.{IsBegun, IsChanged, IsDone}
 use Rattle.mud_search.specs.Least.{AreLeast, AreBounded, label_in}
@@ -32,7 +33,7 @@ use Rattle.mud_search.specs.Tables.{table}
 use Rattle.mud_search.proofs.Trails.{Falls, trail-walk, total-reverse}
 use Rattle.mud_search.proofs.Faithful.{faithful-relabelled, faithful-settled, label-bound, rest-least, IsStill}
 use Rattle.mud_search.proofs.Faithful.{still-from_rest, follows-offers, falls-set, some-inj, offers-slot}
-use Rattle.mud_search.proofs.Firsts.{open-member}
+use Rattle.mud_search.proofs.Firsts.{waiting-member}
 use Rattle.mud_search.proofs.Potential.{weight-settled_left, potential-set_less}
 
 -- with another slot at a member's room
@@ -45,7 +46,7 @@ begun rooms ts = map (begun_at rooms) ts
 
 -- what stands where a list of members is asked past its end
 abbrev nobody : Knowledge
-nobody = known 0 0 [] []
+nobody = knowledge_of 0 0 [] []
 
 member-of : (ts : List Knowledge) (m : ℕ) → m < length ts → (t : Knowledge) × (slice_get ts m ≡ Some t)
 member-of ts m h = (get_or ts m nobody, slice_get-get_or ts m nobody h)
@@ -126,15 +127,15 @@ blank-at n room =
       | inr past ↦ get_or_past (replicate n Unknown) room Unknown (rw length-replicate past)
     ]
 
-begun-first : (n : ℕ) (t : Knowledge) → t.place < n → slot_at (begun_at n t) t.place ≡ Open start_label
+begun-first : (n : ℕ) (t : Knowledge) → t.place < n → slot_at (begun_at n t) t.place ≡ Waiting start_label
 begun-first n t h =
     let blank : List Slot = replicate n Unknown in
     let within : t.place < length blank = rw length-replicate h in
-    get_or-set_same blank t.place (Open start_label) Unknown within
+    get_or-set_same blank t.place (Waiting start_label) Unknown within
 
 begun-other : (n : ℕ) (t : Knowledge) (room : ℕ) → room ≢ t.place → slot_at (begun_at n t) room ≡ Unknown
 begun-other n t room other =
-    get_or-set_other (replicate n Unknown) t.place room (Open start_label) Unknown other ∙ blank-at n room
+    get_or-set_other (replicate n Unknown) t.place room (Waiting start_label) Unknown other ∙ blank-at n room
 
 -- at first only the place is labelled
 pub begun-faithful : (w : State) (t : Knowledge) → t.place < w.next
@@ -142,10 +143,10 @@ pub begun-faithful : (w : State) (t : Knowledge) → t.place < w.next
 begun-faithful w t h =
     let slots : List Slot = begun_at w.next t in
     let blank : List Slot = replicate w.next Unknown in
-    let first : slot_at slots t.place ≡ Open start_label = begun-first w.next t h in
+    let first : slot_at slots t.place ≡ Waiting start_label = begun-first w.next t h in
     let unknown : (room : ℕ) → room ≢ t.place → slot_at slots room ≡ Unknown = begun-other w.next t in
     record {
-      whole = length-set blank t.place (Open start_label) ∙ length-replicate w.next Unknown;
+      whole = length-set blank t.place (Waiting start_label) ∙ length-replicate w.next Unknown;
       faithful = record {
         walked = λ room l e.
             elim (cases_eq room t.place) [
@@ -161,7 +162,7 @@ begun-faithful w t h =
         finished = λ room l s e c.
             elim (cases_eq room t.place) [
               | inl same ↦
-                  let bad : Open start_label ≡ Finished l = sym first ∙ ap (slot_at slots) (sym same) ∙ e in
+                  let bad : Waiting start_label ≡ Finished l = sym first ∙ ap (slot_at slots) (sym same) ∙ e in
                   absurd (cc)
               | inr other ↦
                   let bad : Unknown ≡ Finished l = sym (unknown room other) ∙ e in
@@ -191,33 +192,33 @@ module _ (w : State) (ts : List Knowledge) (boards : List (List Slot)) (f : IsKe
   is-who = slice_get-get_or ts m nobody within-ts
 
   pub put-bound : (l : Label) → label_at (board_of boards m) room ≡ Some l
-      → (l.cost + 10000 < 2 ^ 32) × (l.exits + 1 < 2 ^ 32)
+      → (l.cost + MOST_COST < 2 ^ 32) × (l.exits + 1 < 2 ^ 32)
   put-bound l e =
       let bound = label-bound (roads_of w who.player) who.place w.next (board_of boards m) (f.faithful m who is-who)
       (world-within w who f.sound) room l e in
-      let few : w.next ≤ 8192 = f.sound.limit in
+      let few : w.next ≤ NUMBERS = f.sound.limit in
       (omega (arith, bound.0, bound.1), omega (arith, bound.0))
 
-  pub put-steps : All (λ s. (s.to < length (board_of boards m)) × (s.cost ≤ 10000)) steps
+  pub put-steps : All (λ s. (s.to < length (board_of boards m)) × (s.cost ≤ MOST_COST)) steps
   put-steps =
-      let P : List Step → Type 0 = λ ss. All (λ s. (s.to < length (board_of boards m)) × (s.cost ≤ 10000)) ss in
-      let Q : ℕ → Type 0 = λ n. All (λ s. (s.to < n) × (s.cost ≤ 10000)) (roads_of w who.player room) in
-      let R : Step → Type 0 = λ s. (s.to < w.next) × (s.cost ≤ 10000) in
+      let P : List Step → Type 0 = λ ss. All (λ s. (s.to < length (board_of boards m)) × (s.cost ≤ MOST_COST)) ss in
+      let Q : ℕ → Type 0 = λ n. All (λ s. (s.to < n) × (s.cost ≤ MOST_COST)) (roads_of w who.player room) in
+      let R : Step → Type 0 = λ s. (s.to < w.next) × (s.cost ≤ MOST_COST) in
       let all : All R (roads_of w who.player room) = λ k d lt. world-within w who f.sound room
       (get_or (roads_of w who.player room) k d) (Contains-get_or (roads_of w who.player room) k d lt) in
       subst P (sym (are who is-who)) (subst Q (sym (f.faithful m who is-who).whole) all)
 
   pub put-kept : (l : Label) → label_at (board_of boards m) room ≡ Some l
-      → IsKept w ts (set boards m (settled room l steps (board_of boards m)))
+      → IsKept w ts (set boards m (settle room l steps (board_of boards m)))
   put-kept l e =
-      frontier-set w ts boards f m (settled room l steps (board_of boards m)) h (λ t is.
+      frontier-set w ts boards f m (settle room l steps (board_of boards m)) h (λ t is.
       let sound = f.faithful m t is in
       let within : room < w.next = omega (arith, sound.whole, labelled-within (board_of boards m) room l e) in
       faithful-settled (roads_of w t.player) t.place w.next (world-within w t f.sound) room l steps (are t is)
       (board_of boards m) sound e within)
 
-  pub put-lighter : (l : Label) → (slot_of boards m room ≡ Open l) ⊎ (slot_of boards m room ≡ Held l)
-      → potential (set boards m (settled room l steps (board_of boards m))) < potential boards
+  pub put-lighter : (l : Label) → (slot_of boards m room ≡ Waiting l) ⊎ (slot_of boards m room ≡ Held l)
+      → potential (set boards m (settle room l steps (board_of boards m))) < potential boards
   put-lighter l left =
       let sound = f.faithful m who is-who in
       let was : label_at (board_of boards m) room ≡ Some l =
@@ -225,12 +226,12 @@ module _ (w : State) (ts : List Knowledge) (boards : List (List Slot)) (f : IsKe
       let heavy : weight (Finished l) < weight (slot_of boards m room) =
       elim left [ inl e ↦ omega (arith, ap weight e) | inr e ↦ omega (arith, ap weight e) ] in
       let within : room < w.next = omega (arith, sound.whole, labelled-within (board_of boards m) room l was) in
-      potential-set_less boards m (settled room l steps (board_of boards m)) h
+      potential-set_less boards m (settle room l steps (board_of boards m)) h
       (weight-settled_left (roads_of w who.player) who.place w.next (world-within w who f.sound) f.sound.limit room l
       steps (are who is-who) (board_of boards m) sound was heavy within)
 
   pub put-done : (l : Label) → label_at (board_of boards m) room ≡ Some l
-      → IsDone (slot_of boards) (slot_of (set boards m (settled room l steps (board_of boards m))))
+      → IsDone (slot_of boards) (slot_of (set boards m (settle room l steps (board_of boards m))))
       (record { member = m; room = room; label = l }) steps
   put-done l was =
       let sound = f.faithful m who is-who in
@@ -242,21 +243,21 @@ module _ (w : State) (ts : List Knowledge) (boards : List (List Slot)) (f : IsKe
       let all = follows-offers (roads_of w who.player) who.place w.next inside room l steps those slots sound was in
       let within : room < length (offers l steps slots) =
       omega (arith, sound.whole, all.0.sound.whole, labelled-within slots room l was) in
-      let here : board_of (set boards m (settled room l steps slots)) m ≡ settled room l steps slots =
-      get_or-set_same boards m (settled room l steps slots) [] h in
-      let down : Falls (label_at (offers l steps slots)) (label_at (settled room l steps slots)) =
+      let here : board_of (set boards m (settle room l steps slots)) m ≡ settle room l steps slots =
+      get_or-set_same boards m (settle room l steps slots) [] h in
+      let down : Falls (label_at (offers l steps slots)) (label_at (settle room l steps slots)) =
       falls-set (offers l steps slots) room (Finished l) l within refl (λ a r.
       let Q : Label → Type 0 = λ j. AtMost j a in
       subst Q (some-inj r.0 l (sym r.1 ∙ all.0.still)) r.2) in
-      let at : (r : ℕ) → slot_at (board_of (set boards m (settled room l steps slots)) m) r ≡ slot_at
-      (settled room l steps slots) r = λ r. ap (λ b. slot_at b r) here in
+      let at : (r : ℕ) → slot_at (board_of (set boards m (settle room l steps slots)) m) r ≡ slot_at
+      (settle room l steps slots) r = λ r. ap (λ b. slot_at b r) here in
       let R : ℕ → Label → List Slot → Type 0 = λ r a b. Reaches (label_at b) r a in
       record {
         was = was;
         finished = at room ∙ get_or-set_same (offers l steps slots) room (Finished l) Unknown within;
-        others = λ n r other. ap (λ b. slot_at b r) (get_or-set_other boards m n (settled room l steps slots) [] other);
+        others = λ n r other. ap (λ b. slot_at b r) (get_or-set_other boards m n (settle room l steps slots) [] other);
         fell = λ r other.
-            let e : slot_at (settled room l steps slots) r ≡ slot_at (offers l steps slots) r =
+            let e : slot_at (settle room l steps slots) r ≡ slot_at (offers l steps slots) r =
             get_or-set_other (offers l steps slots) room r (Finished l) Unknown other in
             elim (offers-slot l steps slots (λ s c. omega (arith, sound.whole, (inside room s (those s c)).0)) r) [
               | inl same ↦ inl (at r ∙ e ∙ same)
@@ -273,7 +274,7 @@ module _ (w : State) (ts : List Knowledge) (boards : List (List Slot)) (f : IsKe
       }
 
 -- at first all is sound
-pub frontier-begun : (w : State) (ts : List Knowledge) → IsSound w → All (IsTraveller w) ts → length ts ≤ 8
+pub frontier-begun : (w : State) (ts : List Knowledge) → IsSound w → All (IsTraveller w) ts → length ts ≤ MOST_PARTY
     → IsKept w ts (begun w.next ts)
 frontier-begun w ts g these few = record {
   sound = g;
@@ -294,15 +295,15 @@ frontier-begun w ts g these few = record {
         place-within w t g
         (subst P (get_or_from_slice_get ts m t t is) (All-get_or P ts m t (slice_get_within ts m t is) these))
 
--- a room that is held may be opened again, and nothing else
+-- a room that is held may wait again, and nothing else
 pub frontier-released : (w : State) (ts : List Knowledge) (boards : List (List Slot)) → IsKept w ts boards
     → (m room : ℕ) (l : Label) (b : List Slot) → m < length boards → (done : Bool)
-    → OnTrue done ((slot_of boards m room ≡ Held l) × (b ≡ set (board_of boards m) room (Open l)))
+    → OnTrue done ((slot_of boards m room ≡ Held l) × (b ≡ set (board_of boards m) room (Waiting l)))
     → OnFalse done ((slot_of boards m room ≢ Held l) × (b ≡ board_of boards m))
     → IsKept w ts (set boards m b)
 frontier-released w ts boards f m room l b h true t u =
     let P : List Slot → Type 0 = λ x. IsKept w ts (set boards m x) in
-    subst P (sym t.1) (frontier-relabelled w ts boards f m room (Open l) l h (ap label_of t.0) refl (λ k e. cc))
+    subst P (sym t.1) (frontier-relabelled w ts boards f m room (Waiting l) l h (ap label_of t.0) refl (λ k e. cc))
 frontier-released w ts boards f m room l b h false t u =
     let P : List Slot → Type 0 = λ x. IsKept w ts (set boards m x) in
     subst P (sym u.1) (frontier-set w ts boards f m (board_of boards m) h (λ t e. f.faithful m t e))
@@ -317,14 +318,14 @@ label-of_boards boards m room = ap (λ b. get_or b room None) (get_or-map (map l
 pub label-past : (boards : List (List Slot)) (m room : ℕ) → length boards ≤ m → label_at (board_of boards m) room ≡ None
 label-past boards m room past = ap (λ (b : List Slot). label_at b room) (get_or_past boards m [] past)
 
--- where no room is open or held the labels are the least
+-- where no room waits or is held the labels are the least
 pub frontier-still : (w : State) (ts : List Knowledge) (boards : List (List Slot)) → IsKept w ts boards
-    → ((m room : ℕ) (l : Label) → slot_of boards m room ≡ Open l → ⊥)
+    → ((m room : ℕ) (l : Label) → slot_of boards m room ≡ Waiting l → ⊥)
     → ((m room : ℕ) (l : Label) → slot_of boards m room ≡ Held l → ⊥)
     → AreLeast w ts (labels_in (table boards))
-frontier-still w ts boards f unopened unheld m room t is =
+frontier-still w ts boards f none_waiting none_held m room t is =
     rest-least (roads_of w t.player) t.place w.next (board_of boards m) (f.faithful m t is)
-    (record { unopened = unopened m; unheld = unheld m }) room
+    (record { none_waiting = none_waiting m; none_held = none_held m }) room
 
 -- no label is too great
 pub frontier-bounded : (w : State) (ts : List Knowledge) (boards : List (List Slot)) → IsKept w ts boards
@@ -334,7 +335,7 @@ frontier-bounded w ts boards f m room l was =
     let t = member-of ts m h in
     let bound = label-bound (roads_of w t.0.player) t.0.place w.next (board_of boards m) (f.faithful m t.0 t.1)
     (world-within w t.0 f.sound) room l was in
-    let few : w.next ≤ 8192 = f.sound.limit in
+    let few : w.next ≤ NUMBERS = f.sound.limit in
     (omega (arith, bound.0, bound.1), omega (arith, bound.0))
   where
     labelled-member : (boards : List (List Slot)) (m r : ℕ) (l : Label)
@@ -349,16 +350,16 @@ frontier-bounded w ts boards f m room l was =
 
 -- and so where the counts are 0
 pub frontier-rest : (w : State) (ts : List Knowledge) (boards : List (List Slot)) → IsKept w ts boards
-    → sum_by (count_by is_open) boards ≡ 0 → sum_by (count_by is_held) boards ≡ 0
+    → sum_by (count_by is_waiting) boards ≡ 0 → sum_by (count_by is_held) boards ≡ 0
     → AreLeast w ts (labels_in (table boards))
-frontier-rest w ts boards f opened held =
+frontier-rest w ts boards f waiting held =
     frontier-still w ts boards f
-    (λ m room l e. (none m (open-member boards m room l e)).unopened room l e)
-    (λ m room l e. (none m (held-member boards m room l e)).unheld room l e)
+    (λ m room l e. (none m (waiting-member boards m room l e)).none_waiting room l e)
+    (λ m room l e. (none m (held-member boards m room l e)).none_held room l e)
   where
     none : (m : ℕ) → m < length boards → IsStill (board_of boards m)
     none m h = still-from_rest (board_of boards m) (record {
-      opened = omega (arith, get_or-le-sum_by (count_by is_open) boards m [] h);
+      waiting = omega (arith, get_or-le-sum_by (count_by is_waiting) boards m [] h);
       held = omega (arith, get_or-le-sum_by (count_by is_held) boards m [] h);
     })
 

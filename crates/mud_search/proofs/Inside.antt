@@ -2,6 +2,7 @@
 use Rattle.std.proofs.Common.{◌≡◌, ℕ, ◌<◌, ◌≤◌, List, length, get_or, sym, subst}
 use Rattle.std.specs.Prelude.{All, Contains}
 use Rattle.std.proofs.lemmas.List.Elements.{All-get_or}
+use Rattle.mud_world.specs.declared.limits.TheConstants.{MOST_COST}
 use Rattle.mud_world.specs.State.{State}
 use Rattle.mud_world.specs.Sound.{IsSound}
 use Rattle.mud_roads.specs.declared.label.Step.{Step}
@@ -11,7 +12,7 @@ use Rattle.mud_roads.proofs.Roads.{steps-inside, traveller-below}
 
 -- each step leads to a room, at a cost within the limit
 abbrev pub AreWithin : Roads → ℕ → Type 0
-AreWithin roads rooms = (room : ℕ) (s : Step) → Contains (roads room) s → (s.to < rooms) × (s.cost ≤ 10000)
+AreWithin roads rooms = (room : ℕ) (s : Step) → Contains (roads room) s → (s.to < rooms) × (s.cost ≤ MOST_COST)
 
 -- so do the roads of a sound world
 pub world-within : (w : State) (t : Knowledge) → IsSound w → AreWithin (roads_of w t.player) w.next

@@ -3,12 +3,13 @@ use Rattle.std.proofs.Common.{◌≡◌, ℕ, ◌+◌, ◌*◌, ◌<◌, ◌≤�
 use Rattle.std.proofs.Common.{sym, ◌∙◌, ap, subst, arith}
 use Rattle.std.specs.Prelude.{Contains, sum_by}
 use Rattle.std.proofs.lemmas.List.Sums.{sum_by-set}
+use Rattle.mud_world.specs.declared.limits.TheConstants.{NUMBERS, MOST_COST}
 use Rattle.mud_roads.specs.declared.label.Label.{Label}
 use Rattle.mud_roads.specs.declared.label.Step.{Step}
 use Rattle.mud_roads.specs.Walks.{Roads, after}
 use Rattle.mud_search.specs.declared.slot.Slot.{Slot}
-use Rattle.mud_search.specs.declared.slot.Slot.TheVariants.{Unknown, Open, Held, Finished}
-use Rattle.mud_search.specs.Boards.{slot_at, label_at, falls, offered, offers, settled, IsBoardOf, weight, potential}
+use Rattle.mud_search.specs.declared.slot.Slot.TheVariants.{Unknown, Waiting, Held, Finished}
+use Rattle.mud_search.specs.Boards.{slot_at, label_at, falls, offer, offers, settle, IsBoardOf, weight, potential}
 use Rattle.mud_search.specs.Boards.{board_of, Below}
 use Rattle.mud_search.specs.Slots.{label_of}
 use Rattle.mud_search.proofs.Inside.{AreWithin}
@@ -20,41 +21,41 @@ pub weight-set : (slots : List Slot) (d : ℕ) (v : Slot) → d < length slots �
     → sum_by weight (set slots d v) ≤ sum_by weight slots
 weight-set slots d v h low = omega (arith, sum_by-set weight slots d v Unknown h)
 
-rank-falls : (a k : Label) → a.exits < 8192 → Below a k
-    → 3 * (a.cost * 8192 + a.exits) + 2 ≤ 3 * (k.cost * 8192 + k.exits)
+rank-falls : (a k : Label) → a.exits < NUMBERS → Below a k
+    → 3 * (a.cost * NUMBERS + a.exits) + 2 ≤ 3 * (k.cost * NUMBERS + k.exits)
 rank-falls a k small b = grind arith
 
 -- a lesser label is lighter
-weight-lower : (v : Slot) (a : Label) → a.exits < 8192 → a.cost ≤ 10000 * a.exits
-    → ((k : Label) → label_of v ≡ Some k → Below a k) → weight (Open a) ≤ weight v
+weight-lower : (v : Slot) (a : Label) → a.exits < NUMBERS → a.cost ≤ MOST_COST * a.exits
+    → ((k : Label) → label_of v ≡ Some k → Below a k) → weight (Waiting a) ≤ weight v
 weight-lower Unknown a small dear less = omega arith
-weight-lower (Open k) a small dear less = omega (arith, rank-falls a k small (less k refl))
+weight-lower (Waiting k) a small dear less = omega (arith, rank-falls a k small (less k refl))
 weight-lower (Held k) a small dear less = omega (arith, rank-falls a k small (less k refl))
 weight-lower (Finished k) a small dear less = omega (arith, rank-falls a k small (less k refl))
 
 weight-offered : (roads : Roads) (from rooms : ℕ) (slots : List Slot) → IsBoardOf roads from rooms slots
-    → AreWithin roads rooms → rooms ≤ 8192
+    → AreWithin roads rooms → rooms ≤ NUMBERS
     → (by : ℕ) (l : Label) (s : Step) → label_at slots by ≡ Some l → Contains (roads by) s
-    → sum_by weight (offered l s slots) ≤ sum_by weight slots
+    → sum_by weight (offer l s slots) ≤ sum_by weight slots
 weight-offered roads from rooms slots sound inside few by l s was c =
     go (falls (after 1 l s) (label_at slots s.to)) refl
   where
     go : (b : Bool) → falls (after 1 l s) (label_at slots s.to) ≡ b
-        → sum_by weight (offered l s slots) ≤ sum_by weight slots
+        → sum_by weight (offer l s slots) ≤ sum_by weight slots
     go true lower =
         let h : s.to < rooms = (inside by s c).0 in
         let within : s.to < length slots = omega (arith, sound.whole) in
         let less : (k : Label) → label_at slots s.to ≡ Some k → Below (after 1 l s) k = λ k e.
         below-from_test (after 1 l s) k (sym (ap (falls (after 1 l s)) e) ∙ lower) in
-        let next : IsBoardOf roads from rooms (set slots s.to (Open (after 1 l s))) =
+        let next : IsBoardOf roads from rooms (set slots s.to (Waiting (after 1 l s))) =
         faithful-lowered roads from rooms slots sound inside by l s was c less in
-        let bound = label-bound roads from rooms (set slots s.to (Open (after 1 l s))) next inside s.to (after 1 l s)
-        (label-set_same slots s.to (Open (after 1 l s)) within) in
-        rw lower (weight-set slots s.to (Open (after 1 l s)) within
+        let bound = label-bound roads from rooms (set slots s.to (Waiting (after 1 l s))) next inside s.to (after 1 l s)
+        (label-set_same slots s.to (Waiting (after 1 l s)) within) in
+        rw lower (weight-set slots s.to (Waiting (after 1 l s)) within
         (weight-lower (slot_at slots s.to) (after 1 l s) (omega (arith, bound.0)) bound.1 less))
     go false higher = rw higher (omega arith)
 
-pub weight-offers : (roads : Roads) (from rooms : ℕ) → AreWithin roads rooms → rooms ≤ 8192 → (by : ℕ) (l : Label)
+pub weight-offers : (roads : Roads) (from rooms : ℕ) → AreWithin roads rooms → rooms ≤ NUMBERS → (by : ℕ) (l : Label)
     → (ss : List Step) → ((s : Step) → Contains ss s → Contains (roads by) s)
     → (slots : List Slot) → IsBoardOf roads from rooms slots → label_at slots by ≡ Some l
     → sum_by weight (offers l ss slots) ≤ sum_by weight slots
@@ -65,19 +66,19 @@ weight-offers roads from rooms inside few by l (s ∷ ss) those slots sound was 
       arith,
       weight-offered roads from rooms slots sound inside few by l s was (those s (here s ss)),
       weight-offers roads from rooms inside few by l ss (λ t c. those t (there s ss t c))
-          (offered l s slots) one.0.sound one.0.still,
+          (offer l s slots) one.0.sound one.0.still,
     )
 
 weight-finished : (v : Slot) (l : Label) → label_of v ≡ Some l → weight (Finished l) ≤ weight v
 weight-finished Unknown l e = absurd (cc)
-weight-finished (Open k) l e = let same : k ≡ l = some-inj k l e in rw same (omega arith)
+weight-finished (Waiting k) l e = let same : k ≡ l = some-inj k l e in rw same (omega arith)
 weight-finished (Held k) l e = let same : k ≡ l = some-inj k l e in rw same (omega arith)
 weight-finished (Finished k) l e = let same : k ≡ l = some-inj k l e in rw same (omega arith)
 
-pub weight-settled : (roads : Roads) (from rooms : ℕ) → AreWithin roads rooms → rooms ≤ 8192 → (room : ℕ) (l : Label)
+pub weight-settled : (roads : Roads) (from rooms : ℕ) → AreWithin roads rooms → rooms ≤ NUMBERS → (room : ℕ) (l : Label)
     → (steps : List Step) → steps ≡ roads room
     → (slots : List Slot) → IsBoardOf roads from rooms slots → label_at slots room ≡ Some l → room < rooms
-    → sum_by weight (settled room l steps slots) ≤ sum_by weight slots
+    → sum_by weight (settle room l steps slots) ≤ sum_by weight slots
 weight-settled roads from rooms inside few room l steps are slots sound was h =
     let P : Step → List Step → Type 0 = λ s ss. Contains ss s in
     let all = follows-offers roads from rooms inside room l steps (λ s c. subst (P s) are c) slots sound was in
@@ -96,11 +97,11 @@ potential-set boards m b h low = omega (arith, sum_by-set (sum_by weight) boards
 
 -- a room that is settled, and was not finished, makes the whole lighter
 pub weight-settled_left : (roads : Roads) (from rooms : ℕ) → AreWithin roads rooms
-    → rooms ≤ 8192 → (room : ℕ) (l : Label)
+    → rooms ≤ NUMBERS → (room : ℕ) (l : Label)
     → (steps : List Step) → steps ≡ roads room
     → (slots : List Slot) → IsBoardOf roads from rooms slots → label_at slots room ≡ Some l
     → weight (Finished l) < weight (slot_at slots room) → room < rooms
-    → sum_by weight (settled room l steps slots) < sum_by weight slots
+    → sum_by weight (settle room l steps slots) < sum_by weight slots
 weight-settled_left roads from rooms inside few room l steps are slots sound was heavy h =
     let P : Step → List Step → Type 0 = λ s ss. Contains ss s in
     let all = follows-offers roads from rooms inside room l steps (λ s c. subst (P s) are c) slots sound was in

@@ -10,13 +10,14 @@ use Rattle.std.proofs.lemmas.List.Sums.{sum_by-cons}
 use Rattle.std.proofs.lemmas.Map.Steps.{length-le_from_distinct_below}
 use Rattle.std.proofs.lemmas.Bool.{cases_eq}
 use Rattle.std.proofs.lemmas.Bool.Decides.{nat_tests}
+use Rattle.mud_world.specs.declared.limits.TheConstants.{MOST_COST}
 use Rattle.mud_roads.specs.declared.label.Label.{Label}
 use Rattle.mud_roads.specs.declared.label.Step.{Step}
 use Rattle.mud_roads.specs.Walks.{Roads, Walk, AtMost, total}
 use Rattle.mud_roads.specs.Labels.{start_label, Reaches}
 use Rattle.mud_roads.proofs.Bounds.{reaches-weaken}
 use Rattle.mud_roads.proofs.Routes.{walk-snoc, label-ext}
-use Rattle.mud_search.specs.inner.Trails.{visited, is_in, Trail}
+use Rattle.mud_search.specs.inner.Trails.{rooms_of_walk, is_in, Trail}
 use Rattle.mud_search.proofs.Inside.{AreWithin}
 
 -- what reaches a room under the one labels does under the other
@@ -48,14 +49,14 @@ or-none false b h = (refl, h)
 
 -- each room on a trail has a label no greater than the trail's
 pub trail-reaches : (roads : Roads) (labels : ℕ → Option Label) (from : ℕ) → labels from ≡ Some start_label
-    → (ss : List Step) (to : ℕ) → Trail roads labels from ss to → (q : ℕ) → is_in q (visited from ss) ≡ true
+    → (ss : List Step) (to : ℕ) → Trail roads labels from ss to → (q : ℕ) → is_in q (rooms_of_walk from ss) ≡ true
     → Reaches labels q (total 1 ss)
 trail-reaches roads labels from start [] to t q is =
     let same : from ≡ q = grind (arith, nat_tests) in
     let P : ℕ → Type 0 = λ r. Reaches labels r (total 1 []) in
     subst P same (start_label, start, (omega arith, λ e. omega arith))
 trail-reaches roads labels from start (s ∷ ss) to (e, new, r, (by, c, t)) q is =
-    elim (or_cases (q == s.to) (is_in q (visited from ss)) is) [
+    elim (or_cases (q == s.to) (is_in q (rooms_of_walk from ss)) is) [
       | inl here ↦
           let same : s.to ≡ q = grind (arith, nat_tests) in
           let P : ℕ → Type 0 = λ k. Reaches labels k (total 1 (s ∷ ss)) in
@@ -73,18 +74,19 @@ apart-from_none q (r ∷ rs) h =
 
 -- the rooms of a trail differ
 pub trail-distinct : (roads : Roads) (labels : ℕ → Option Label) (from : ℕ)
-    → (ss : List Step) (to : ℕ) → Trail roads labels from ss to → IsDistinct eqb (visited from ss)
+    → (ss : List Step) (to : ℕ) → Trail roads labels from ss to → IsDistinct eqb (rooms_of_walk from ss)
 unfolding IsDistinct
 trail-distinct roads labels from [] to t = (tt, tt)
 trail-distinct roads labels from (s ∷ ss) to (e, new, r, (by, c, t)) =
-    (apart-from_none s.to (visited from ss) new, trail-distinct roads labels from ss by t)
+    (apart-from_none s.to (rooms_of_walk from ss) new, trail-distinct roads labels from ss by t)
 
-length-visited : (from : ℕ) (ss : List Step) → length (visited from ss) ≡ suc (length ss)
+length-visited : (from : ℕ) (ss : List Step) → length (rooms_of_walk from ss) ≡ suc (length ss)
 length-visited from [] = refl
 length-visited from (s ∷ ss) = ap suc (length-visited from ss)
 
 pub trail-below : (roads : Roads) (labels : ℕ → Option Label) (from rooms : ℕ) → AreWithin roads rooms → from < rooms
-    → (ss : List Step) (to : ℕ) → Trail roads labels from ss to → (q : ℕ) → is_in q (visited from ss) ≡ true → q < rooms
+    → (ss : List Step) (to : ℕ) → Trail roads labels from ss to → (q : ℕ) → is_in q (rooms_of_walk from ss) ≡ true
+    → q < rooms
 trail-below roads labels from rooms w f [] to t q is = let same : from ≡ q = grind (arith, nat_tests) in omega arith
 trail-below roads labels from rooms w f (s ∷ ss) to (e, new, r, (by, c, t)) q is =
     elim (cases_eq q s.to) [
@@ -93,7 +95,7 @@ trail-below roads labels from rooms w f (s ∷ ss) to (e, new, r, (by, c, t)) q 
     ]
 
 pub trail-cost : (roads : Roads) (labels : ℕ → Option Label) (from rooms : ℕ) → AreWithin roads rooms
-    → (ss : List Step) (to : ℕ) → Trail roads labels from ss to → (total 1 ss).cost ≤ 10000 * length ss
+    → (ss : List Step) (to : ℕ) → Trail roads labels from ss to → (total 1 ss).cost ≤ MOST_COST * length ss
 trail-cost roads labels from rooms w [] to t = omega arith
 trail-cost roads labels from rooms w (s ∷ ss) to (e, new, r, (by, c, t)) =
     omega (arith, sum_by-cons (λ (x : Step). x.cost) s ss, (w by s c).1, trail-cost roads labels from rooms w ss by t)
@@ -123,6 +125,6 @@ trail-short roads labels from rooms w f ss to t =
     omega (
       arith,
       length-visited from ss,
-      length-le_from_distinct_below (visited from ss) rooms (trail-distinct roads labels from ss to t)
+      length-le_from_distinct_below (rooms_of_walk from ss) rooms (trail-distinct roads labels from ss to t)
           (trail-below roads labels from rooms w f ss to t),
     )

@@ -3,6 +3,7 @@
 use Rattle.std.specs.Prelude.{◌≡◌, ◌⊎◌, ℕ, ◌+◌, ◌*◌, ◌<◌, ◌≤◌, ◌^◌, Bool, true, ◌==◌, ◌&&◌, ◌||◌, nat_lt, if◌then◌else◌}
 use Rattle.std.specs.Prelude.{List, [], ◌∷◌, map, length, Option, None, Some, slice_get, slice_index_or, slice_set}
 use Rattle.std.specs.Prelude.{replicate, sum_by, count_by}
+use Rattle.mud_world.specs.declared.limits.TheConstants.{NUMBERS, MOST_COST, MOST_PARTY}
 use Rattle.mud_world.specs.State.{State}
 use Rattle.mud_world.specs.Sound.{IsSound}
 use Rattle.mud_roads.specs.declared.label.Label.{Label}
@@ -11,9 +12,9 @@ use Rattle.mud_roads.specs.Open.{Knowledge, roads_of}
 use Rattle.mud_roads.specs.Walks.{Roads, after}
 use Rattle.mud_roads.specs.Labels.{start_label}
 use Rattle.mud_search.specs.declared.slot.Slot.{Slot}
-use Rattle.mud_search.specs.declared.slot.Slot.TheVariants.{Unknown, Open, Held, Finished}
+use Rattle.mud_search.specs.declared.slot.Slot.TheVariants.{Unknown, Waiting, Held, Finished}
 use Rattle.mud_search.specs.declared.task.Task.{Task}
-use Rattle.mud_search.specs.Slots.{is_open, is_held, label_of}
+use Rattle.mud_search.specs.Slots.{is_waiting, is_held, label_of}
 use Rattle.mud_search.specs.inner.Trails.{IsTraced}
 
 -- ---- one member's slots
@@ -26,19 +27,19 @@ slot_at slots room = slice_index_or slots room Unknown
 abbrev pub label_at : List Slot → ℕ → Option Label
 label_at slots room = label_of (slot_at slots room)
 
--- its label, if it is open
-abbrev pub open_label : Slot → Option Label
-open_label Unknown = None
-open_label (Open l) = Some l
-open_label (Held l) = None
-open_label (Finished l) = None
+-- its label, if it waits
+abbrev pub waiting_label : Slot → Option Label
+waiting_label Unknown = None
+waiting_label (Waiting l) = Some l
+waiting_label (Held l) = None
+waiting_label (Finished l) = None
 
--- the open rooms stand in order, and the counts are right
-pub record IsBoard (slots : List Slot) (order : List (Option Label)) (opened held : ℕ) : Type 0 where
+-- the waiting rooms stand in order, and the counts are right
+pub record IsBoard (slots : List Slot) (order : List (Option Label)) (waiting held : ℕ) : Type 0 where
   pub few : length slots < 2 ^ 32
   pub whole : length order ≡ length slots
-  pub ordered : (room : ℕ) → slice_index_or order room None ≡ open_label (slot_at slots room)
-  pub open_count : opened ≡ count_by is_open slots
+  pub ordered : (room : ℕ) → slice_index_or order room None ≡ waiting_label (slot_at slots room)
+  pub waiting_count : waiting ≡ count_by is_waiting slots
   pub held_count : held ≡ count_by is_held slots
 
 -- a lesser label, or the same and no greater room
@@ -60,18 +61,18 @@ falls l None = true
 falls l (Some k) = is_below l k
 
 -- the slots after a step from a room with this label
-abbrev pub offered : Label → Step → List Slot → List Slot
-offered l s slots =
-    if falls (after 1 l s) (label_at slots s.to) then slice_set slots s.to (Open (after 1 l s)) else slots
+abbrev pub offer : Label → Step → List Slot → List Slot
+offer l s slots =
+    if falls (after 1 l s) (label_at slots s.to) then slice_set slots s.to (Waiting (after 1 l s)) else slots
 
 -- the slots after all these steps, one after the other
 abbrev pub offers : Label → List Step → List Slot → List Slot
 offers l [] slots = slots
-offers l (s ∷ ss) slots = offers l ss (offered l s slots)
+offers l (s ∷ ss) slots = offers l ss (offer l s slots)
 
 -- the slots after all steps from a room, which is then finished
-abbrev pub settled : ℕ → Label → List Step → List Slot → List Slot
-settled room l steps slots = slice_set (offers l steps slots) room (Finished l)
+abbrev pub settle : ℕ → Label → List Step → List Slot → List Slot
+settle room l steps slots = slice_set (offers l steps slots) room (Finished l)
 
 -- ---- the slots of all members
 
@@ -83,9 +84,9 @@ board_of boards member = slice_index_or boards member []
 abbrev pub slot_of : List (List Slot) → ℕ → ℕ → Slot
 slot_of boards member room = slot_at (board_of boards member) room
 
--- all rooms are unknown but his place, which is open
+-- all rooms are unknown but his place, which waits
 abbrev pub begun_at : ℕ → Knowledge → List Slot
-begun_at rooms t = slice_set (replicate rooms Unknown) t.place (Open start_label)
+begun_at rooms t = slice_set (replicate rooms Unknown) t.place (Waiting start_label)
 
 -- the label of each slot
 abbrev pub lists_of : List (List Slot) → List (List (Option Label))
@@ -102,7 +103,7 @@ pub record IsBoardOf (roads : Roads) (from rooms : ℕ) (slots : List Slot) : Ty
 pub record IsKept (w : State) (ts : List Knowledge) (boards : List (List Slot)) : Type 0 where
   pub sound : IsSound w
   pub count : length boards ≡ length ts
-  pub few : length ts ≤ 8
+  pub few : length ts ≤ MOST_PARTY
   pub faithful : (m : ℕ) (t : Knowledge) → slice_get ts m ≡ Some t
       → IsBoardOf (roads_of w t.player) t.place w.next (board_of boards m)
 
@@ -115,20 +116,20 @@ lesser (Some t) member (Some found) =
 
 -- ---- what is left to do
 
--- the task's room is open or held, with its label
+-- the task's room waits or is held, with its label
 abbrev pub IsLeft : (ℕ → ℕ → Slot) → Task → Type 0
-IsLeft slots t = (slots t.member t.room ≡ Open t.label) ⊎ (slots t.member t.room ≡ Held t.label)
+IsLeft slots t = (slots t.member t.room ≡ Waiting t.label) ⊎ (slots t.member t.room ≡ Held t.label)
 
 -- more than any label's
 abbrev pub top : ℕ
-top = 10000 * 8192 * 8192
+top = MOST_COST * NUMBERS * NUMBERS
 
 -- what is left to do at a room: less where its label has fallen, and less where it was taken or finished
 abbrev pub weight : Slot → ℕ
 weight Unknown = 3 * top
-weight (Open l) = 3 * (l.cost * 8192 + l.exits) + 2
-weight (Held l) = 3 * (l.cost * 8192 + l.exits) + 1
-weight (Finished l) = 3 * (l.cost * 8192 + l.exits)
+weight (Waiting l) = 3 * (l.cost * NUMBERS + l.exits) + 2
+weight (Held l) = 3 * (l.cost * NUMBERS + l.exits) + 1
+weight (Finished l) = 3 * (l.cost * NUMBERS + l.exits)
 
 -- what is left to do in all
 abbrev pub potential : List (List Slot) → ℕ

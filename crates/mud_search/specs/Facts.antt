@@ -10,6 +10,7 @@ use Rattle.mud_roads.specs.Open.{Knowledge, roads_of}
 use Rattle.mud_search.specs.declared.slot.Slot.{Slot}
 use Rattle.mud_search.specs.declared.slot.Slot.TheVariants.{Unknown, Finished}
 use Rattle.mud_search.specs.Slots.{labels_of}
+use Rattle.mud_world.specs.declared.limits.TheConstants.{MOST_PARTY}
 
 -- every label is that of a walk; the start is labelled 0; the steps out of a finished room lead to no greater labels
 pub record IsFaithful (roads : Roads) (from : ℕ) (slots : ℕ → Slot) : Type 0 where
@@ -22,6 +23,6 @@ pub record IsFaithful (roads : Roads) (from : ℕ) (slots : ℕ → Slot) : Type
 -- the world is sound, of at most 8 members only rooms are known, and the slots of each are faithful to his roads
 pub record IsFrontier (w : State) (ts : List Knowledge) (slots : ℕ → ℕ → Slot) : Type 0 where
   pub sound : IsSound w
-  pub few : length ts ≤ 8
+  pub few : length ts ≤ MOST_PARTY
   pub inside : (m room : ℕ) → slots m room ≢ Unknown → (m < length ts) × (room < w.next)
   pub faithful : (m : ℕ) (t : Knowledge) → slice_get ts m ≡ Some t → IsFaithful (roads_of w t.player) t.place (slots m)

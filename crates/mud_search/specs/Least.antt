@@ -1,5 +1,7 @@
 -- The labels that a search finds.
-use Rattle.std.specs.Prelude.{◌≡◌, ℕ, ◌≤◌, List, Option, None, Some, slice_get}
+use Rattle.std.specs.Prelude.{◌≡◌, ℕ, ◌*◌, ◌≤◌, List, Option, None, Some, slice_get}
+use Rattle.mud_key.specs.declared.limits.TheConstants.{LAST_NUMBER}
+use Rattle.mud_world.specs.declared.limits.TheConstants.{MOST_COST}
 use Rattle.mud_world.specs.State.{State}
 use Rattle.mud_roads.specs.declared.label.Label.{Label}
 use Rattle.mud_roads.specs.Walks.{Least}
@@ -17,4 +19,5 @@ AreLeast w ts labels =
 
 -- no label is greater than that of a walk through all rooms by the dearest exits
 abbrev pub AreBounded : (ℕ → ℕ → Option Label) → Type 0
-AreBounded labels = (m room : ℕ) (l : Label) → labels m room ≡ Some l → (l.cost ≤ 81910000) × (l.exits ≤ 8191)
+AreBounded labels =
+    (m room : ℕ) (l : Label) → labels m room ≡ Some l → (l.cost ≤ MOST_COST * LAST_NUMBER) × (l.exits ≤ LAST_NUMBER)

@@ -2,12 +2,12 @@
 use Rattle.std.specs.Prelude.{ℕ, Bool, true, false, Option, None, Some}
 use Rattle.mud_roads.specs.declared.label.Label.{Label}
 use Rattle.mud_search.specs.declared.slot.Slot.{Slot}
-use Rattle.mud_search.specs.declared.slot.Slot.TheVariants.{Unknown, Open, Held, Finished}
+use Rattle.mud_search.specs.declared.slot.Slot.TheVariants.{Unknown, Waiting, Held, Finished}
 
--- whether it is open
-abbrev pub is_open : Slot → Bool
-is_open (Open l) = true
-is_open slot = false
+-- whether it waits
+abbrev pub is_waiting : Slot → Bool
+is_waiting (Waiting l) = true
+is_waiting slot = false
 
 -- whether it is held
 abbrev pub is_held : Slot → Bool
@@ -17,7 +17,7 @@ is_held slot = false
 -- its label, if it has one
 abbrev pub label_of : Slot → Option Label
 label_of Unknown = None
-label_of (Open l) = Some l
+label_of (Waiting l) = Some l
 label_of (Held l) = Some l
 label_of (Finished l) = Some l
 

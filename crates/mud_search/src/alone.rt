@@ -3,6 +3,7 @@
 ghost use Rattle.std.specs.Prelude.{◌≡◌, ◌≤◌, ℕ, All, None, IfOk, length};
 ghost use Rattle.mud_roads.specs.Open.{IsTraveller};
 ghost use Rattle.mud_search.specs.Least.{label_in, AreLeast, AreBounded};
+ghost use Rattle.mud_world.specs.declared.limits.TheConstants.{MOST_PARTY};
 
 use crate::found::Labels;
 use crate::frontier::Frontier;
@@ -20,7 +21,7 @@ pub fn labels_alone(
     travellers: &[Traveller],
 ) -> Result<Labels, AllocError>
     requires travellers { All (IsTraveller world.now) travellers.now }
-    requires few { length travellers.now ≤ 8 }
+    requires few { length travellers.now ≤ MOST_PARTY }
     ensures least { IfOk result (λ labels. AreLeast world.now travellers.now (label_in labels)) }
     ensures members { IfOk result (λ labels. (m room : ℕ) → length travellers.now ≤ m → label_in labels m room ≡ None) }
     ensures bounded { IfOk result (λ labels. AreBounded (label_in labels)) }
@@ -37,7 +38,7 @@ fn alone_for<J: Job>(
     requires world { world.now ≡ J.world }
     requires travellers { travellers.now ≡ J.travellers }
     requires these { All (IsTraveller J.world) J.travellers }
-    requires few { length J.travellers ≤ 8 }
+    requires few { length J.travellers ≤ MOST_PARTY }
     ensures least { IfOk result (λ labels. AreLeast J.world J.travellers (label_in labels)) }
     ensures members { IfOk result (λ labels. (m room : ℕ) → length J.travellers ≤ m → label_in labels m room ≡ None) }
     ensures bounded { IfOk result (λ labels. AreBounded (label_in labels)) }

@@ -3,10 +3,11 @@
 ghost use Rattle.std.specs.Prelude.{◌≡◌, ◌≢◌, ℕ, ◌+◌, All, ◌<◌, ◌≤◌, ◌^◌, IfOk, IfSome, IfNone, length, slice_get};
 ghost use Rattle.std.specs.Prelude.{slice_set, replicate, count_by};
 ghost use Rattle.std.specs.Bool.{OnTrue, OnFalse};
+ghost use Rattle.mud_world.specs.declared.limits.TheConstants.{MOST_COST};
 ghost use Rattle.mud_roads.specs.declared.label.Label.{Label};
 ghost use Rattle.mud_roads.specs.Labels.{start_label};
-ghost use Rattle.mud_search.specs.Slots.{is_open, is_held};
-ghost use Rattle.mud_search.specs.Boards.{IsBefore, slot_at, label_at, open_label, falls, offered, offers, settled};
+ghost use Rattle.mud_search.specs.Slots.{is_waiting, is_held};
+ghost use Rattle.mud_search.specs.Boards.{IsBefore, slot_at, label_at, waiting_label, falls, offer, offers, settle};
 
 use crate::queue::Queue;
 use crate::slot::Slot;
@@ -14,12 +15,12 @@ use mud_roads::{Label, Step};
 use std::alloc::{AllocError, Global};
 use std::marker::Model;
 
-// The slots of the rooms, with the open ones in order. A contract sees the slots.
+// The slots of the rooms, with the waiting ones in order. A contract sees the slots.
 #[derive(Drop)]
 pub(crate) struct Board {
     slots: Vec<Slot>,
     order: Queue,
-    opened: usize,
+    waiting: usize,
     held: usize,
 }
 
@@ -32,7 +33,7 @@ impl Model for Board {
 
     ghost view = { λ b. b.slots.items };
 
-    ghost invariant = { λ b. IsBoard b.slots.items b.order b.opened b.held };
+    ghost invariant = { λ b. IsBoard b.slots.items b.order b.waiting b.held };
 }
 
 impl Board {
@@ -46,18 +47,18 @@ impl Board {
         Ok(Board {
             slots,
             order,
-            opened: 0,
+            waiting: 0,
             held: 0,
         })
     }
 
-    // So many rooms, all unknown but the place, which is open.
+    // So many rooms, all unknown but the place, which waits.
     pub(crate) fn start(alloc: Global, rooms: u32, place: u32) -> Result<Self, AllocError>
         requires { place < rooms }
-        ensures { IfOk result (λ b. b ≡ slice_set (replicate rooms Slot.Unknown) place (Slot.Open start_label)) }
+        ensures { IfOk result (λ b. b ≡ slice_set (replicate rooms Slot.Unknown) place (Slot.Waiting start_label)) }
     {
         let mut board = Board::new(alloc, rooms as usize)?;
-        board.mark(place, Slot::Open(Label { cost: 0, exits: 0 }));
+        board.mark(place, Slot::Waiting(Label { cost: 0, exits: 0 }));
         Ok(board)
     }
 
@@ -69,12 +70,12 @@ impl Board {
         self.slots[room]
     }
 
-    // The open room of least label, of these the lowest.
+    // The waiting room of least label, of these the lowest.
     pub(crate) fn least(&self) -> Option<(Label, u32)>
-        ensures some { IfSome result (λ t. slot_at self.now t.1 ≡ Slot.Open t.0) }
-        ensures least { IfSome result (λ t. (room : ℕ) (l : Label) → slot_at self.now room ≡ Slot.Open l
+        ensures some { IfSome result (λ t. slot_at self.now t.1 ≡ Slot.Waiting t.0) }
+        ensures least { IfSome result (λ t. (room : ℕ) (l : Label) → slot_at self.now room ≡ Slot.Waiting l
             → IsBefore t.0 t.1 l room) }
-        ensures none { IfNone result ((room : ℕ) (l : Label) → slot_at self.now room ≡ Slot.Open l → ⊥) }
+        ensures none { IfNone result ((room : ℕ) (l : Label) → slot_at self.now room ≡ Slot.Waiting l → ⊥) }
     {
         match self.order.first() {
             Some(entry) => Some((entry.label, entry.room)),
@@ -89,12 +90,12 @@ impl Board {
     {
         let at = room as usize;
         let before = self.slots[at];
-        self.opened -= usize::from(before.is_open());
+        self.waiting -= usize::from(before.is_waiting());
         self.held -= usize::from(before.is_held());
         self.slots[at] = slot;
-        self.opened += usize::from(slot.is_open());
+        self.waiting += usize::from(slot.is_waiting());
         self.held += usize::from(slot.is_held());
-        self.order.set(room, open_label(slot));
+        self.order.set(room, waiting_label(slot));
     }
 
     // Writes the label one step on where it leads, if that has none or a greater one.
@@ -102,7 +103,7 @@ impl Board {
         requires to { step.now.to < length self.old }
         requires cost { label.cost + step.now.cost < 2 ^ 32 }
         requires exits { label.exits + 1 < 2 ^ 32 }
-        ensures { self.new ≡ offered label step.now self.old }
+        ensures { self.new ≡ offer label step.now self.old }
     {
         let next = Label {
             cost: label.cost + step.cost,
@@ -110,7 +111,7 @@ impl Board {
         };
         let before = self.slot(step.to as usize).label();
         if falls(next, before) {
-            self.mark(step.to, Slot::Open(next));
+            self.mark(step.to, Slot::Waiting(next));
         }
     }
 
@@ -126,15 +127,15 @@ impl Board {
         }
     }
 
-    // Opens a room that is held with this label. Says whether it was.
+    // Lets a room wait again that is held with this label. Says whether it was.
     pub(crate) fn release(&mut self, room: u32, label: Label) -> bool
         ensures held { OnTrue result ((slot_at self.old room ≡ Slot.Held label)
-            × (self.new ≡ slice_set self.old room (Slot.Open label))) }
+            × (self.new ≡ slice_set self.old room (Slot.Waiting label))) }
         ensures other { OnFalse result ((slot_at self.old room ≢ Slot.Held label) × (self.new ≡ self.old)) }
     {
         let at = room as usize;
         if at < self.slots.len() && self.slots[at] == Slot::Held(label) {
-            self.mark(room, Slot::Open(label));
+            self.mark(room, Slot::Waiting(label));
             true
         } else {
             false
@@ -154,16 +155,16 @@ impl Board {
         None
     }
 
-    // How many rooms are open.
-    pub(crate) fn opened(&self) -> usize
-        ensures open { result ≡ count_by is_open self.now }
+    // How many rooms wait.
+    pub(crate) fn waiting_count(&self) -> usize
+        ensures waiting { result ≡ count_by is_waiting self.now }
         ensures few { result < 2 ^ 32 }
     {
-        self.opened
+        self.waiting
     }
 
     // How many rooms are held.
-    pub(crate) fn held(&self) -> usize
+    pub(crate) fn held_count(&self) -> usize
         ensures held { result ≡ count_by is_held self.now }
         ensures few { result < 2 ^ 32 }
     {
@@ -172,9 +173,9 @@ impl Board {
 
     // Follows all steps of a room with this label.
     fn follow(&mut self, label: Label, steps: &[Step])
-        requires cost { label.cost + 10000 < 2 ^ 32 }
+        requires cost { label.cost + MOST_COST < 2 ^ 32 }
         requires exits { label.exits + 1 < 2 ^ 32 }
-        requires steps { All (λ s. (s.to < length self.old) × (s.cost ≤ 10000)) steps.now }
+        requires steps { All (λ s. (s.to < length self.old) × (s.cost ≤ MOST_COST)) steps.now }
         ensures slots { self.new ≡ offers label steps.now self.old }
         ensures whole { length self.new ≡ length self.old }
     {
@@ -186,10 +187,10 @@ impl Board {
     // Follows all steps of a room that has this label, and finishes it. Says whether it has.
     pub(crate) fn settle(&mut self, room: u32, label: Label, steps: &[Step]) -> bool
         requires bound { (l : Label) → label_at self.old room ≡ Some l
-            → (l.cost + 10000 < 2 ^ 32) × (l.exits + 1 < 2 ^ 32) }
-        requires steps { All (λ s. (s.to < length self.old) × (s.cost ≤ 10000)) steps.now }
+            → (l.cost + MOST_COST < 2 ^ 32) × (l.exits + 1 < 2 ^ 32) }
+        requires steps { All (λ s. (s.to < length self.old) × (s.cost ≤ MOST_COST)) steps.now }
         ensures done { OnTrue result ((label_at self.old room ≡ Some label)
-            × (self.new ≡ settled room label steps.now self.old)) }
+            × (self.new ≡ settle room label steps.now self.old)) }
         ensures stale { OnFalse result ((label_at self.old room ≢ Some label) × (self.new ≡ self.old)) }
     {
         if self.label(room) == Some(label) {
@@ -202,12 +203,12 @@ impl Board {
     }
 }
 
-// The label of an open slot.
-fn open_label(slot: Slot) -> Option<Label>
-    ensures { result ≡ open_label slot }
+// The label of a waiting slot.
+fn waiting_label(slot: Slot) -> Option<Label>
+    ensures { result ≡ waiting_label slot }
 {
     match slot {
-        Slot::Open(label) => Some(label),
+        Slot::Waiting(label) => Some(label),
         Slot::Unknown | Slot::Held(_) | Slot::Finished(_) => None,
     }
 }

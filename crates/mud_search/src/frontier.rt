@@ -3,13 +3,14 @@
 ghost use Rattle.std.specs.Prelude.{◌≡◌, ◌≢◌, ℕ, ◌<◌, ◌≤◌, All, IfOk, IfSome, IfNone, None, Some, length, slice_get};
 ghost use Rattle.mud_roads.specs.declared.label.Label.{Label};
 ghost use Rattle.mud_roads.specs.Open.{Knowledge, IsTraveller, roads_of};
-ghost use Rattle.mud_search.specs.Slots.{is_open, is_held, labels_of};
+ghost use Rattle.mud_search.specs.Slots.{is_waiting, is_held, labels_of};
 ghost use Rattle.mud_search.specs.Tables.{lists_in, how_many};
 ghost use Rattle.mud_search.specs.Rooms.{slot_in};
 ghost use Rattle.mud_search.specs.Facts.{IsFrontier};
 ghost use Rattle.mud_search.specs.Tasks.{IsBegun, IsFirst, IsChanged, IsDone};
 ghost use Rattle.mud_search.specs.Least.{label_in, AreLeast, AreBounded};
 ghost use Rattle.mud_search.specs.Boards.{IsLeft, potential, lesser};
+ghost use Rattle.mud_world.specs.declared.limits.TheConstants.{MOST_PARTY};
 
 use crate::board::Board;
 use crate::found::Labels;
@@ -49,13 +50,13 @@ impl<J: Job> Model for Frontier<J> {
 }
 
 impl<J: Job> Frontier<J> {
-    /// The beginning: of each member's rooms his place is open, with the label of no cost and no exits, and no other is
+    /// The beginning: of each member's rooms his place waits, with the label of no cost and no exits, and no other is
     /// known. Takes all memory that later calls need. The only error is out of memory.
     pub fn new(alloc: Global, world: &World, travellers: &[Traveller]) -> Result<Self, AllocError>
         requires world { world.now ≡ J.world }
         requires travellers { travellers.now ≡ J.travellers }
         requires these { All (IsTraveller J.world) J.travellers }
-        requires few { length J.travellers ≤ 8 }
+        requires few { length J.travellers ≤ MOST_PARTY }
         ensures { IfOk result (λ f. IsBegun J.travellers (slot_in f)) }
     {
         let mut boards = Vec::with_capacity(alloc, travellers.len())?;
@@ -69,10 +70,10 @@ impl<J: Job> Frontier<J> {
         })
     }
 
-    // The open room of least label; of these the first member's, of these the lowest.
+    // The waiting room of least label; of these the first member's, of these the lowest.
     fn first(&self) -> Option<Task>
         ensures some { IfSome result (λ t. IsFirst (slot_in self.now) t) }
-        ensures none { IfNone result ((m r : ℕ) (l : Label) → slot_in self.now m r ≡ Slot.Open l → ⊥) }
+        ensures none { IfNone result ((m r : ℕ) (l : Label) → slot_in self.now m r ≡ Slot.Waiting l → ⊥) }
     {
         let mut best: Option<Task> = None;
         for member in 0..self.boards.len() {
@@ -82,13 +83,13 @@ impl<J: Job> Frontier<J> {
         best
     }
 
-    /// Takes the open room of least label, of these the first member's, of these the lowest; it is
-    /// held from then on. None where no room is open.
+    /// Takes the waiting room of least label, of these the first member's, of these the lowest; it is
+    /// held from then on. None where no room waits.
     pub fn take(&mut self) -> Option<Task>
         ensures some { IfSome result (λ t. IsFirst (slot_in self.old) t
             × IsChanged (slot_in self.old) (slot_in self.new) t.member t.room (Slot.Held t.label)) }
         ensures none { IfNone result ((self.new ≡ self.old)
-            × ((m r : ℕ) (l : Label) → slot_in self.old m r ≡ Slot.Open l → ⊥)) }
+            × ((m r : ℕ) (l : Label) → slot_in self.old m r ≡ Slot.Waiting l → ⊥)) }
         ensures member { IfSome result (λ t. t.member < length J.travellers) }
     {
         let task = self.first()?;
@@ -98,7 +99,7 @@ impl<J: Job> Frontier<J> {
 
     /// Gives a room back that was looked at, with the steps of all exits out of it that are open to
     /// the member. Where it still has the task's label, each step offers the label one step on to
-    /// the room where it leads, which takes it if it has none or a greater one and is open then,
+    /// the room where it leads, which takes it if it has none or a greater one and waits then,
     /// and the task's room is finished. Otherwise nothing changes.
     pub fn put(&mut self, task: &Task, steps: &[Step]) -> Put
         requires steps { (t : Knowledge) → slice_get J.travellers task.now.member ≡ Some t
@@ -111,7 +112,7 @@ impl<J: Job> Frontier<J> {
         self.settle(task, steps)
     }
 
-    // The same; and less is left to do where the room was open or held.
+    // The same; and less is left to do where the room waited or was held.
     fn settle(&mut self, task: &Task, steps: &[Step]) -> Put
         requires steps { (t : Knowledge) → slice_get J.travellers task.now.member ≡ Some t
             → steps.now ≡ roads_of J.world t.player task.now.room }
@@ -131,10 +132,11 @@ impl<J: Job> Frontier<J> {
         }
     }
 
-    /// Opens the task's room again, if it is held with the task's label. Otherwise nothing changes.
+    /// Lets the task's room wait again, if it is held with the task's label. Otherwise nothing changes.
     pub fn back(&mut self, task: &Task)
         ensures held { slot_in self.old task.now.member task.now.room ≡ Slot.Held task.now.label
-            → IsChanged (slot_in self.old) (slot_in self.new) task.now.member task.now.room (Slot.Open task.now.label) }
+            → IsChanged (slot_in self.old) (slot_in self.new) task.now.member task.now.room
+            (Slot.Waiting task.now.label) }
         ensures other { slot_in self.old task.now.member task.now.room ≢ Slot.Held task.now.label
             → self.new ≡ self.old }
     {
@@ -151,10 +153,9 @@ impl<J: Job> Frontier<J> {
         let _boards = &self.boards;
     }
 
-    /// How many rooms are open and how many are held. Where none is either, the labels are the
-    /// least.
+    /// How many rooms wait and how many are held. Where both are 0, the labels are the least.
     pub fn rest(&self) -> Rest
-        ensures opened { result.opened ≡ how_many is_open self.now }
+        ensures opened { result.opened ≡ how_many is_waiting self.now }
         ensures held { result.held ≡ how_many is_held self.now }
         ensures least { result.opened ≡ 0 → result.held ≡ 0
             → AreLeast J.world J.travellers (λ m. labels_of (slot_in self.now m)) }
@@ -162,8 +163,8 @@ impl<J: Job> Frontier<J> {
         let mut opened = 0;
         let mut held = 0;
         for board in &self.boards {
-            opened += board.opened();
-            held += board.held();
+            opened += board.waiting_count();
+            held += board.held_count();
         }
         Rest { opened, held }
     }
@@ -186,9 +187,9 @@ impl<J: Job> Frontier<J> {
         None
     }
 
-    // An open room, or else a held one, once nobody is at work. Where there is none the labels are
+    // A waiting room, or else a held one, once nobody is at work. Where there is none the labels are
     // the least.
-    fn left(&self) -> Option<Task>
+    fn next_left(&self) -> Option<Task>
         ensures some { IfSome result (λ t. IsLeft (slot_in self.now) t) }
         ensures member { IfSome result (λ t. t.member < length J.travellers) }
         ensures none { IfNone result (AreLeast J.world J.travellers (λ m. labels_of (slot_in self.now m))) }
@@ -216,7 +217,7 @@ impl<J: Job> Frontier<J> {
         requires these { All (IsTraveller J.world) J.travellers }
         ensures { AreLeast J.world J.travellers (λ m. labels_of (slot_in self.new m)) }
     {
-        while let Some(task) = self.left() {
+        while let Some(task) = self.next_left() {
             part.pass(gate, 0, &task);
             let steps = travellers[task.member].steps_from(task.room);
             let _ = self.settle(&task, steps);

@@ -7,9 +7,9 @@
 //! | [`labels`] | the same, by several workers, who pass a [`Gate`] with each room |
 //! | [`last_share`] | how many members, or workers, the last of several parts gets |
 //! | [`Labels::get`] | the least label of a member at a room |
-//! | [`Frontier`] | the rooms of all members while a search goes on: what is open, held, finished |
+//! | [`Frontier`] | the rooms of all members while a search goes on: what waits, is held, is finished |
 //!
-//! The search takes the open room of least label again and again, and offers its label, one step
+//! The search takes the waiting room of least label again and again, and offers its label, one step
 //! on, to each room that its open exits lead to (E. W. Dijkstra, "A note on two problems in
 //! connexion with graphs", 1959). A [`Frontier`] is right whoever takes rooms and gives them back,
 //! and in whatever order: a task whose room has had a lesser label since is stale and changes
@@ -34,6 +34,7 @@ mod found;
 mod frontier;
 mod gate;
 mod job;
+pub mod limits;
 mod part;
 mod pool;
 mod queue;

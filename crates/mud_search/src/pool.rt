@@ -26,9 +26,9 @@ pub(crate) struct Pool<J: Job> {
 pub(crate) enum Next {
     // It looks at a room.
     Room(Task),
-    // It rests: no room is open, or another worker is at the frontier.
+    // It rests: no room waits, or another worker is at the frontier.
     Rest,
-    // It ends: no room is open and none is held.
+    // It ends: no room waits and none is held.
     End,
 }
 

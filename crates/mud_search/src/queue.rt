@@ -1,4 +1,4 @@
-//! The open rooms in order of their labels. A change takes no memory.
+//! The waiting rooms in order of their labels. A change takes no memory.
 
 ghost use Rattle.std.specs.Prelude.{◌≡◌, ℕ, ◌+◌, ◌-◌, ◌*◌, ◌/◌, ◌^◌, ◌<◌, ◌≤◌, IfOk, IfSome, IfNone, Option, length};
 ghost use Rattle.std.specs.Prelude.{slice_set, slice_index_or, replicate};

@@ -5,6 +5,7 @@ ghost use Rattle.std.specs.Thread.{IsSync};
 ghost use Rattle.mud_roads.specs.Open.{IsTraveller};
 ghost use Rattle.mud_search.specs.Least.{label_in, AreLeast, AreBounded};
 ghost use Rattle.mud_search.specs.inner.Parts.{AreFound};
+ghost use Rattle.mud_world.specs.declared.limits.TheConstants.{MOST_PARTY};
 
 use crate::found::Labels;
 use crate::frontier::Frontier;
@@ -12,7 +13,7 @@ use crate::gate::Gate;
 use crate::job::Job;
 use crate::part::Part;
 use crate::share::last_share;
-use crate::workers::worked;
+use crate::workers::work_together;
 use mud_roads::Traveller;
 use mud_world::World;
 use std::alloc::{AllocError, Global};
@@ -34,7 +35,7 @@ pub fn labels<R: Threads + Wait + Sync, G: Gate + Sync>(
     gate: &G,
 ) -> Result<Labels, AllocError>
     requires travellers { All (IsTraveller world.now) travellers.now }
-    requires few { length travellers.now ≤ 8 }
+    requires few { length travellers.now ≤ MOST_PARTY }
     ensures least { IfOk result (λ labels. AreLeast world.now travellers.now (label_in labels)) }
     ensures members { IfOk result (λ labels. (m room : ℕ) → length travellers.now ≤ m → label_in labels m room ≡ None) }
     ensures bounded { IfOk result (λ labels. AreBounded (label_in labels)) }
@@ -53,7 +54,7 @@ fn labels_apart<R: Threads + Wait + Sync, G: Gate + Sync>(
     gate: &G,
 ) -> Result<Labels, AllocError>
     requires travellers { All (IsTraveller world.now) travellers.now }
-    requires few { length travellers.now ≤ 8 }
+    requires few { length travellers.now ≤ MOST_PARTY }
     ensures { IfOk result (AreFound world.now travellers.now) }
 {
     let members = travellers.len();
@@ -66,11 +67,13 @@ fn labels_apart<R: Threads + Wait + Sync, G: Gate + Sync>(
     let (others, labels) = join(
         rt,
         || -> Result<Labels, AllocError>
-            requires { IsSync R.row × IsSync G.row × All (IsTraveller world.now) back.now × (length back.now ≤ 8) }
+            requires { IsSync R.row × IsSync G.row × All (IsTraveller world.now) back.now
+                × (length back.now ≤ MOST_PARTY) }
             ensures { IfOk result (AreFound world.entry.now back.entry.now) }
         { labels_apart(rt, alloc, world, back, part.back(before, behind), gate) },
         || -> Result<Labels, AllocError>
-            requires { IsSync R.row × IsSync G.row × All (IsTraveller world.now) front.now × (length front.now ≤ 8) }
+            requires { IsSync R.row × IsSync G.row × All (IsTraveller world.now) front.now
+                × (length front.now ≤ MOST_PARTY) }
             ensures { IfOk result (AreFound world.entry.now front.entry.now) }
         { labels_apart(rt, alloc, world, front, part.front(behind), gate) },
     );
@@ -89,7 +92,7 @@ fn labels_together<R: Threads + Wait + Sync, G: Gate + Sync>(
     gate: &G,
 ) -> Result<Labels, AllocError>
     requires travellers { All (IsTraveller world.now) travellers.now }
-    requires few { length travellers.now ≤ 8 }
+    requires few { length travellers.now ≤ MOST_PARTY }
     ensures { IfOk result (AreFound world.now travellers.now) }
 {
     together_for::<Brand, R, G>(rt, alloc, world, travellers, part, gate)
@@ -107,12 +110,12 @@ fn together_for<J: Job + Send + Sync, R: Threads + Wait + Sync, G: Gate + Sync>(
     requires world { world.now ≡ J.world }
     requires travellers { travellers.now ≡ J.travellers }
     requires these { All (IsTraveller J.world) J.travellers }
-    requires few { length J.travellers ≤ 8 }
+    requires few { length J.travellers ≤ MOST_PARTY }
     ensures { IfOk result (AreFound J.world J.travellers) }
 {
     let mut frontier = Frontier::<J>::new(alloc, world, travellers)?;
     if part.workers > 1 {
-        frontier = worked(rt, travellers, frontier, part, gate);
+        frontier = work_together(rt, travellers, frontier, part, gate);
     }
     frontier.finish_by(travellers, part, gate);
     Ok(frontier.found())

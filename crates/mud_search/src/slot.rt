@@ -1,7 +1,7 @@
 //! What is known of a room.
 
 ghost use Rattle.std.specs.Prelude.{◌≡◌};
-ghost use Rattle.mud_search.specs.Slots.{is_open, is_held, label_of};
+ghost use Rattle.mud_search.specs.Slots.{is_waiting, is_held, label_of};
 
 use mud_roads::Label;
 
@@ -11,7 +11,7 @@ pub enum Slot {
     /// No walk there is known.
     Unknown,
     /// It has a label, with which it was not looked at yet.
-    Open(Label),
+    Waiting(Label),
     /// It has a label, and was taken to be looked at.
     Held(Label),
     /// It has a label, with which it was looked at.
@@ -19,11 +19,11 @@ pub enum Slot {
 }
 
 impl Slot {
-    /// Whether it is open.
-    pub fn is_open(&self) -> bool
-        ensures { result ≡ is_open self.now }
+    /// Whether it waits.
+    pub fn is_waiting(&self) -> bool
+        ensures { result ≡ is_waiting self.now }
     {
-        matches!(self, Slot::Open(_))
+        matches!(self, Slot::Waiting(_))
     }
 
     /// Whether it is held.
@@ -39,7 +39,7 @@ impl Slot {
     {
         match *self {
             Slot::Unknown => None,
-            Slot::Open(label) | Slot::Held(label) | Slot::Finished(label) => Some(label),
+            Slot::Waiting(label) | Slot::Held(label) | Slot::Finished(label) => Some(label),
         }
     }
 }

@@ -25,7 +25,7 @@ pub enum Put {
 /// How much is still to be done.
 #[derive(Clone, Copy, Debug, PartialEq, Eq, Drop)]
 pub struct Rest {
-    /// How many rooms are open.
+    /// How many rooms wait.
     pub opened: usize,
     /// How many rooms are held.
     pub held: usize,

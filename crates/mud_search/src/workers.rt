@@ -29,7 +29,7 @@ fn longer(pause: u64) -> u64 {
     pause.saturating_mul(2).min(LONG_REST)
 }
 
-// Takes rooms and gives them back with their steps, until none is open and none is held.
+// Takes rooms and gives them back with their steps, until none waits and none is held.
 fn work<J: Job, R: Wait, G: Gate>(
     rt: &R,
     travellers: &[Traveller],
@@ -128,7 +128,7 @@ fn work_all<'a, J: Job + Send + Sync, R: Threads + Wait + Sync, G: Gate + Sync>(
 
 /// Lets all workers of a part work at the frontier until none finds anything to do. What they leave
 /// is for the caller.
-pub(crate) fn worked<J: Job + Send + Sync, R: Threads + Wait + Sync, G: Gate + Sync>(
+pub(crate) fn work_together<J: Job + Send + Sync, R: Threads + Wait + Sync, G: Gate + Sync>(
     rt: &R,
     travellers: &[Traveller],
     frontier: Frontier<J>,

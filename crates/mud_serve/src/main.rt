@@ -29,11 +29,11 @@ const FREED_BYTES: usize = 1 << 20;
 fn main(rt: HostRuntime) -> ExitCode {
     let words = match words_of(&rt) {
         Ok(words) => words,
-        Err(fault) => return unasked(&rt, fault),
+        Err(fault) => return tell_fault(&rt, fault),
     };
     let service = match service_of(rt.alloc(), words.as_slice()) {
         Ok(service) => service,
-        Err(fault) => return unasked(&rt, fault),
+        Err(fault) => return tell_fault(&rt, fault),
     };
     keep_freed(rt.alloc());
     let listening = match service {
@@ -42,7 +42,7 @@ fn main(rt: HostRuntime) -> ExitCode {
         Service::Listen(listening) => listening,
     };
     let Some(staff) = Staff::new(rt, rt.alloc()) else {
-        return stopped(&rt, Stop::OutOfMemory);
+        return tell_stop(&rt, Stop::OutOfMemory);
     };
     let Staff {
         book,
@@ -54,7 +54,7 @@ fn main(rt: HostRuntime) -> ExitCode {
     if thread::spawn(&rt, move || their_book.write_all()).is_err()
         || listening.console && thread::spawn(&rt, move || watch(&rt, &their_sign)).is_err()
     {
-        return stopped(&rt, Stop::OutOfMemory);
+        return tell_stop(&rt, Stop::OutOfMemory);
     }
     let logged = Logged::new(rt, Level::Info, &*book);
     let ended = listen(&logged, listening, sign_for(listening, &sign));
@@ -96,7 +96,7 @@ fn sign_for<'s>(listening: Listening<'_>, sign: &'s StopSign) -> Option<&'s Stop
 fn status_of<R: Eprint>(rt: &R, ended: Result<(), Stop>) -> ExitCode {
     match ended {
         Ok(()) => ExitCode::SUCCESS,
-        Err(stop) => stopped(rt, stop),
+        Err(stop) => tell_stop(rt, stop),
     }
 }
 
@@ -116,15 +116,15 @@ fn tell_version<R: Print>(rt: &R) -> Result<(), Stop> {
 }
 
 // Says why the words ask for nothing, and answers the status.
-fn unasked<R: Eprint>(rt: &R, fault: CommandFault) -> ExitCode {
+fn tell_fault<R: Eprint>(rt: &R, fault: CommandFault) -> ExitCode {
     match fault {
-        CommandFault::OutOfMemory => stopped(rt, Stop::OutOfMemory),
+        CommandFault::OutOfMemory => tell_stop(rt, Stop::OutOfMemory),
         CommandFault::Told(text) => ExitCode::from(show(rt, text.as_str())),
     }
 }
 
 // Says why the program stopped, where that can be said, and answers its status.
-fn stopped<R: Eprint>(rt: &R, stop: Stop) -> ExitCode {
+fn tell_stop<R: Eprint>(rt: &R, stop: Stop) -> ExitCode {
     let _ = eprintln!(rt; "mud_serve: {stop}");
     ExitCode::from(stop.status())
 }

@@ -1,16 +1,19 @@
 //! The services of the program.
 
 ghost use Rattle.std.specs.Prelude.{◌≤◌};
+ghost use Rattle.mud_chron.specs.declared.limits.TheConstants.{MOST_ENTRIES};
 ghost use Rattle.mud_command.specs.Service.{AreWithin};
+ghost use Rattle.mud_search.specs.declared.limits.TheConstants.{MOST_WORKERS};
 
 use crate::stop::Stop;
 use log::Log;
 use mud_chron::Entry;
-use mud_command::{Limits, Listening, WebListening};
+use mud_chron::limits::MOST_DESKS;
+use mud_command::{ChosenLimits, Listening, WebListening};
 use mud_ends::{Sink, Source};
 use mud_journal::found;
 use mud_listen::{Doors, Site, StopSign, WebDoor, listen_journaled, listen_on};
-use mud_load::loaded;
+use mud_load::load;
 use mud_page::PAGE;
 use mud_session::script;
 use std::fs::File;
@@ -22,13 +25,10 @@ use std::sync::Wait;
 use std::thread::Threads;
 use std::time::Clock;
 
-// The most sessions at once.
-const SESSIONS: u32 = 64;
-
 /// Answers the lines of standard input.
 pub(crate) fn answer<R: Runtime + AllocGlobal + Threads + Wait + Sync>(
     rt: &R,
-    limits: Limits,
+    limits: ChosenLimits,
 ) -> Result<(), Stop>
     requires { AreWithin limits }
 {
@@ -48,10 +48,10 @@ pub(crate) fn answer<R: Runtime + AllocGlobal + Threads + Wait + Sync>(
 }
 
 // The entries that a world goes on from.
-fn begun<R: Runtime + AllocGlobal>(rt: &R, load: Option<&str>) -> Result<Vec<Entry>, Stop> {
-    match load {
+fn load_entries<R: Runtime + AllocGlobal>(rt: &R, file: Option<&str>) -> Result<Vec<Entry>, Stop> {
+    match file {
         None => Ok(Vec::new(rt.alloc())),
-        Some(name) => match loaded(rt, name) {
+        Some(name) => match load(rt, name) {
             Ok(entries) => Ok(entries),
             Err(fault) => Err(Stop::of_load(fault)),
         },
@@ -121,7 +121,8 @@ pub(crate) fn listen<
     requires { AreWithin listening.limits }
 {
     let limits = mud_listen::Limits {
-        sessions: SESSIONS,
+        // Each session has a desk of its own.
+        sessions: MOST_DESKS,
         per_address: listening.per_address,
         total: listening.total,
         counts_players: listening.count_players,
@@ -152,12 +153,12 @@ fn keep_nothing<
     limits: mud_listen::Limits,
     sign: Option<&StopSign>,
 ) -> Result<(), Stop>
-    requires sessions { limits.sessions ≤ 64 }
-    requires workers { limits.workers ≤ 8 }
+    requires sessions { limits.sessions ≤ MOST_DESKS }
+    requires workers { limits.workers ≤ MOST_WORKERS }
     requires from { 1 ≤ limits.capacity }
-    requires to { limits.capacity ≤ 65536 }
+    requires to { limits.capacity ≤ MOST_ENTRIES }
 {
-    let entries = begun(rt, listening.load)?;
+    let entries = load_entries(rt, listening.load)?;
     let doors = doors(rt, listening)?;
     let mut sink = Sink::new(io::writer(rt));
     match listen_on(rt, rt.alloc(), doors, limits, entries, sign, &mut sink) {
@@ -184,10 +185,10 @@ fn keep_journal<
     sign: Option<&StopSign>,
     name: &str,
 ) -> Result<(), Stop>
-    requires sessions { limits.sessions ≤ 64 }
-    requires workers { limits.workers ≤ 8 }
+    requires sessions { limits.sessions ≤ MOST_DESKS }
+    requires workers { limits.workers ≤ MOST_WORKERS }
     requires from { 1 ≤ limits.capacity }
-    requires to { limits.capacity ≤ 65536 }
+    requires to { limits.capacity ≤ MOST_ENTRIES }
 {
     let (found, had, torn) = match found(rt, name) {
         Ok(found) => found,
@@ -197,7 +198,7 @@ fn keep_journal<
     let entries = match listening.load {
         None => had,
         Some(_) if !had.is_empty() => return Err(Stop::NotEmpty),
-        Some(_) => begun(rt, listening.load)?,
+        Some(_) => load_entries(rt, listening.load)?,
     };
     let doors = doors(rt, listening)?;
     let mut sink = Sink::new(io::writer(rt));

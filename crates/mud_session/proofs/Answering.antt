@@ -6,7 +6,7 @@ use Rattle.std.specs.List.{flat_map}
 use Rattle.std.proofs.lemmas.Bool.{true≢false}
 use Rattle.mud_words.specs.Words.{is_blank}
 use Rattle.mud_words.specs.Line.{Line}
-use Rattle.mud_words.specs.Parse.{parsed}
+use Rattle.mud_words.specs.Parse.{parse_of}
 use Rattle.mud_nvt.specs.Units.{Given, Text}
 use Rattle.mud_world.specs.declared.change.Change.{Change}
 use Rattle.mud_rules.specs.declared.verdict.Verdict.{Verdict}
@@ -19,9 +19,9 @@ use Rattle.mud_hall.specs.Desk.{DeskState, with_told}
 use Rattle.mud_hall.specs.Replies.{Reply, Accepted, Became, Refused, Question, Failed, Stores, Replies, verdict_on}
 use Rattle.mud_hall.proofs.Coming.{Plain, plainly, stays_in_memory}
 use Rattle.mud_hall.specs.Answers.{Answered, Answers}
-use Rattle.mud_session.specs.State.{State, DoorState}
-use Rattle.mud_session.specs.Session.{TakingIn, IsShared, Rests, Fails, Asks, Acts, Sees, is_heard, numbered}
-use Rattle.mud_session.specs.Session.{reply_line, sent, answer_to}
+use Rattle.mud_session.specs.State.{SessionState, DoorState}
+use Rattle.mud_session.specs.Session.{TakingIn, IsShared, Rests, Fails, Asks, Acts, Sees, is_heard, with_version}
+use Rattle.mud_session.specs.Session.{reply_line, wire_text, answer_to}
 use Rattle.mud_session.specs.Feeding.{Nudges}
 use Rattle.mud_session.specs.inner.Turning.{sends, sent_for, Told, IsSaid, HasTurn}
 
@@ -62,7 +62,7 @@ sayable law capacity ready line reply new other h =
 
 -- ---- a look
 
-pub looked : (T : TakingIn) (s0 s1 : State) (d0 d1 d2 : DoorState) → s0.has_ended ≡ false → T d0.desk d1.desk
+pub looked : (T : TakingIn) (s0 s1 : SessionState) (d0 d1 d2 : DoorState) → s0.has_ended ≡ false → T d0.desk d1.desk
     → Told s0 s1 d1.desk d2.desk → Nudges T s0 s1 d0 d2
 looked T s0 s1 d0 d1 d2 goes takes told = record {
   lines = told.lines;
@@ -74,27 +74,28 @@ looked T s0 s1 d0 d1 d2 goes takes told = record {
 -- ---- the turn of a line
 
 -- memory was refused before the line came to anything
-pub unanswered : (T : TakingIn) (line : List ℕ) (s0 s1 s2 : State) (d0 d1 d2 : DoorState) → is_blank line ≡ false
-    → Nudges T s0 s1 d0 d1 → d2.desk ≡ d1.desk → s2 ≡ sends s1 (sent (codes "(out of memory)"))
+pub unanswered : (T : TakingIn) (line : List ℕ) (s0 s1 s2 : SessionState) (d0 d1 d2 : DoorState) → is_blank line ≡ false
+    → Nudges T s0 s1 d0 d1 → d2.desk ≡ d1.desk → s2 ≡ sends s1 (wire_text (codes "(out of memory)"))
     → HasTurn T (Text line) s0 s2 d0 d2
 unanswered T line s0 s1 s2 d0 d1 d2 heard nudged same said = record {
   turn = record { case = Fails line; notices = nudged.lines };
   of = refl;
   does = (heard, subst (λ (d : DeskState). Sees T d0.desk nudged.lines d) (sym same) nudged.sees);
-  ended = ap (λ (s : State). s.has_ended) said ∙ ap (λ (s : State). s.has_ended) nudged.is ∙ nudged.goes_on;
-  terminal = ap (λ (s : State). s.terminal) said ∙ ap (λ (s : State). s.terminal) nudged.is;
-  out = ap (λ (s : State). s.out) said ∙ ap (λ (s : State). s.out ++ answer_to (Fails line)) nudged.is
-      ∙ append_assoc s0.out (flat_map sent nudged.lines) (answer_to (Fails line));
+  ended = ap (λ (s : SessionState). s.has_ended) said ∙ ap (λ (s : SessionState). s.has_ended) nudged.is
+      ∙ nudged.goes_on;
+  terminal = ap (λ (s : SessionState). s.terminal) said ∙ ap (λ (s : SessionState). s.terminal) nudged.is;
+  out = ap (λ (s : SessionState). s.out) said ∙ ap (λ (s : SessionState). s.out ++ answer_to (Fails line)) nudged.is
+      ∙ append_assoc s0.out (flat_map wire_text nudged.lines) (answer_to (Fails line));
 }
 
 -- a question was answered
-pub asked : (T : TakingIn) (text : List ℕ) (line : Line) (s0 s1 s2 : State) (d0 d1 d2 : DoorState) (last : Bool)
-    (answer : Answered) → is_blank text ≡ false → parsed text ≡ line → is_question line ≡ true → last ≡ is_quit line
+pub asked : (T : TakingIn) (text : List ℕ) (line : Line) (s0 s1 s2 : SessionState) (d0 d1 d2 : DoorState) (last : Bool)
+    (answer : Answered) → is_blank text ≡ false → parse_of text ≡ line → is_question line ≡ true → last ≡ is_quit line
     → Nudges T s0 s1 d0 d1 → d1.desk.told ≡ [] → d2.desk ≡ d1.desk → Answers d1.desk line answer
-    → s2 ≡ record (sends s1 (sent (numbered answer.version answer.text))) { has_ended = last }
+    → s2 ≡ record (sends s1 (wire_text (with_version answer.version answer.text))) { has_ended = last }
     → HasTurn T (Text text) s0 s2 d0 d2
 asked T text line s0 s1 s2 d0 d1 d2 last answer heard read question quits nudged all same answers said =
-    let reply : List ℕ = sent (numbered answer.version answer.text) in
+    let reply : List ℕ = wire_text (with_version answer.version answer.text) in
     record {
       turn = record { case = Asks text answer; notices = nudged.lines };
       of = refl;
@@ -106,15 +107,15 @@ asked T text line s0 s1 s2 d0 d1 d2 last answer heard read question quits nudged
         subst (λ (l : Line). Answers d2.desk l answer) (sym read)
             (subst (λ (d : DeskState). Answers d line answer) (sym same) answers),
       );
-      ended = ap (λ (s : State). s.has_ended) said ∙ quits ∙ ap is_quit (sym read);
-      terminal = ap (λ (s : State). s.terminal) said ∙ ap (λ (s : State). s.terminal) nudged.is;
-      out = ap (λ (s : State). s.out) said ∙ ap (λ (s : State). s.out ++ reply) nudged.is
-          ∙ append_assoc s0.out (flat_map sent nudged.lines) reply;
+      ended = ap (λ (s : SessionState). s.has_ended) said ∙ quits ∙ ap is_quit (sym read);
+      terminal = ap (λ (s : SessionState). s.terminal) said ∙ ap (λ (s : SessionState). s.terminal) nudged.is;
+      out = ap (λ (s : SessionState). s.out) said ∙ ap (λ (s : SessionState). s.out ++ reply) nudged.is
+          ∙ append_assoc s0.out (flat_map wire_text nudged.lines) reply;
     }
 
 -- the desk acted
-pub acted : (T : TakingIn) (text : List ℕ) (line : Line) (s0 s1 s2 : State) (d0 d1 d2 : DoorState) (reply : Reply)
-    → s0.has_ended ≡ false → is_blank text ≡ false → parsed text ≡ line → is_question line ≡ false
+pub acted : (T : TakingIn) (text : List ℕ) (line : Line) (s0 s1 s2 : SessionState) (d0 d1 d2 : DoorState)
+    (reply : Reply) → s0.has_ended ≡ false → is_blank text ≡ false → parse_of text ≡ line → is_question line ≡ false
     → ((ready : DeskState) × T d0.desk ready × Replies d0.capacity ready line reply d1.desk)
     → (reply ≡ Failed Unpublished → IsShared T) → (reply ≢ Failed OutOfMemory → d1.untold ≡ [])
     → d2.desk ≡ with_told d1.desk d1.untold → Told s0 s1 d1.desk d2.desk → IsSaid reply
@@ -143,23 +144,23 @@ acted T text line s0 s1 s2 d0 d1 d2 reply goes heard read other (ready, takes, r
           says = ap is_some has;
         },
       );
-      ended = ap (λ (s : State). s.has_ended) is ∙ ap (λ (s : State). s.has_ended) tells.is ∙ goes;
-      terminal = ap (λ (s : State). s.terminal) is ∙ ap (λ (s : State). s.terminal) tells.is;
-      out = ap (λ (s : State). s.out) is ∙ ap (λ (s : State). s.out ++ answer_to (Acts text r)) tells.is
-          ∙ append_assoc s0.out (flat_map sent tells.lines) (answer_to (Acts text r));
+      ended = ap (λ (s : SessionState). s.has_ended) is ∙ ap (λ (s : SessionState). s.has_ended) tells.is ∙ goes;
+      terminal = ap (λ (s : SessionState). s.terminal) is ∙ ap (λ (s : SessionState). s.terminal) tells.is;
+      out = ap (λ (s : SessionState). s.out) is ∙ ap (λ (s : SessionState). s.out ++ answer_to (Acts text r)) tells.is
+          ∙ append_assoc s0.out (flat_map wire_text tells.lines) (answer_to (Acts text r));
     }
 
     go : (r : Reply) → Replies d0.capacity ready line r d1.desk → (r ≡ Failed Unpublished → IsShared T)
         → (r ≢ Failed OutOfMemory → d1.untold ≡ []) → IsSaid r → s2 ≡ sends s1 (sent_for r)
         → HasTurn T (Text text) s0 s2 d0 d2
     go (Accepted v said) rs kept all can is =
-        texted (Accepted v said) (numbered v said) refl
+        texted (Accepted v said) (with_version v said) refl
         (λ e. let bad : ◌≡◌ {A = Reply} (Accepted v said) (Failed OutOfMemory) = e in cc) rs kept all is
     go (Became v said) rs kept all can is =
-        texted (Became v said) (numbered v said) refl
+        texted (Became v said) (with_version v said) refl
         (λ e. let bad : ◌≡◌ {A = Reply} (Became v said) (Failed OutOfMemory) = e in cc) rs kept all is
     go (Refused v f said) rs kept all can is =
-        texted (Refused v f said) (numbered v said) refl
+        texted (Refused v f said) (with_version v said) refl
         (λ e. let bad : ◌≡◌ {A = Reply} (Refused v f said) (Failed OutOfMemory) = e in cc) rs kept all is
     go (Question v) rs kept all can is = absurd can
     go (Failed OutOfMemory) rs kept all can is =
@@ -177,14 +178,14 @@ acted T text line s0 s1 s2 d0 d1 d2 reply goes heard read other (ready, takes, r
 
 -- ---- the turn of a unit that no desk hears
 
-pub rested : (T : TakingIn) (u : Given) (old new : State) (old_door new_door : DoorState) → old.has_ended ≡ false
+pub rested : (T : TakingIn) (u : Given) (old new : SessionState) (old_door new_door : DoorState) → old.has_ended ≡ false
     → is_heard u ≡ false → new ≡ sends old (answer_to (Rests u)) → new_door ≡ old_door
     → HasTurn T u old new old_door new_door
 rested T u old new old_door new_door goes quiet is same = record {
   turn = record { case = Rests u; notices = [] };
   of = refl;
   does = (quiet, refl, ap (λ (d : DoorState). d.desk) same);
-  ended = ap (λ (s : State). s.has_ended) is ∙ goes;
-  terminal = ap (λ (s : State). s.terminal) is;
-  out = ap (λ (s : State). s.out) is;
+  ended = ap (λ (s : SessionState). s.has_ended) is ∙ goes;
+  terminal = ap (λ (s : SessionState). s.terminal) is;
+  out = ap (λ (s : SessionState). s.out) is;
 }

@@ -1,6 +1,6 @@
 -- The turns of a session are calls of its desk.
 use Rattle.std.proofs.Common.{◌≡◌, ℕ, List, [], ◌∷◌, ◌++◌, Some, refl, subst}
-use Rattle.mud_words.specs.Parse.{parsed}
+use Rattle.mud_words.specs.Parse.{parse_of}
 use Rattle.mud_hall.specs.Desk.{DeskState, TakesIn, HandsOut}
 use Rattle.mud_hall.specs.Replies.{Reply, Replies}
 use Rattle.mud_hall.specs.Answers.{Answered, Answers}
@@ -13,10 +13,10 @@ pub record HoldsOfCalls (T : TakingIn) (P : ℕ → DeskState → Call → DeskS
   pub sees : (capacity : ℕ) (old new : DeskState) → T old new → P capacity old See new
   pub tells : (capacity : ℕ) (old : DeskState) (lines : List (List ℕ)) (new : DeskState) → HandsOut old lines new
       → P capacity old (Told lines) new
-  pub asks : (capacity : ℕ) (old : DeskState) (line : List ℕ) (answer : Answered) → Answers old (parsed line) answer
+  pub asks : (capacity : ℕ) (old : DeskState) (line : List ℕ) (answer : Answered) → Answers old (parse_of line) answer
       → P capacity old (Ask line (Some answer)) old
   pub acts : (capacity : ℕ) (old ready : DeskState) (line : List ℕ) (reply : Reply) (new : DeskState) → T old ready
-      → Replies capacity ready (parsed line) reply new → P capacity old (Act line reply) new
+      → Replies capacity ready (parse_of line) reply new → P capacity old (Act line reply) new
 
 -- it holds of calls one after the other
 abbrev pub HoldsOfAll : (DeskState → Call → DeskState → Type 0) → DeskState → List Call → DeskState → Type 0

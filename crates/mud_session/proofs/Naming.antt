@@ -8,7 +8,7 @@ use Rattle.std.proofs.lemmas.List.{append-nil}
 use Rattle.std.proofs.lemmas.List.Concat.{flat_map-append}
 use Rattle.std.proofs.lemmas.List.Elements.{All-nil, All-cons, All-head, All-tail, All-append, All-weaker}
 use Rattle.mud_words.specs.Line.{Line}
-use Rattle.mud_words.specs.Parse.{parsed}
+use Rattle.mud_words.specs.Parse.{parse_of}
 use Rattle.mud_nvt.specs.declared.codes.TheConstants.{IAC}
 use Rattle.mud_nvt.specs.declared.strokes.Stroke.{Stroke}
 use Rattle.mud_nvt.specs.declared.strokes.Stroke.TheVariants.{Character, EraseCharacter, EraseLine, EndLine}
@@ -30,9 +30,9 @@ use Rattle.mud_hall.specs.inner.Desks.{notice_of, notice_in}
 use Rattle.mud_hall.specs.Desk.{DeskState, TakesIn}
 use Rattle.mud_hall.specs.Replies.{Reply, Accepted, Became, Refused, Question, Failed, Stores, Replies, verdict_on}
 use Rattle.mud_hall.proofs.Coming.{Plain as Comes, plainly}
-use Rattle.mud_session.specs.State.{State, DoorState}
+use Rattle.mud_session.specs.State.{SessionState, DoorState}
 use Rattle.mud_session.specs.Session.{Case, Rests, Looks, Fails, Asks, Acts, Turn, Does, Plays}
-use Rattle.mud_session.specs.Session.{unit_of, numbered, reply_line, sent, answer_to, text_of}
+use Rattle.mud_session.specs.Session.{unit_of, with_version, reply_line, wire_text, answer_to, text_of}
 use Rattle.mud_session.specs.inner.Parts.{greeting}
 use Rattle.mud_session.specs.Feeding.{Feeds, Nudges}
 use Rattle.mud_session.specs.Naming.{plain_lines, IsSaidOf, IsNotice, IsPiece, NamesUpTo}
@@ -81,19 +81,19 @@ names-more n m text le x = record {
 names-is : (n : ℕ) (a b : List ℕ) → b ≡ a → NamesUpTo n a → NamesUpTo n b
 names-is n a b is x = subst (NamesUpTo n) (sym is) x
 
-names-plain : (n : ℕ) (text : List ℕ) → Contains plain_lines text → NamesUpTo n (sent text)
-names-plain n text h = names-one n (sent text) (inr (inr (inl (text, h, refl))))
+names-plain : (n : ℕ) (text : List ℕ) → Contains plain_lines text → NamesUpTo n (wire_text text)
+names-plain n text h = names-one n (wire_text text) (inr (inr (inl (text, h, refl))))
 
-names-numbered : (n v : ℕ) (text said : List ℕ) → said ≡ numbered v text → v ≤ n → IsSaidOf v text
-    → NamesUpTo n (sent said)
+names-numbered : (n v : ℕ) (text said : List ℕ) → said ≡ with_version v text → v ≤ n → IsSaidOf v text
+    → NamesUpTo n (wire_text said)
 names-numbered n v text said is le h =
-    names-one n (sent said) (inl (v, text, le, h, ap sent is))
+    names-one n (wire_text said) (inl (v, text, le, h, ap wire_text is))
 
-names-notices : (n : ℕ) (lines : List (List ℕ)) → All (IsNotice n) lines → NamesUpTo n (flat_map sent lines)
+names-notices : (n : ℕ) (lines : List (List ℕ)) → All (IsNotice n) lines → NamesUpTo n (flat_map wire_text lines)
 names-notices n [] all = names-nil n
 names-notices n (text ∷ lines) all =
-    names-append n (sent text) (flat_map sent lines)
-    (names-one n (sent text) (inr (inl (text, All-head (IsNotice n) text lines all, refl))))
+    names-append n (wire_text text) (flat_map wire_text lines)
+    (names-one n (wire_text text) (inr (inl (text, All-head (IsNotice n) text lines all, refl))))
     (names-notices n lines (All-tail (IsNotice n) text lines all))
 
 -- ---- both parts of a list
@@ -160,14 +160,14 @@ tells old lines new once told =
 -- what is said to a line that acts, if anything is, names nothing beyond
 abbrev NamesSaid : ℕ → Option (List ℕ) → Type 0
 NamesSaid n None = Unit {0}
-NamesSaid n (Some text) = NamesUpTo n (sent text)
+NamesSaid n (Some text) = NamesUpTo n (wire_text text)
 
 stored : (capacity : ℕ) (ready : DeskState) (e : Change) (reply : Reply) (new : DeskState)
     → Stores capacity ready e reply new → NamesSaid (length new.seen) (reply_line reply)
 stored capacity ready e (Accepted v text) new h =
     let entry : Entry = record { desk = ready.number; change = e } in
     let seen : length new.seen ≡ length (ready.seen ++ entry ∷ []) = ap (λ (d : DeskState). length d.seen) h.3 in
-    names-numbered (length new.seen) v text (numbered v text) refl
+    names-numbered (length new.seen) v text (with_version v text) refl
     (omega (arith, seen, h.1, length-append ready.seen (entry ∷ []))) (inl (world_after ready.seen, e, h.2))
 stored capacity ready e (Failed HistoryFull) new h =
     names-plain (length new.seen) (codes "(history full)") (2, omega arith, refl)
@@ -206,7 +206,7 @@ replied capacity ready line reply new h =
     go (verdict.Ask q) (inr c) = by (Question (length ready.seen)) c.0 tt
 
 -- what is sent for the reply, too
-said-or-none : (n : ℕ) (reply : Option (List ℕ)) → NamesSaid n reply → NamesUpTo n (option_map_or sent reply [])
+said-or-none : (n : ℕ) (reply : Option (List ℕ)) → NamesSaid n reply → NamesUpTo n (option_map_or wire_text reply [])
 said-or-none n None names = names-nil n
 said-or-none n (Some text) names = names
 
@@ -277,13 +277,13 @@ turned capacity old Looks lines new signals does = names-nil (length new.seen)
 turned capacity old (Fails line) lines new signals does =
     names-plain (length new.seen) (codes "(out of memory)") (1, omega arith, refl)
 turned capacity old (Asks line answer) lines new signals (heard, question, sees, all, answers) =
-    names-numbered (length new.seen) answer.version answer.text (numbered answer.version answer.text) refl
-    (omega (arith, answers.version)) (inr (inr (inr (new, parsed line, answer, answers, refl, refl))))
+    names-numbered (length new.seen) answer.version answer.text (with_version answer.version answer.text) refl
+    (omega (arith, answers.version)) (inr (inr (inr (new, parse_of line, answer, answers, refl, refl))))
 turned capacity old (Acts line reply) lines new signals (heard, other, acts) =
     subst (λ (n : ℕ). NamesUpTo n (answer_to (Acts line reply)))
     (sym (ap (λ (d : DeskState). length d.seen) acts.tells.is))
     (said-or-none (length acts.acted.seen) (reply_line reply)
-    (replied capacity acts.ready (parsed line) reply acts.acted acts.replies))
+    (replied capacity acts.ready (parse_of line) reply acts.acted acts.replies))
 
 takes-turn : (capacity : ℕ) (old new : DeskState) (turn : Turn) → Signals (unit_of turn.case)
     → Does TakesIn capacity old turn.case turn.notices new → All (IsNotice (length old.seen)) old.told
@@ -293,7 +293,7 @@ takes-turn capacity old new turn signals does told =
     tells old turn.notices new (told_once capacity old turn.case turn.notices new does) told in
     record {
       grows = t.grows;
-      names = names-append (length new.seen) (flat_map sent turn.notices) (answer_to turn.case)
+      names = names-append (length new.seen) (flat_map wire_text turn.notices) (answer_to turn.case)
           (names-notices (length new.seen) turn.notices t.handed)
           (turned capacity old turn.case turn.notices new signals does);
       told = t.told;
@@ -322,7 +322,7 @@ plays-on capacity old new (turn ∷ turns) signals (mid, does, last, plays) told
 
 -- ---- the session
 
-goes-on : (old new : State) (was is : DeskState) (earlier text : List ℕ) → NamesSeen old was → Goes was text is
+goes-on : (old new : SessionState) (was is : DeskState) (earlier text : List ℕ) → NamesSeen old was → Goes was text is
     → StandsAfter new.terminal earlier → new.out ≡ old.out ++ text → NamesSeen new is
 goes-on old new was is earlier text names goes stands out = record {
   earlier = earlier;
@@ -332,7 +332,7 @@ goes-on old new was is earlier text names goes stands out = record {
   told = goes.told;
 }
 
-feeds : (old new : State) (was is : DoorState) (names : NamesSeen old was.desk) (bytes : List ℕ)
+feeds : (old new : SessionState) (was is : DoorState) (names : NamesSeen old was.desk) (bytes : List ℕ)
     → Feeds TakesIn names.earlier bytes old new was is → NamesSeen new is.desk
 feeds old new was is names bytes f =
     let turns : List Turn = f.play.turns in
@@ -344,16 +344,17 @@ feeds old new was is names bytes f =
     goes-on old new was.desk is.desk (names.earlier ++ bytes) (text_of turns) names
     (plays-on was.capacity was.desk is.desk turns signals f.play.plays names.told) f.stands f.out
 
-nudges : (old new : State) (was is : DoorState) (names : NamesSeen old was.desk) → Nudges TakesIn old new was is
+nudges : (old new : SessionState) (was is : DoorState) (names : NamesSeen old was.desk) → Nudges TakesIn old new was is
     → NamesSeen new is.desk
 nudges old new was is names n =
     let turn : Turn = record { case = Looks; notices = n.lines } in
     goes-on old new was.desk is.desk names.earlier (text_in turn) names
     (takes-turn was.capacity was.desk is.desk turn tt n.sees names.told)
-    (subst (λ t. StandsAfter t names.earlier) (sym (ap (λ (s : State). s.terminal) n.is)) names.stands)
-    (ap (λ (s : State). s.out) n.is ∙ ap (λ (l : List ℕ). old.out ++ l) (sym (append-nil (flat_map sent n.lines))))
+    (subst (λ t. StandsAfter t names.earlier) (sym (ap (λ (s : SessionState). s.terminal) n.is)) names.stands)
+    (ap (λ (s : SessionState). s.out) n.is
+    ∙ ap (λ (l : List ℕ). old.out ++ l) (sym (append-nil (flat_map wire_text n.lines))))
 
-pub nothing_beyond : (old new : State) (was is : DoorState) (names : NamesSeen old was.desk)
+pub nothing_beyond : (old new : SessionState) (was is : DoorState) (names : NamesSeen old was.desk)
     → ((bytes : List ℕ) → Feeds TakesIn names.earlier bytes old new was is → NamesSeen new is.desk)
     × (Nudges TakesIn old new was is → NamesSeen new is.desk)
 nothing_beyond old new was is names = (feeds old new was is names, nudges old new was is names)
@@ -361,7 +362,7 @@ nothing_beyond old new was is names = (feeds old new was is names, nudges old ne
 -- ---- for callers
 
 -- a session to which nothing came, and which greets or not, at a desk that was told nothing
-pub begins_so : (session : State) (desk : DeskState) (greet : Bool) → StandsAfter session.terminal []
+pub begins_so : (session : SessionState) (desk : DeskState) (greet : Bool) → StandsAfter session.terminal []
     → session.out ≡ (if greet then greeting else []) → desk.told ≡ [] → NamesSeen session desk
 begins_so session desk greet stands out told = record {
   earlier = [];
@@ -375,11 +376,11 @@ begins_so session desk greet stands out told = record {
     go false = names-nil (length desk.seen)
 
 -- what was to be sent was taken out
-pub taken_so : (old new : State) (desk : DeskState) → NamesSeen old desk → new ≡ record old { out = [] }
+pub taken_so : (old new : SessionState) (desk : DeskState) → NamesSeen old desk → new ≡ record old { out = [] }
     → NamesSeen new desk
 taken_so old new desk names is = record {
   earlier = names.earlier;
-  stands = subst (λ t. StandsAfter t names.earlier) (sym (ap (λ (s : State). s.terminal) is)) names.stands;
-  out = names-is (length desk.seen) [] new.out (ap (λ (s : State). s.out) is) (names-nil (length desk.seen));
+  stands = subst (λ t. StandsAfter t names.earlier) (sym (ap (λ (s : SessionState). s.terminal) is)) names.stands;
+  out = names-is (length desk.seen) [] new.out (ap (λ (s : SessionState). s.out) is) (names-nil (length desk.seen));
   told = names.told;
 }

@@ -8,7 +8,7 @@ use Rattle.std.proofs.lemmas.Bool.Decides.{nat_tests}
 use Rattle.std.proofs.lemmas.Bool.{cond-true, cond-false, true≢false}
 use Rattle.std.proofs.lemmas.List.{append_cancel_right}
 use Rattle.mud_words.specs.Line.{Line}
-use Rattle.mud_words.specs.Parse.{parsed}
+use Rattle.mud_words.specs.Parse.{parse_of}
 use Rattle.mud_words.specs.Words.{is_blank}
 use Rattle.mud_nvt.specs.Units.{Given, Text, TooLong, Ayt}
 use Rattle.mud_nvt.specs.Units.{Answer as Sent}
@@ -35,8 +35,8 @@ use Rattle.mud_hall.proofs.Coming.{Plain, plainly}
 use Rattle.mud_hall.specs.Answers.{Answered, Answers, IsGuided, IsShown, Shows}
 use Rattle.mud_hall.proofs.Worlds.{world-sound}
 use Rattle.mud_session.specs.Session.{TakesNone, IsShared, Case, Rests, Looks, Fails, Asks, Acts, Turn, Sees}
-use Rattle.mud_session.specs.Session.{IsActed, Does, Plays, unit_of, is_heard, answer_to, is_last, numbered}
-use Rattle.mud_session.specs.Session.{reply_line, sent, text_of}
+use Rattle.mud_session.specs.Session.{IsActed, Does, Plays, unit_of, is_heard, answer_to, is_last, with_version}
+use Rattle.mud_session.specs.Session.{reply_line, wire_text, text_of}
 use Rattle.mud_hall.specs.Steps.{lone_desk}
 use Rattle.mud_session.specs.Laws.{ScriptTextIsOne, fails}
 use Rattle.mud_session.proofs.Playing.{unit_in, text_in}
@@ -78,19 +78,19 @@ shows-one h player (verdict.Change e) a b x y = x.0 ∙ sym y.0
 shows-one h player (verdict.Become p) a b x y = x.0 ∙ sym y.0
 
 answers-one : (s : DeskState) (line : Line) (a b : Answered) → Answers s line a → Answers s line b
-    → numbered a.version a.text ≡ numbered b.version b.text
+    → with_version a.version a.text ≡ with_version b.version b.text
 answers-one s line a b x y =
-    ap (λ (n : ℕ). numbered n a.text) (x.version ∙ sym y.version)
-    ∙ ap (numbered b.version) (shows-one s.seen s.player (verdict_on s.seen s.player line) a b x.shows y.shows)
+    ap (λ (n : ℕ). with_version n a.text) (x.version ∙ sym y.version)
+    ∙ ap (with_version b.version) (shows-one s.seen s.player (verdict_on s.seen s.player line) a b x.shows y.shows)
 
 -- ---- replies
 -- what a line that acts is answered where nothing is not stored, and the desk then
 abbrev text_then : ℕ → DeskState → Verdict → List ℕ
 text_then capacity s (verdict.Change e) =
-    if nat_lt (length s.seen) capacity then numbered (length s.seen + 1)
+    if nat_lt (length s.seen) capacity then with_version (length s.seen + 1)
     (reply_text (world_after s.seen) e) else codes "(history full)"
-text_then capacity s (verdict.Become p) = numbered (length s.seen) (welcome_text p)
-text_then capacity s (verdict.Refused f) = numbered (length s.seen) (refusal_text f)
+text_then capacity s (verdict.Become p) = with_version (length s.seen) (welcome_text p)
+text_then capacity s (verdict.Refused f) = with_version (length s.seen) (refusal_text f)
 text_then capacity s (verdict.Ask q) = []
 
 abbrev desk_then : ℕ → DeskState → Verdict → DeskState
@@ -104,7 +104,7 @@ IsThen capacity s v text new = (text ≡ text_then capacity s v) × (new ≡ des
 
 accepted-then : (capacity : ℕ) (s : DeskState) (e : Change) → length s.seen < capacity
     → IsThen capacity s (verdict.Change e)
-    (numbered (length s.seen + 1) (reply_text (world_after s.seen) e)) (as_accepted s e)
+    (with_version (length s.seen + 1) (reply_text (world_after s.seen) e)) (as_accepted s e)
 accepted-then capacity s e room =
     let t : nat_lt (length s.seen) capacity ≡ true = grind (arith, nat_tests) in
     (sym (cond-true (nat_lt (length s.seen) capacity) _ _ t), sym (cond-true (nat_lt (length s.seen) capacity) _ _ t))
@@ -126,10 +126,10 @@ stored-then : (capacity : ℕ) (s : DeskState) (e : Change) (said : List ℕ) (r
     → IsThen capacity s (verdict.Change e) said new
 stored-then capacity s e said (Accepted v text) new free x line =
     let is : IsThen capacity s (verdict.Change e)
-    (numbered (length s.seen + 1) (reply_text (world_after s.seen) e)) (as_accepted s e) =
+    (with_version (length s.seen + 1) (reply_text (world_after s.seen) e)) (as_accepted s e) =
     accepted-then capacity s e x.0 in (
-      said-is (numbered v text) said line ∙ ap (λ (n : ℕ). numbered n text) x.1
-          ∙ ap (numbered (length s.seen + 1)) x.2 ∙ is.0,
+      said-is (with_version v text) said line ∙ ap (λ (n : ℕ). with_version n text) x.1
+          ∙ ap (with_version (length s.seen + 1)) x.2 ∙ is.0,
       x.3 ∙ is.1,
     )
 stored-then capacity s e said (Failed HistoryFull) new free x line =
@@ -159,12 +159,12 @@ reply-then capacity s line said r new free x e =
     go v (inl h) = absurd (no-line said (said-by (Failed OutOfMemory) h.0))
     go (verdict.Change c) (inr h) = stored-then capacity s c said r new free h e
     go (verdict.Become p) (inr h) = (
-      said-is (numbered (length s.seen) (welcome_text p)) said
+      said-is (with_version (length s.seen) (welcome_text p)) said
           (said-by (Became (length s.seen) (welcome_text p)) h.0),
       h.1,
     )
     go (verdict.Refused f) (inr h) = (
-      said-is (numbered (length s.seen) (refusal_text f)) said
+      said-is (with_version (length s.seen) (refusal_text f)) said
           (said-by (Refused (length s.seen) f (refusal_text f)) h.0),
       h.1,
     )
@@ -216,19 +216,19 @@ record Comes (lines : List (List ℕ)) (case : Case) (new : DeskState) (words : 
 abbrev IsLine : ℕ → DeskState → List ℕ → Bool → Bool → Bool → List (List ℕ) → Case → DeskState → Type 0
 IsLine capacity s line true failed question lines case new = Comes lines case new [] false s
 IsLine capacity s line false true question lines case new =
-    Comes lines case new (sent (codes "(out of memory)")) false s
+    Comes lines case new (wire_text (codes "(out of memory)")) false s
 IsLine capacity s line false false true lines case new =
-    (a : Answered) × Answers s (parsed line) a
-    × Comes lines case new (sent (numbered a.version a.text)) (is_quit (parsed line)) s
+    (a : Answered) × Answers s (parse_of line) a
+    × Comes lines case new (wire_text (with_version a.version a.text)) (is_quit (parse_of line)) s
 IsLine capacity s line false false false lines case new =
-    let v = verdict_on s.seen s.player (parsed line) in
-    Comes lines case new (sent (text_then capacity s v)) false (desk_then capacity s v)
+    let v = verdict_on s.seen s.player (parse_of line) in
+    Comes lines case new (wire_text (text_then capacity s v)) false (desk_then capacity s v)
 
 -- what comes of a unit, or of none
 abbrev IsUnit : ℕ → DeskState → Option Given → Bool → List (List ℕ) → Case → DeskState → Type 0
 IsUnit capacity s None failed lines case new = Comes lines case new [] false s
 IsUnit capacity s (Some (Text line)) failed lines case new =
-    IsLine capacity s line (is_blank line) failed (is_question (parsed line)) lines case new
+    IsLine capacity s line (is_blank line) failed (is_question (parse_of line)) lines case new
 IsUnit capacity s (Some unit) failed lines case new = Comes lines case new (answer_to (Rests unit)) false s
 
 comes-none : (lines : List (List ℕ)) (case : Case) (s new : DeskState) → is_last case ≡ false
@@ -247,25 +247,25 @@ rests-come capacity s TooLong failed lines new quiet same = comes-none lines (Re
 rests-come capacity s Ayt failed lines new quiet same = comes-none lines (Rests Ayt) s new refl same
 rests-come capacity s (Sent bytes) failed lines new quiet same = comes-none lines (Rests (Sent bytes)) s new refl same
 rests-come capacity s (Text line) failed lines new quiet same =
-    blank-comes capacity s line (is_blank line) failed (is_question (parsed line)) lines new quiet
+    blank-comes capacity s line (is_blank line) failed (is_question (parse_of line)) lines new quiet
     (comes-none lines (Rests (Text line)) s new refl same)
 
 acted-comes : (capacity : ℕ) (s : DeskState) (line : List ℕ) (reply : Reply) (lines : List (List ℕ)) (new : DeskState)
     → s.told ≡ [] → IsActed TakesNone capacity s line reply lines new
-    → let v = verdict_on s.seen s.player (parsed line) in
-    Comes lines (Acts line reply) new (sent (text_then capacity s v)) false (desk_then capacity s v)
+    → let v = verdict_on s.seen s.player (parse_of line) in
+    Comes lines (Acts line reply) new (wire_text (text_then capacity s v)) false (desk_then capacity s v)
 acted-comes capacity s line reply lines new none x =
-    let v = verdict_on s.seen s.player (parsed line) in
-    let replies : Replies capacity s (parsed line) reply x.acted =
-    subst (λ (d : DeskState). Replies capacity d (parsed line) reply x.acted) x.takes x.replies in
+    let v = verdict_on s.seen s.player (parse_of line) in
+    let replies : Replies capacity s (parse_of line) reply x.acted =
+    subst (λ (d : DeskState). Replies capacity d (parse_of line) reply x.acted) x.takes x.replies in
     let some : (text : List ℕ) × (reply_line reply ≡ Some text) = said-so (reply_line reply) x.says in
     let is : IsThen capacity s v some.0 x.acted =
-    reply-then capacity s (parsed line) some.0 reply x.acted (λ e. unshared (x.stored e)) replies some.1 in
+    reply-then capacity s (parse_of line) some.0 reply x.acted (λ e. unshared (x.stored e)) replies some.1 in
     let untold : x.acted.told ≡ [] = ap (λ (d : DeskState). d.told) is.1 ∙ told-then capacity s v ∙ none in
     let told : (lines ≡ []) × (new ≡ x.acted) = tells-none x.acted lines new untold x.tells in
     record {
       notices = told.0;
-      text = ap (λ (o : Option (List ℕ)). option_map_or sent o []) some.1 ∙ ap sent is.0;
+      text = ap (λ (o : Option (List ℕ)). option_map_or wire_text o []) some.1 ∙ ap wire_text is.0;
       last = refl;
       desk = told.1 ∙ is.1;
     }
@@ -281,19 +281,19 @@ does-come capacity s (Rests unit) lines new none (quiet, unsent, same) =
     rests-come capacity s unit false lines new quiet (unsent, same)
 does-come capacity s Looks lines new none sees = comes-none lines Looks s new refl (sees-none s lines new none sees)
 does-come capacity s (Fails line) lines new none (heard, sees) =
-    subst (λ (b : Bool). IsLine capacity s line b true (is_question (parsed line)) lines (Fails line) new) (sym heard)
+    subst (λ (b : Bool). IsLine capacity s line b true (is_question (parse_of line)) lines (Fails line) new) (sym heard)
     (comes-none lines (Fails line) s new refl (sees-none s lines new none sees))
 does-come capacity s (Asks line answer) lines new none (heard, question, sees, all, answers) =
     let same : (lines ≡ []) × (new ≡ s) = sees-none s lines new none sees in
-    subst (λ (b : Bool). IsLine capacity s line b false (is_question (parsed line)) lines (Asks line answer) new)
+    subst (λ (b : Bool). IsLine capacity s line b false (is_question (parse_of line)) lines (Asks line answer) new)
     (sym heard)
     (subst (λ (b : Bool). IsLine capacity s line false false b lines (Asks line answer) new) (sym question) (
       answer,
-      subst (λ (d : DeskState). Answers d (parsed line) answer) same.1 answers,
+      subst (λ (d : DeskState). Answers d (parse_of line) answer) same.1 answers,
       record { notices = same.0; text = refl; last = refl; desk = same.1 },
     ))
 does-come capacity s (Acts line reply) lines new none (heard, other, acts) =
-    subst (λ (b : Bool). IsLine capacity s line b false (is_question (parsed line)) lines (Acts line reply) new)
+    subst (λ (b : Bool). IsLine capacity s line b false (is_question (parse_of line)) lines (Acts line reply) new)
     (sym heard)
     (subst (λ (b : Bool). IsLine capacity s line false false b lines (Acts line reply) new) (sym other)
     (acted-comes capacity s line reply lines new none acts))
@@ -322,11 +322,12 @@ line-one capacity s line true failed question xs ys t u a b none x y =
     come-one xs ys t u a b [] [] false s none refl x y
 line-one capacity s line false true question xs ys t u a b none x y = come-one xs ys t u a b _ _ false s none refl x y
 line-one capacity s line false false true xs ys t u a b none x y =
-    come-one xs ys t u a b (sent (numbered x.0.version x.0.text)) (sent (numbered y.0.version y.0.text))
-    (is_quit (parsed line)) s none (ap sent (answers-one s (parsed line) x.0 y.0 x.1 y.1)) x.2 y.2
+    come-one xs ys t u a b (wire_text (with_version x.0.version x.0.text))
+    (wire_text (with_version y.0.version y.0.text)) (is_quit (parse_of line)) s none
+    (ap wire_text (answers-one s (parse_of line) x.0 y.0 x.1 y.1)) x.2 y.2
 line-one capacity s line false false false xs ys t u a b none x y =
-    let v = verdict_on s.seen s.player (parsed line) in
-    come-one xs ys t u a b (sent (text_then capacity s v)) (sent (text_then capacity s v)) false
+    let v = verdict_on s.seen s.player (parse_of line) in
+    come-one xs ys t u a b (wire_text (text_then capacity s v)) (wire_text (text_then capacity s v)) false
     (desk_then capacity s v) (told-then capacity s v ∙ none) refl x y
 
 unit-one : (capacity : ℕ) (s : DeskState) (unit : Option Given) (failed : Bool) (xs ys : List (List ℕ)) (t u : Case)
@@ -339,7 +340,7 @@ unit-one capacity s (Some Ayt) failed xs ys t u a b none x y = come-one xs ys t 
 unit-one capacity s (Some (Sent bytes)) failed xs ys t u a b none x y =
     come-one xs ys t u a b bytes bytes false s none refl x y
 unit-one capacity s (Some (Text line)) failed xs ys t u a b none x y =
-    line-one capacity s line (is_blank line) failed (is_question (parsed line)) xs ys t u a b none x y
+    line-one capacity s line (is_blank line) failed (is_question (parse_of line)) xs ys t u a b none x y
 
 -- turns of one unit, for which memory runs out or not, send one text, and leave one desk
 turn-one : (capacity : ℕ) (old a b : DeskState) (t u : Turn) → old.told ≡ [] → unit_in t ≡ unit_in u
@@ -374,8 +375,8 @@ turns-one capacity old (u ∷ xs) (v ∷ ys) left right a b none q e x y =
     turn-one capacity old x.0 y.0 u v none unit head x.1 y.1 in
     let moved : Plays TakesNone capacity x.0 ys b =
     subst (λ (d : DeskState). Plays TakesNone capacity d ys b) (sym one.desk) y.3 in
-    ap (λ (l : List (List ℕ)). (flat_map sent l ++ answer_to u.case) ++ text_of xs) one.notices
-    ∙ ap (λ (l : List ℕ). (flat_map sent v.notices ++ l) ++ text_of xs) one.text
+    ap (λ (l : List (List ℕ)). (flat_map wire_text l ++ answer_to u.case) ++ text_of xs) one.notices
+    ∙ ap (λ (l : List ℕ). (flat_map wire_text v.notices ++ l) ++ text_of xs) one.text
     ∙ ap (λ (l : List ℕ). text_in v ++ l)
     (turns-one capacity x.0 xs ys left right a b one.untold units tail x.3 moved)
 

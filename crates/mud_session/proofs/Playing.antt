@@ -8,13 +8,14 @@ use Rattle.std.proofs.lemmas.Grind.{flat_map-append}
 use Rattle.std.proofs.lemmas.Bool.{true≢false}
 use Rattle.mud_nvt.specs.Units.{Given}
 use Rattle.mud_hall.specs.Desk.{DeskState}
-use Rattle.mud_session.specs.Session.{TakingIn, Turn, Plays, Play, is_last, is_over, unit_of, answer_to, sent, text_of}
+use Rattle.mud_session.specs.Session.{TakingIn, Turn, Plays, Play, is_last, is_over, unit_of, answer_to, wire_text}
+use Rattle.mud_session.specs.Session.{text_of}
 
 abbrev pub unit_in : Turn → Option Given
 unit_in turn = unit_of turn.case
 
 abbrev pub text_in : Turn → List ℕ
-text_in turn = flat_map sent turn.notices ++ answer_to turn.case
+text_in turn = flat_map wire_text turn.notices ++ answer_to turn.case
 
 both-false : (a b : Bool) → a || b ≡ false → (a ≡ false) × (b ≡ false)
 both-false true b e = absurd (true≢false e)

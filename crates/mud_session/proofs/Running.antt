@@ -1,7 +1,7 @@
 -- The turns of a script are a run of the hall of one caller.
 use Rattle.std.proofs.Common.{◌≡◌, ℕ, List, [], ◌∷◌, ◌++◌, Some, refl, sym, ap, ◌∙◌, subst, map, ◌⊎◌, inl, inr}
 use Rattle.std.proofs.lemmas.List.{append-nil}
-use Rattle.mud_words.specs.Parse.{parsed}
+use Rattle.mud_words.specs.Parse.{parse_of}
 use Rattle.mud_world.specs.declared.change.Change.{Change}
 use Rattle.mud_rules.specs.declared.verdict.Verdict.{Verdict}
 use Rattle.mud_rules.specs.declared.verdict.Verdict.TheVariants as verdict
@@ -46,9 +46,9 @@ stored-grows capacity old line e (Refused v f text) new h = absurd h
 stored-grows capacity old line e (Question v) new h = absurd h
 
 grown : (capacity : ℕ) (old : DeskState) (line : List ℕ) (reply : Reply) (new : DeskState)
-    → Replies capacity old (parsed line) reply new → Grows (Act line reply) old.seen new new.seen
+    → Replies capacity old (parse_of line) reply new → Grows (Act line reply) old.seen new new.seen
 grown capacity old line reply new h =
-    let v : Verdict = verdict_on old.seen old.player (parsed line) in
+    let v : Verdict = verdict_on old.seen old.player (parse_of line) in
     go v (plainly capacity old v reply new h)
   where
     by : (other : Reply) → reply ≡ other → Grows (Act line other) old.seen new new.seen

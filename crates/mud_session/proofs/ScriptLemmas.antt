@@ -7,10 +7,11 @@ use Rattle.std.specs.Io.KnownBytes.{Appends, Consumes, Keeps, IsAtEnd}
 use Rattle.std.proofs.KnownBytes.{Appends-nil, Appends-trans, Consumes-nil, Consumes-trans, Consumes-kept}
 use Rattle.std.proofs.lemmas.Bool.{cases_Bool, true≢false}
 use Rattle.std.proofs.Math.Seq.{take-append-add, take-length}
+use Rattle.mud_nvt.specs.declared.codes.TheConstants.{LF}
 use Rattle.mud_nvt.specs.Units.{Given, units}
 use Rattle.mud_nvt.specs.History.{StandsAfter}
 use Rattle.mud_hall.specs.Desk.{DeskState}
-use Rattle.mud_session.specs.State.{State, DoorState}
+use Rattle.mud_session.specs.State.{SessionState, DoorState}
 use Rattle.mud_ends.specs.Ends.{Reader, Writer, unread}
 use Rattle.mud_session.specs.Session.{TakingIn, Turn, Plays, Play, is_over, text_of}
 use Rattle.mud_session.specs.inner.Serving.{Serves, ServesInPart}
@@ -28,7 +29,7 @@ goes_on_here at_end n buffer is some = is ∙ grind (arith, nat_tests)
 
 -- where the script stands after some reads
 pub record Reached (takes_in : TakingIn) (capacity : ℕ) (start : DeskState) (reader read : Reader)
-    (held now : Option (List ℕ)) (state : State) (door : DoorState) : Type 0 where
+    (held now : Option (List ℕ)) (state : SessionState) (door : DoorState) : Type 0 where
   pub bytes : List ℕ
   pub turns : List Turn
   pub units_are : map Some (units bytes) ≡ map unit_in turns
@@ -42,8 +43,8 @@ pub record Reached (takes_in : TakingIn) (capacity : ℕ) (start : DeskState) (r
   pub many : read.reads ≤ length bytes
   pub written : Appends held now (text_of turns)
 
-pub reached_none : (takes_in : TakingIn) (reader : Reader) (held : Option (List ℕ)) (state : State) (door : DoorState)
-    → reader ≡ unread reader.left
+pub reached_none : (takes_in : TakingIn) (reader : Reader) (held : Option (List ℕ)) (state : SessionState)
+    (door : DoorState) → reader ≡ unread reader.left
     → StandsAfter state.terminal [] → state.out ≡ []
     → Reached takes_in door.capacity door.desk reader reader held held state door
 reached_none takes_in reader held state door fresh stands out = record {
@@ -63,8 +64,8 @@ reached_none takes_in reader held state door fresh stands out = record {
 
 -- ---- the script that was played
 heard_bytes : (bytes : List ℕ) (at_end ended : Bool) → at_end ≡ ended
-    → (if at_end then bytes ++ 10 ∷ [] else bytes) ≡ (if ended then bytes ++ 10 ∷ [] else bytes)
-heard_bytes bytes at_end ended e = ap (λ (b : Bool). if b then bytes ++ 10 ∷ [] else bytes) e
+    → (if at_end then bytes ++ LF ∷ [] else bytes) ≡ (if ended then bytes ++ LF ∷ [] else bytes)
+heard_bytes bytes at_end ended e = ap (λ (b : Bool). if b then bytes ++ LF ∷ [] else bytes) e
 
 -- before the end
 abbrev played : {takes_in : TakingIn} {capacity : ℕ} {start : DeskState}
@@ -83,7 +84,7 @@ played {new = new} {desk = desk} bytes consumed open_still play = record {
 abbrev played_out : {takes_in : TakingIn} {capacity : ℕ} {start : DeskState}
     {old new : Reader} {desk : DeskState} (bytes : List ℕ)
     → Consumes old.left new.left bytes → new.at_end ≡ true → IsAtEnd new.left
-    → Play takes_in capacity start (units (bytes ++ 10 ∷ [])) desk → Script takes_in capacity start old new
+    → Play takes_in capacity start (units (bytes ++ LF ∷ [])) desk → Script takes_in capacity start old new
 played_out {new = new} {desk = desk} bytes consumed ended end play = record {
   bytes = bytes;
   read = consumed;
@@ -95,7 +96,7 @@ played_out {new = new} {desk = desk} bytes consumed ended end play = record {
 -- what was played so far
 abbrev so_far_play : {takes_in : TakingIn} {capacity : ℕ} {start : DeskState}
     {reader read : Reader} {held now : Option (List ℕ)}
-    {state : State} {door : DoorState}
+    {state : SessionState} {door : DoorState}
     → (so_far : Reached takes_in capacity start reader read held now state door)
     → Play takes_in capacity start (units so_far.bytes) door.desk
 so_far_play so_far = record {
@@ -109,7 +110,7 @@ so_far_play so_far = record {
 -- and for more bytes
 abbrev more_play : {takes_in : TakingIn} {capacity : ℕ} {start : DeskState}
     {reader read : Reader}
-    {held now : Option (List ℕ)} {state : State} {door : DoorState} {fresh : List Given} {desk : DeskState}
+    {held now : Option (List ℕ)} {state : SessionState} {door : DoorState} {fresh : List Given} {desk : DeskState}
     → (so_far : Reached takes_in capacity start reader read held now state door) (more : List ℕ)
     → units (so_far.bytes ++ more) ≡ units so_far.bytes ++ fresh → Play takes_in door.capacity door.desk fresh desk
     → Play takes_in capacity start (units (so_far.bytes ++ more)) desk
@@ -128,7 +129,7 @@ more_written held now later xs ys p q = subst (Appends held later) (sym (text_of
 
 pub reached_more : {takes_in : TakingIn} {capacity : ℕ} {start : DeskState}
     {reader read next : Reader} {held now later : Option (List ℕ)}
-    {state new : State} {door new_door : DoorState} {more : List ℕ}
+    {state new : SessionState} {door new_door : DoorState} {more : List ℕ}
     → (so_far : Reached takes_in capacity start reader read held now state door) → Consumes read.left next.left more
     → next.at_end ≡ false → next.reads ≡ read.reads + 1 → 0 < length more
     → new.has_ended ≡ false → Serves takes_in so_far.bytes more state new door new_door now later
@@ -154,7 +155,7 @@ reached_more {more = more} so_far consumed no_end reads some goes_on serves =
 -- an answered `quit`
 pub whole_at_quit : {takes_in : TakingIn} {capacity : ℕ} {start : DeskState}
     {reader read next : Reader} {writer written : Writer}
-    {now : Option (List ℕ)} {state new : State} {door new_door : DoorState} {more : List ℕ}
+    {now : Option (List ℕ)} {state new : SessionState} {door new_door : DoorState} {more : List ℕ}
     → (so_far : Reached takes_in capacity start reader read writer.holds now state door)
     → Consumes read.left next.left more
     → next.at_end ≡ false → new.has_ended ≡ true
@@ -170,15 +171,15 @@ whole_at_quit {more = more} so_far consumed no_end over serves = record {
 -- the end of the input, and the last line
 pub whole_at_end : {takes_in : TakingIn} {capacity : ℕ} {start : DeskState}
     {reader read next : Reader} {writer written : Writer}
-    {now : Option (List ℕ)} {state new : State} {door new_door : DoorState}
+    {now : Option (List ℕ)} {state new : SessionState} {door new_door : DoorState}
     → (so_far : Reached takes_in capacity start reader read writer.holds now state door)
     → Consumes read.left next.left []
     → next.at_end ≡ true → IsAtEnd next.left
-    → Serves takes_in so_far.bytes (10 ∷ []) state new door new_door now written.holds
+    → Serves takes_in so_far.bytes (LF ∷ []) state new door new_door now written.holds
     → IsWhole takes_in capacity start reader next writer written
 whole_at_end {new = new} so_far consumed ended end serves = record {
   script = played_out so_far.bytes (rw append-nil at (Consumes-trans _ _ _ so_far.bytes [] so_far.consumed consumed))
-      ended end (more_play so_far (10 ∷ []) serves.feeds.units serves.feeds.play);
+      ended end (more_play so_far (LF ∷ []) serves.feeds.units serves.feeds.play);
   writes = more_written _ _ _ so_far.turns serves.feeds.play.turns so_far.written serves.written;
   done = elim (cases_Bool new.has_ended) [
     | inl e ↦ inr (over-by so_far.turns serves.feeds.play.turns _ so_far.goes_on serves.feeds.ended ∙ e)
@@ -208,7 +209,7 @@ front_at_start takes_in capacity start reader writer fresh = record {
 -- where a read fails, or too many came
 pub front_so_far : {takes_in : TakingIn} {capacity : ℕ} {start : DeskState}
     {reader read next : Reader} {writer written : Writer}
-    {state : State} {door : DoorState}
+    {state : SessionState} {door : DoorState}
     → Reached takes_in capacity start reader read writer.holds written.holds state door → Keeps read.left next.left
     → next.at_end ≡ false → IsFront takes_in capacity start reader next writer written
 front_so_far {writer = writer} {written = written} so_far kept no_end = record {
@@ -220,7 +221,7 @@ front_so_far {writer = writer} {written = written} so_far kept no_end = record {
 -- where the session fails, or a write
 pub front_served : {takes_in : TakingIn} {capacity : ℕ} {start : DeskState}
     {reader read next : Reader} {writer written : Writer}
-    {now : Option (List ℕ)} {state : State} {door : DoorState} {more : List ℕ}
+    {now : Option (List ℕ)} {state : SessionState} {door : DoorState} {more : List ℕ}
     → (so_far : Reached takes_in capacity start reader read writer.holds now state door)
     → Consumes read.left next.left more → next.at_end ≡ false
     → ServesInPart takes_in so_far.bytes more door now written.holds
@@ -235,15 +236,15 @@ front_served {more = more} so_far consumed no_end part = record {
 -- the same at the end of the input, in the last line
 pub front_at_end : {takes_in : TakingIn} {capacity : ℕ} {start : DeskState}
     {reader read next : Reader} {writer written : Writer}
-    {now : Option (List ℕ)} {state : State} {door : DoorState}
+    {now : Option (List ℕ)} {state : SessionState} {door : DoorState}
     → (so_far : Reached takes_in capacity start reader read writer.holds now state door)
     → Consumes read.left next.left []
     → next.at_end ≡ true → IsAtEnd next.left
-    → ServesInPart takes_in so_far.bytes (10 ∷ []) door now written.holds
+    → ServesInPart takes_in so_far.bytes (LF ∷ []) door now written.holds
     → IsFront takes_in capacity start reader next writer written
 front_at_end so_far consumed ended end part = record {
   script = played_out so_far.bytes (rw append-nil at (Consumes-trans _ _ _ so_far.bytes [] so_far.consumed consumed))
-      ended end (more_play so_far (10 ∷ []) part.units part.play);
+      ended end (more_play so_far (LF ∷ []) part.units part.play);
   count = length (text_of so_far.turns) + part.count;
   writes = more_front _ _ _ so_far.turns part.play.turns part.count so_far.written part.written;
 }
@@ -251,7 +252,7 @@ front_at_end so_far consumed ended end part = record {
 -- it goes on
 pub is_open : {takes_in : TakingIn} {capacity : ℕ} {start : DeskState}
     {reader read : Reader} {writer written : Writer}
-    {state : State} {door : DoorState}
+    {state : SessionState} {door : DoorState}
     → Reached takes_in capacity start reader read writer.holds written.holds state door
     → IsOpen takes_in capacity start reader read writer written
 is_open so_far = record {

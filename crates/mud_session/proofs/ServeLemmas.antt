@@ -3,7 +3,7 @@ use Rattle.std.proofs.Common.{◌≡◌, ℕ, List, [], ◌++◌, take, refl, sy
 use Rattle.std.specs.Prelude.{Option}
 use Rattle.std.specs.Io.KnownBytes.{Appends}
 use Rattle.std.proofs.KnownBytes.{Appends-nil}
-use Rattle.mud_session.specs.State.{State, DoorState}
+use Rattle.mud_session.specs.State.{SessionState, DoorState}
 use Rattle.mud_session.specs.Session.{TakingIn, text_of}
 use Rattle.mud_session.specs.Feeding.{Feeds}
 use Rattle.mud_session.specs.inner.Serving.{Serves, ServesInPart}
@@ -22,13 +22,14 @@ none_served takes_in earlier bytes door held = record {
 }
 
 -- all that the session sends is written
-pub all_served : (takes_in : TakingIn) (earlier bytes : List ℕ) (old mid new : State) (old_door new_door : DoorState)
-    (held now_held : Option (List ℕ)) (text : List ℕ) → old.out ≡ []
+pub all_served : (takes_in : TakingIn) (earlier bytes : List ℕ) (old mid new : SessionState)
+    (old_door new_door : DoorState) (held now_held : Option (List ℕ)) (text : List ℕ) → old.out ≡ []
     → Feeds takes_in earlier bytes old mid old_door new_door → text ≡ mid.out
     → new ≡ record mid { out = [] } → new_door.capacity ≡ old_door.capacity → Appends held now_held text
     → Serves takes_in earlier bytes old new old_door new_door held now_held
 all_served takes_in earlier bytes old mid new old_door new_door held now_held text none fed is after capacity written =
-    subst (λ (s : State). Serves takes_in earlier bytes old s old_door new_door held now_held) (sym after) (record {
+    subst (λ (s : SessionState). Serves takes_in earlier bytes old s old_door new_door held now_held) (sym after)
+    (record {
       said = mid.out;
       feeds = fed;
       written = subst (λ (l : List ℕ). Appends held now_held l)
@@ -38,8 +39,8 @@ all_served takes_in earlier bytes old mid new old_door new_door held now_held te
     })
 
 -- a front of it is
-pub part_served : (takes_in : TakingIn) (earlier bytes : List ℕ) (old mid : State) (old_door new_door : DoorState)
-    (held now_held : Option (List ℕ)) (text : List ℕ) (n : ℕ) → old.out ≡ []
+pub part_served : (takes_in : TakingIn) (earlier bytes : List ℕ) (old mid : SessionState)
+    (old_door new_door : DoorState) (held now_held : Option (List ℕ)) (text : List ℕ) (n : ℕ) → old.out ≡ []
     → Feeds takes_in earlier bytes old mid old_door new_door → text ≡ mid.out → Appends held now_held (take n text)
     → ServesInPart takes_in earlier bytes old_door held now_held
 part_served takes_in earlier bytes old mid old_door new_door held now_held text n none fed is written = record {

@@ -7,15 +7,16 @@ use Rattle.std.proofs.lemmas.List.{append-nil, take_more, map_push, map-append}
 use Rattle.mud_nvt.specs.declared.Unit.{Unit as CodeUnit}
 use Rattle.mud_nvt.specs.Units.{Given, units}
 use Rattle.mud_nvt.specs.History.{StandsAfter}
-use Rattle.mud_nvt.specs.Shown.{shown, all_shown}
-use Rattle.mud_session.specs.State.{State, DoorState}
+use Rattle.mud_nvt.specs.Shown.{unit_shown, all_shown}
+use Rattle.mud_session.specs.State.{SessionState, DoorState}
 use Rattle.mud_session.specs.Session.{TakingIn, Does, Play, is_last, is_over, text_of}
 use Rattle.mud_session.specs.Feeding.{Feeds}
 use Rattle.mud_session.specs.inner.Turning.{HasTurn}
 use Rattle.mud_session.proofs.Playing.{unit_in, text_in, joined, is_over-append, text_of-append}
 
 -- each of these units had its turn, up to the last, and what is sent for them is to be taken out
-pub record SoFar (T : TakingIn) (units : List Given) (old new : State) (old_door new_door : DoorState) : Type 0 where
+pub record SoFar (T : TakingIn) (units : List Given) (old new : SessionState) (old_door new_door : DoorState)
+    : Type 0 where
   pub play : Play T old_door.capacity old_door.desk units new_door.desk
   pub capacity : new_door.capacity ≡ old_door.capacity
   pub ended : new.has_ended ≡ is_over play.turns
@@ -23,7 +24,7 @@ pub record SoFar (T : TakingIn) (units : List Given) (old new : State) (old_door
   pub terminal : new.terminal ≡ old.terminal
   pub out : new.out ≡ old.out ++ text_of play.turns
 
-pub SoFar-none : (T : TakingIn) (s : State) (d : DoorState) → s.has_ended ≡ false → SoFar T [] s s d d
+pub SoFar-none : (T : TakingIn) (s : SessionState) (d : DoorState) → s.has_ended ≡ false → SoFar T [] s s d d
 SoFar-none T s d goes = record {
   play = record { turns = []; left = []; units_are = refl; plays = refl };
   capacity = refl;
@@ -33,7 +34,7 @@ SoFar-none T s d goes = record {
   out = sym (append-nil s.out);
 }
 
-turned : (T : TakingIn) (us : List Given) (u : Given) (a b c : State) (da db dc : DoorState)
+turned : (T : TakingIn) (us : List Given) (u : Given) (a b c : SessionState) (da db dc : DoorState)
     → SoFar T us a b da db → b.has_ended ≡ false → dc.capacity ≡ db.capacity → HasTurn T u b c db dc
     → SoFar T (us ++ u ∷ []) a c da dc
 turned T us u a b c da db dc so_far goes capacity has =
@@ -70,8 +71,8 @@ turned T us u a b c da db dc so_far goes capacity has =
     or-false true = refl
     or-false false = refl
 
-passed_over : (T : TakingIn) (us : List Given) (u : Given) (a b : State) (da db : DoorState) → SoFar T us a b da db
-    → b.has_ended ≡ true → SoFar T (us ++ u ∷ []) a b da db
+passed_over : (T : TakingIn) (us : List Given) (u : Given) (a b : SessionState) (da db : DoorState)
+    → SoFar T us a b da db → b.has_ended ≡ true → SoFar T (us ++ u ∷ []) a b da db
 passed_over T us u a b da db so_far over =
     let turns = so_far.play.turns in
     let left = so_far.play.left in
@@ -93,30 +94,30 @@ passed_over T us u a b da db so_far over =
 
 shown_more : (units : List (CodeUnit Global)) (i : ℕ) (unit : CodeUnit Global) → i < length units
     → unit ≡ get_or units i unit
-    → all_shown (take (i + 1) units) ≡ all_shown (take i units) ++ shown unit ∷ []
+    → all_shown (take (i + 1) units) ≡ all_shown (take i units) ++ unit_shown unit ∷ []
 shown_more units i unit lt here =
-    ap all_shown (take_more units i unit lt) ∙ map_push shown (take i units) (get_or units i unit)
-    ∙ ap (λ u. all_shown (take i units) ++ shown u ∷ []) (sym here)
+    ap all_shown (take_more units i unit lt) ∙ map_push unit_shown (take i units) (get_or units i unit)
+    ∙ ap (λ u. all_shown (take i units) ++ unit_shown u ∷ []) (sym here)
 
 -- one unit more
-pub SoFar-more : (T : TakingIn) (units : List (CodeUnit Global)) (i : ℕ) (unit : CodeUnit Global) (a b c : State)
+pub SoFar-more : (T : TakingIn) (units : List (CodeUnit Global)) (i : ℕ) (unit : CodeUnit Global) (a b c : SessionState)
     (da db dc : DoorState)
     → i < length units → unit ≡ get_or units i unit → SoFar T (all_shown (take i units)) a b da db
     → dc.capacity ≡ db.capacity
-    → (b.has_ended ≡ true → (c ≡ b) × (dc ≡ db)) → (b.has_ended ≡ false → HasTurn T (shown unit) b c db dc)
+    → (b.has_ended ≡ true → (c ≡ b) × (dc ≡ db)) → (b.has_ended ≡ false → HasTurn T (unit_shown unit) b c db dc)
     → SoFar T (all_shown (take (i + 1) units)) a c da dc
 SoFar-more T units i unit a b c da db dc lt here so_far capacity over turn =
-    let us = all_shown (take i units) ++ shown unit ∷ [] in
+    let us = all_shown (take i units) ++ unit_shown unit ∷ [] in
     subst (λ (l : List Given). SoFar T l a c da dc) (sym (shown_more units i unit lt here))
     (elim (cases_Bool b.has_ended) as (λ _. SoFar T us a c da dc) [
-      | inl e ↦ subst (λ (s : State). SoFar T us a s da dc) (sym (over e).0)
+      | inl e ↦ subst (λ (s : SessionState). SoFar T us a s da dc) (sym (over e).0)
           (subst (λ (d : DoorState). SoFar T us a b da d) (sym (over e).1)
-          (passed_over T _ (shown unit) a b da db so_far e))
-      | inr e ↦ turned T _ (shown unit) a b c da db dc so_far e capacity (turn e)
+          (passed_over T _ (unit_shown unit) a b da db so_far e))
+      | inr e ↦ turned T _ (unit_shown unit) a b c da db dc so_far e capacity (turn e)
     ])
 
 -- the units of more bytes had their turns
-pub Feeds-from : (T : TakingIn) (earlier bytes : List ℕ) (old begun new : State) (old_door new_door : DoorState)
+pub Feeds-from : (T : TakingIn) (earlier bytes : List ℕ) (old begun new : SessionState) (old_door new_door : DoorState)
     (us fresh : List Given)
     → StandsAfter begun.terminal (earlier ++ bytes) → units (earlier ++ bytes) ≡ units earlier ++ fresh → us ≡ fresh
     → old.has_ended ≡ false → begun.out ≡ old.out → SoFar T us begun new old_door new_door

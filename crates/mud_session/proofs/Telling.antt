@@ -3,7 +3,7 @@ use Rattle.std.proofs.Common.{◌≡◌, ℕ, List, [], ◌∷◌, ◌++◌, ref
 use Rattle.std.specs.Prelude.{◌⊎◌}
 use Rattle.std.proofs.lemmas.List.{append-nil}
 use Rattle.mud_words.specs.Line.{Line}
-use Rattle.mud_words.specs.Parse.{parsed}
+use Rattle.mud_words.specs.Parse.{parse_of}
 use Rattle.mud_world.specs.declared.change.Change.{Change}
 use Rattle.mud_rules.specs.declared.verdict.Verdict.{Verdict}
 use Rattle.mud_rules.specs.declared.verdict.Verdict.TheVariants as verdict
@@ -94,4 +94,4 @@ told_once capacity old (Fails line) lines new does = looked old new lines does.1
 told_once capacity old (Asks line answer) lines new does = looked old new lines does.2
 told_once capacity old (Acts line reply) lines new (heard, other, acts) =
     told old acts.ready acts.acted new lines acts.takes
-    (replies-add capacity acts.ready (parsed line) reply acts.acted acts.replies) acts.tells
+    (replies-add capacity acts.ready (parse_of line) reply acts.acted acts.replies) acts.tells

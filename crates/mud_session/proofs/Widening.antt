@@ -9,6 +9,7 @@ use Rattle.std.proofs.Math.Seq.{take-append_seam}
 use Rattle.std.proofs.lemmas.List.{take_all, take_more, take-set-le, drop-set, append-nil, length-take-le}
 use Rattle.std.proofs.lemmas.List.Concat.{flat_map-append}
 use Rattle.std.proofs.lemmas.List.Elements.{All-head, All-tail}
+use Rattle.mud_nvt.specs.declared.codes.TheConstants.{LF, CR}
 use Rattle.mud_chron.specs.Faults.{HasNoLineFeed}
 use Rattle.mud_session.specs.inner.Parts.{on_wire}
 
@@ -16,16 +17,16 @@ use Rattle.mud_session.specs.inner.Parts.{on_wire}
 abbrev wide : List ℕ → List ℕ
 wide xs = flat_map on_wire xs
 
-lf-wide : (b : ℕ) → b ≡ 10 → on_wire b ≡ 13 ∷ 10 ∷ []
-lf-wide b is = let yes : (b == 10) ≡ true = grind (arith, nat_tests) in rw yes refl
+lf-wide : (b : ℕ) → b ≡ LF → on_wire b ≡ CR ∷ LF ∷ []
+lf-wide b is = let yes : (b == LF) ≡ true = grind (arith, nat_tests) in rw yes refl
 
-other-wide : (b : ℕ) → b ≢ 10 → on_wire b ≡ b ∷ []
-other-wide b apart = let no : (b == 10) ≡ false = grind (arith, nat_tests) in rw no refl
+other-wide : (b : ℕ) → b ≢ LF → on_wire b ≡ b ∷ []
+other-wide b apart = let no : (b == LF) ≡ false = grind (arith, nat_tests) in rw no refl
 
 one-wide : (b : ℕ) → 1 ≤ length (on_wire b)
-one-wide b = go (b == 10) refl
+one-wide b = go (b == LF) refl
   where
-    go : (t : Bool) → (b == 10) ≡ t → 1 ≤ length (on_wire b)
+    go : (t : Bool) → (b == LF) ≡ t → 1 ≤ length (on_wire b)
     go true e = rw e (omega arith)
     go false e = rw e (omega arith)
 
@@ -38,23 +39,23 @@ wide-longer (x ∷ xs) = omega (arith, one-wide x, wide-longer xs, length-append
 pub line-wide : (line : List ℕ) → HasNoLineFeed line → wide line ≡ line
 line-wide [] all = refl
 line-wide (b ∷ line) all =
-    ap (λ (x : List ℕ). x ++ wide line) (other-wide b (All-head (λ b. b ≢ 10) b line all))
-    ∙ ap (λ (x : List ℕ). b ∷ x) (line-wide line (All-tail (λ b. b ≢ 10) b line all))
+    ap (λ (x : List ℕ). x ++ wide line) (other-wide b (All-head (λ b. b ≢ LF) b line all))
+    ∙ ap (λ (x : List ℕ). b ∷ x) (line-wide line (All-tail (λ b. b ≢ LF) b line all))
 
 -- a line that is ended, and what stands after it
-pub cut-wide : (line rest : List ℕ) → HasNoLineFeed line → wide (line ++ 10 ∷ rest) ≡ line ++ (13 ∷ 10 ∷ wide rest)
+pub cut-wide : (line rest : List ℕ) → HasNoLineFeed line → wide (line ++ LF ∷ rest) ≡ line ++ (CR ∷ LF ∷ wide rest)
 cut-wide line rest all =
-    flat_map-append on_wire line (10 ∷ rest) ∙ ap (λ (x : List ℕ). x ++ (13 ∷ 10 ∷ wide rest)) (line-wide line all)
+    flat_map-append on_wire line (LF ∷ rest) ∙ ap (λ (x : List ℕ). x ++ (CR ∷ LF ∷ wide rest)) (line-wide line all)
 
 -- a line more was sent, with its end, and what stood after it is left
-pub line-more : (bytes line ended out : List ℕ) → HasNoLineFeed line → bytes ≡ line ++ 10 ∷ drop 1 ended
-    → ((out ++ line) ++ 13 ∷ 10 ∷ []) ++ wide (take (length ended - 1) (drop 1 ended)) ≡ out ++ wide bytes
+pub line-more : (bytes line ended out : List ℕ) → HasNoLineFeed line → bytes ≡ line ++ LF ∷ drop 1 ended
+    → ((out ++ line) ++ CR ∷ LF ∷ []) ++ wide (take (length ended - 1) (drop 1 ended)) ≡ out ++ wide bytes
 line-more bytes line ended out all is =
     let left : take (length ended - 1) (drop 1 ended) ≡ drop 1 ended =
     take_all (length ended - 1) (drop 1 ended) (omega (arith, length-drop 1 ended)) in
-    ap (λ (x : List ℕ). ((out ++ line) ++ 13 ∷ 10 ∷ []) ++ wide x) left
-    ∙ append_assoc (out ++ line) (13 ∷ 10 ∷ []) (wide (drop 1 ended))
-    ∙ append_assoc out line (13 ∷ 10 ∷ wide (drop 1 ended))
+    ap (λ (x : List ℕ). ((out ++ line) ++ CR ∷ LF ∷ []) ++ wide x) left
+    ∙ append_assoc (out ++ line) (CR ∷ LF ∷ []) (wide (drop 1 ended))
+    ∙ append_assoc out line (CR ∷ LF ∷ wide (drop 1 ended))
     ∙ ap (λ (x : List ℕ). out ++ x) (sym (ap wide is ∙ cut-wide line (drop 1 ended) all))
 
 wide-next : (xs : List ℕ) (k b : ℕ) → k < length xs → b ≡ get_or xs k 0
@@ -77,7 +78,7 @@ put-back : (out : List ℕ) (k to b : ℕ) → k ≤ to → to < length out
 put-back out k to b le lt = record { same = take-set-le k out to b le; rest = drop-set out to b lt }
 
 pub widened-other : (front : ℕ) (whole : List ℕ) (k to b : ℕ) (out : List ℕ)
-    → IsWidened front whole (k + 1) to out → b ≡ get_or out k 0 → b ≢ 10
+    → IsWidened front whole (k + 1) to out → b ≡ get_or out k 0 → b ≢ LF
     → IsWidened front whole k (to - 1) (set out (to - 1) b)
 widened-other front whole k to b out w at apart =
     let at_k : List ℕ = wide (take k out) in
@@ -100,31 +101,31 @@ widened-other front whole k to b out w at apart =
     }
 
 pub widened-lf : (front : ℕ) (whole : List ℕ) (k to b : ℕ) (out : List ℕ)
-    → IsWidened front whole (k + 1) to out → b ≡ get_or out k 0 → b ≡ 10
-    → IsWidened front whole k (to - 1 - 1) (set (set out (to - 1) b) (to - 1 - 1) 13)
+    → IsWidened front whole (k + 1) to out → b ≡ get_or out k 0 → b ≡ LF
+    → IsWidened front whole k (to - 1 - 1) (set (set out (to - 1) b) (to - 1 - 1) CR)
 widened-lf front whole k to b out w at lf =
     let at_k : List ℕ = wide (take k out) in
-    let more : wide (take (k + 1) out) ≡ at_k ++ 13 ∷ b ∷ [] =
+    let more : wide (take (k + 1) out) ≡ at_k ++ CR ∷ b ∷ [] =
     wide-next out k b (omega (arith, w.within)) at
-    ∙ ap (λ (x : List ℕ). at_k ++ x) (lf-wide b lf ∙ ap (λ (x : ℕ). 13 ∷ x ∷ []) (sym lf)) in
-    let long : length (wide (take (k + 1) out)) ≡ length at_k + 2 = ap length more ∙ length-append at_k (13 ∷ b ∷ []) in
+    ∙ ap (λ (x : List ℕ). at_k ++ x) (lf-wide b lf ∙ ap (λ (x : ℕ). CR ∷ x ∷ []) (sym lf)) in
+    let long : length (wide (take (k + 1) out)) ≡ length at_k + 2 = ap length more ∙ length-append at_k (CR ∷ b ∷ []) in
     let taken : length (take k out) ≡ k = length-take-le k out (omega (arith, w.within)) in
     let enough : k ≤ length at_k = omega (arith, wide-longer (take k out), taken) in
     let before : to ≡ (to - 1) + 1 = omega (arith, w.place, long) in
     let twice : to - 1 ≡ (to - 1 - 1) + 1 = omega (arith, w.place, long) in
     let mid : List ℕ = set out (to - 1) b in
     let one = put-back out k (to - 1) b (omega (arith, w.place, long, enough)) (omega (arith, w.fits, before)) in
-    let two = put-back mid k (to - 1 - 1) 13 (omega (arith, w.place, long, enough))
+    let two = put-back mid k (to - 1 - 1) CR (omega (arith, w.place, long, enough))
     (omega (arith, w.fits, before, length-set out (to - 1) b)) in
-    let new : List ℕ = set mid (to - 1 - 1) 13 in
+    let new : List ℕ = set mid (to - 1 - 1) CR in
     record {
-      within = omega (arith, w.within, length-set out (to - 1) b, length-set mid (to - 1 - 1) 13);
+      within = omega (arith, w.within, length-set out (to - 1) b, length-set mid (to - 1 - 1) CR);
       place = omega (arith, w.place, long, ap (λ (xs : List ℕ). length (wide xs)) (two.same ∙ one.same));
-      fits = omega (arith, w.fits, length-set out (to - 1) b, length-set mid (to - 1 - 1) 13);
+      fits = omega (arith, w.fits, length-set out (to - 1) b, length-set mid (to - 1 - 1) CR);
       is = ap (λ (xs : List ℕ). wide xs ++ drop (to - 1 - 1) new) (two.same ∙ one.same)
-          ∙ ap (λ (xs : List ℕ). at_k ++ xs) (two.rest ∙ ap (λ (n : ℕ). 13 ∷ drop n mid) (sym twice)
-          ∙ ap (λ (xs : List ℕ). 13 ∷ xs) (one.rest ∙ ap (λ (n : ℕ). b ∷ drop n out) (sym before)))
-          ∙ sym (append_assoc at_k (13 ∷ b ∷ []) (drop to out))
+          ∙ ap (λ (xs : List ℕ). at_k ++ xs) (two.rest ∙ ap (λ (n : ℕ). CR ∷ drop n mid) (sym twice)
+          ∙ ap (λ (xs : List ℕ). CR ∷ xs) (one.rest ∙ ap (λ (n : ℕ). b ∷ drop n out) (sym before)))
+          ∙ sym (append_assoc at_k (CR ∷ b ∷ []) (drop to out))
           ∙ ap (λ (xs : List ℕ). xs ++ drop to out) (sym more) ∙ w.is;
     }
 

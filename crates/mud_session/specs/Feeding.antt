@@ -3,11 +3,11 @@ use Rattle.std.specs.Prelude.{◌≡◌, ℕ, false, List, [], ◌++◌}
 use Rattle.std.specs.List.{flat_map}
 use Rattle.mud_nvt.specs.Units.{Given, units}
 use Rattle.mud_nvt.specs.History.{StandsAfter}
-use Rattle.mud_session.specs.State.{State, DoorState}
-use Rattle.mud_session.specs.Session.{TakingIn, Sees, Play, is_over, sent, text_of}
+use Rattle.mud_session.specs.State.{SessionState, DoorState}
+use Rattle.mud_session.specs.Session.{TakingIn, Sees, Play, is_over, wire_text, text_of}
 
 -- after the earlier bytes it takes these: the units that they add have their turns, up to the last reply
-pub record Feeds (takes_in : TakingIn) (earlier bytes : List ℕ) (old new : State)
+pub record Feeds (takes_in : TakingIn) (earlier bytes : List ℕ) (old new : SessionState)
     (old_door new_door : DoorState) : Type 0 where
   pub stands : StandsAfter new.terminal (earlier ++ bytes)
   pub fresh : List Given
@@ -19,8 +19,8 @@ pub record Feeds (takes_in : TakingIn) (earlier bytes : List ℕ) (old new : Sta
   pub out : new.out ≡ old.out ++ text_of play.turns
 
 -- it looks for what others did, and the notices are to be taken out
-pub record Nudges (takes_in : TakingIn) (old new : State) (old_door new_door : DoorState) : Type 0 where
+pub record Nudges (takes_in : TakingIn) (old new : SessionState) (old_door new_door : DoorState) : Type 0 where
   pub lines : List (List ℕ)
   pub sees : Sees takes_in old_door.desk lines new_door.desk
   pub goes_on : old.has_ended ≡ false
-  pub is : new ≡ record old { out = old.out ++ flat_map sent lines }
+  pub is : new ≡ record old { out = old.out ++ flat_map wire_text lines }

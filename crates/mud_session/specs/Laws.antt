@@ -8,7 +8,7 @@ use Rattle.mud_hall.specs.Told.{notices}
 use Rattle.mud_hall.specs.Desk.{DeskState}
 use Rattle.mud_hall.specs.Steps.{Call, See, Act, Ask, Told, Hall, lone_desk, opened_alone, At, IsRun}
 use Rattle.mud_session.specs.Session.{TakesNone, Case, Rests, Looks, Fails, Asks, Acts, Turn, Play, text_of}
-use Rattle.mud_session.specs.State.{State}
+use Rattle.mud_session.specs.State.{SessionState}
 use Rattle.mud_session.specs.Naming.{NamesUpTo, IsNotice}
 
 -- memory ran out for the line
@@ -56,7 +56,7 @@ pub record AreScript (capacity : ℕ) (turns : List Turn) (new : DeskState) : Ty
 -- ---- versions
 
 -- a session, to which these bytes came, names no version beyond what its desk has seen, in what is to be sent or told
-pub record NamesSeen (session : State) (desk : DeskState) : Type 0 where
+pub record NamesSeen (session : SessionState) (desk : DeskState) : Type 0 where
   pub earlier : List ℕ
   pub stands : StandsAfter session.terminal earlier
   pub out : NamesUpTo (length desk.seen) session.out

@@ -11,7 +11,7 @@ use Rattle.mud_rules.specs.Hearing.{heard_line}
 use Rattle.mud_hall.specs.Told.{notice_text}
 use Rattle.mud_hall.specs.Desk.{DeskState}
 use Rattle.mud_hall.specs.Answers.{Answered, Answers}
-use Rattle.mud_session.specs.Session.{numbered, sent}
+use Rattle.mud_session.specs.Session.{with_version, wire_text}
 
 -- the lines that name no version
 abbrev pub plain_lines : List (List ℕ)
@@ -36,9 +36,9 @@ IsNotice most text =
 -- a line that names no version, or an answer to a request
 abbrev pub IsPiece : ℕ → List ℕ → Type 0
 IsPiece most bytes =
-    ((v : ℕ) × (text : List ℕ) × (v ≤ most) × IsSaidOf v text × (bytes ≡ sent (numbered v text)))
-    ⊎ ((text : List ℕ) × IsNotice most text × (bytes ≡ sent text))
-    ⊎ ((line : List ℕ) × Contains plain_lines line × (bytes ≡ sent line))
+    ((v : ℕ) × (text : List ℕ) × (v ≤ most) × IsSaidOf v text × (bytes ≡ wire_text (with_version v text)))
+    ⊎ ((text : List ℕ) × IsNotice most text × (bytes ≡ wire_text text))
+    ⊎ ((line : List ℕ) × Contains plain_lines line × (bytes ≡ wire_text line))
     ⊎ ((verb : ℕ) × (option : ℕ) × (bytes ≡ IAC ∷ verb ∷ option ∷ []))
 
 -- the text is made of such pieces

@@ -1,6 +1,7 @@
 -- What a script reads, plays and writes, at any door.
 use Rattle.std.specs.Prelude.{◌≡◌, ◌≤◌, ℕ, true, false, if◌then◌else◌, ◌⊎◌, List, [], ◌∷◌, ◌++◌, length, take}
 use Rattle.std.specs.Io.KnownBytes.{Appends, Consumes, IsAtEnd}
+use Rattle.mud_nvt.specs.declared.codes.TheConstants.{LF}
 use Rattle.mud_nvt.specs.Units.{units}
 use Rattle.mud_ends.specs.Ends.{Reader, Writer}
 use Rattle.mud_hall.specs.Desk.{DeskState}
@@ -12,7 +13,7 @@ pub record Script (takes_in : TakingIn) (capacity : ℕ) (start : DeskState) (ol
   pub read : Consumes old.left new.left bytes
   pub end : new.at_end ≡ true → IsAtEnd new.left
   pub desk : DeskState
-  pub play : Play takes_in capacity start (units (if new.at_end then bytes ++ 10 ∷ [] else bytes)) desk
+  pub play : Play takes_in capacity start (units (if new.at_end then bytes ++ LF ∷ [] else bytes)) desk
 
 -- all its text was written; the end was seen and each unit had its turn, or `quit` was answered
 pub record IsWhole (takes_in : TakingIn) (capacity : ℕ) (start : DeskState) (reader read : Reader)

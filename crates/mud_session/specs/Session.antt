@@ -3,8 +3,9 @@ use Rattle.std.specs.Prelude.{◌≡◌, ◌≢◌, ℕ, Bool, true, false, not,
 use Rattle.std.specs.Prelude.{List, [], ◌∷◌, ◌++◌, codes, decimal, map}
 use Rattle.std.specs.List.{flat_map, list_any}
 use Rattle.std.specs.Option.{option_map_or, IsSome}
-use Rattle.mud_words.specs.Parse.{parsed}
+use Rattle.mud_words.specs.Parse.{parse_of}
 use Rattle.mud_words.specs.Words.{is_blank}
+use Rattle.mud_nvt.specs.declared.codes.TheConstants.{LF, CR}
 use Rattle.mud_nvt.specs.Units.{Given, Text, TooLong, Ayt, Answer}
 use Rattle.mud_rules.specs.Table.{is_question, is_quit}
 use Rattle.mud_hall.specs.declared.fault.Fault.TheVariants.{HistoryFull, Unpublished}
@@ -28,21 +29,21 @@ IsShared takes_in = (old : DeskState) × (new : DeskState) × takes_in old new �
 -- ---- what is said
 
 -- a reply names the version that it speaks of
-abbrev pub numbered : ℕ → List ℕ → List ℕ
-numbered v text = codes "[" ++ decimal v ++ codes "] " ++ text
+abbrev pub with_version : ℕ → List ℕ → List ℕ
+with_version v text = codes "[" ++ decimal v ++ codes "] " ++ text
 
 -- what is said to a line that acts; to a question its answer is said, and where memory runs out nothing is
 abbrev pub reply_line : Reply → Option (List ℕ)
-reply_line (Accepted v text) = Some (numbered v text)
-reply_line (Became v text) = Some (numbered v text)
-reply_line (Refused v refusal text) = Some (numbered v text)
+reply_line (Accepted v text) = Some (with_version v text)
+reply_line (Became v text) = Some (with_version v text)
+reply_line (Refused v refusal text) = Some (with_version v text)
 reply_line (Failed HistoryFull) = Some (codes "(history full)")
 reply_line (Failed Unpublished) = Some (codes "(not stored)")
 reply_line other = None
 
 -- a text of one or more lines, each ended by CR LF
-abbrev pub sent : List ℕ → List ℕ
-sent text = flat_map (λ b. if b == 10 then 13 ∷ 10 ∷ [] else b ∷ []) text ++ 13 ∷ 10 ∷ []
+abbrev pub wire_text : List ℕ → List ℕ
+wire_text text = flat_map (λ b. if b == LF then CR ∷ LF ∷ [] else b ∷ []) text ++ CR ∷ LF ∷ []
 
 -- ---- what becomes of a desk
 
@@ -63,7 +64,7 @@ pub record IsActed (takes_in : TakingIn) (capacity : ℕ) (old : DeskState) (lin
   pub ready : DeskState
   pub takes : takes_in old ready
   pub acted : DeskState
-  pub replies : Replies capacity ready (parsed line) reply acted
+  pub replies : Replies capacity ready (parse_of line) reply acted
   pub stored : reply ≡ Failed Unpublished → IsShared takes_in
   pub tells : HandsOut acted lines new
   pub all : new.told ≡ []
@@ -94,25 +95,25 @@ Does takes_in capacity old (Rests unit) lines new = (is_heard unit ≡ false) ×
 Does takes_in capacity old Looks lines new = Sees takes_in old lines new
 Does takes_in capacity old (Fails line) lines new = (is_blank line ≡ false) × Sees takes_in old lines new
 Does takes_in capacity old (Asks line answer) lines new =
-    (is_blank line ≡ false) × (is_question (parsed line) ≡ true) × Sees takes_in old lines new × (new.told ≡ [])
-    × Answers new (parsed line) answer
+    (is_blank line ≡ false) × (is_question (parse_of line) ≡ true) × Sees takes_in old lines new × (new.told ≡ [])
+    × Answers new (parse_of line) answer
 Does takes_in capacity old (Acts line reply) lines new =
-    (is_blank line ≡ false) × (is_question (parsed line) ≡ false) × IsActed takes_in capacity old line reply lines new
+    (is_blank line ≡ false) × (is_question (parse_of line) ≡ false) × IsActed takes_in capacity old line reply lines new
 
 -- what is sent after the notices
 abbrev pub answer_to : Case → List ℕ
-answer_to (Rests TooLong) = sent (codes "(line too long)")
-answer_to (Rests Ayt) = sent (codes "[Yes]")
+answer_to (Rests TooLong) = wire_text (codes "(line too long)")
+answer_to (Rests Ayt) = wire_text (codes "[Yes]")
 answer_to (Rests (Answer bytes)) = bytes
 answer_to (Rests (Text line)) = []
 answer_to Looks = []
-answer_to (Fails line) = sent (codes "(out of memory)")
-answer_to (Asks line answer) = sent (numbered answer.version answer.text)
-answer_to (Acts line reply) = option_map_or sent (reply_line reply) []
+answer_to (Fails line) = wire_text (codes "(out of memory)")
+answer_to (Asks line answer) = wire_text (with_version answer.version answer.text)
+answer_to (Acts line reply) = option_map_or wire_text (reply_line reply) []
 
 -- an answered `quit` is the last of the session
 abbrev pub is_last : Case → Bool
-is_last (Asks line answer) = is_quit (parsed line)
+is_last (Asks line answer) = is_quit (parse_of line)
 is_last other = false
 
 -- ---- turns one after the other
@@ -135,7 +136,7 @@ is_over turns = list_any (λ turn. is_last turn.case) turns
 
 -- what is sent for these turns
 abbrev pub text_of : List Turn → List ℕ
-text_of turns = flat_map (λ turn. flat_map sent turn.notices ++ answer_to turn.case) turns
+text_of turns = flat_map (λ turn. flat_map wire_text turn.notices ++ answer_to turn.case) turns
 
 -- what was played: the first of these units had their turns, and no other had one
 pub record Play (takes_in : TakingIn) (capacity : ℕ) (old : DeskState) (units : List Given) (new : DeskState)

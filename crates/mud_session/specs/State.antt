@@ -4,7 +4,7 @@ use Rattle.mud_nvt.specs.Machine.{Held}
 use Rattle.mud_hall.specs.Desk.{DeskState}
 
 -- its terminal, whether it has ended, and what is to be sent
-pub record State : Type 0 where
+pub record SessionState : Type 0 where
   pub terminal : Held
   pub has_ended : Bool
   pub out : List ℕ

@@ -4,8 +4,8 @@ ghost use Rattle.std.specs.Prelude.{◌≡◌, ◌≢◌, ◌++◌, [], IfOk, If
 ghost use Rattle.std.specs.Thread.{IsSync};
 ghost use Rattle.mud_words.specs.Line.{line_of};
 ghost use Rattle.mud_hall.specs.Desk.{DeskState, with_told};
-ghost use Rattle.mud_hall.specs.Replies.{Failed, Replies, shown};
-ghost use Rattle.mud_hall.specs.Answers.{Answers, answered};
+ghost use Rattle.mud_hall.specs.Replies.{Failed, Replies, reply_shown};
+ghost use Rattle.mud_hall.specs.Answers.{Answers, answer_shown};
 ghost use Rattle.mud_session.specs.Session.{TakingIn, TakesNone, IsShared};
 ghost use Rattle.mud_session.specs.State.{DoorState};
 
@@ -26,9 +26,9 @@ pub trait Door {
     fn act<X: Threads + Wait + Sync>(&mut self, rt: &X, line: &Parsed) -> Result<Reply, Fault>
         ensures capacity { (state self.new).capacity ≡ (state self.old).capacity }
         ensures replies { (ready : DeskState) × takes_in (state self.old).desk ready
-            × Replies (state self.old).capacity ready (line_of line.now) (shown result) (state self.new).desk }
-        ensures stored { shown result ≡ Failed Fault.Unpublished → IsShared takes_in }
-        ensures told { shown result ≢ Failed Fault.OutOfMemory → (state self.new).untold ≡ [] };
+            × Replies (state self.old).capacity ready (line_of line.now) (reply_shown result) (state self.new).desk }
+        ensures stored { reply_shown result ≡ Failed Fault.Unpublished → IsShared takes_in }
+        ensures told { reply_shown result ≢ Failed Fault.OutOfMemory → (state self.new).untold ≡ [] };
 
     /// Takes entries in.
     fn see(&mut self) -> Result<(), Fault>
@@ -43,7 +43,7 @@ pub trait Door {
         ensures capacity { (state self.new).capacity ≡ (state self.old).capacity }
         ensures same { (state self.new).desk ≡ (state self.old).desk }
         ensures told { OnOk result ((state self.new).untold ≡ []) }
-        ensures answers { IfOk result (λ a. Answers (state self.old).desk (line_of line.now) (answered a)) }
+        ensures answers { IfOk result (λ a. Answers (state self.old).desk (line_of line.now) (answer_shown a)) }
         ensures fault { IfErr result (λ f. f ≡ Fault.OutOfMemory) };
 
     /// The lines that the desk was told, each once. It takes no memory.

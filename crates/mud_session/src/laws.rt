@@ -5,7 +5,7 @@ ghost use Rattle.mud_session.specs.Session.{Does, Turn, Plays, TakesNone};
 ghost use Rattle.mud_hall.specs.Desk.{DeskState, TakesIn};
 ghost use Rattle.mud_hall.specs.Steps.{PerformsAll, lone_desk};
 ghost use Rattle.std.specs.Prelude.{List, ℕ};
-ghost use Rattle.mud_session.specs.State.{DoorState, State};
+ghost use Rattle.mud_session.specs.State.{DoorState, SessionState};
 ghost use Rattle.mud_session.specs.Feeding.{Nudges, Feeds};
 
 /// In each turn at a desk of a hall what the desk had been told, and the notices of the others' entries that it came
@@ -19,7 +19,7 @@ pub fn notices()
 /// then: not in front of a reply, an answer or a notice, and the answer to `@history` has as many entries as its
 /// number says.
 pub fn nothing_beyond()
-    ensures { (old new : State) (was is : DoorState) (names : NamesSeen old was.desk)
+    ensures { (old new : SessionState) (was is : DoorState) (names : NamesSeen old was.desk)
         → ((bytes : List ℕ) → Feeds TakesIn names.earlier bytes old new was is → NamesSeen new is.desk)
         × (Nudges TakesIn old new was is → NamesSeen new is.desk) }
 {}

@@ -2,7 +2,8 @@
 
 ghost use Rattle.std.specs.Prelude.{◌≡◌, ℕ, ◌≤◌, ◌⊎◌, [], true, List, OnOk, OnErr, IfOk, IfErr};
 ghost use Rattle.mud_nvt.specs.History.{StandsAfter};
-ghost use Rattle.mud_ends.specs.Ends.{unread, unwritten};
+ghost use Rattle.mud_ends.specs.Ends.{new_writer, unread};
+ghost use Rattle.mud_chron.specs.declared.limits.TheConstants.{MOST_ENTRIES};
 ghost use Rattle.mud_hall.specs.Alone.{alone};
 ghost use Rattle.mud_hall.specs.Steps.{lone_desk};
 ghost use Rattle.mud_session.specs.Session.{TakesNone};
@@ -47,8 +48,8 @@ pub fn script<X: Threads + Wait + Sync, R: Read, W: Write>(
     workers: u32,
 ) -> Result<(), ScriptFault>
     requires fresh { source.old ≡ unread source.old.left }
-    requires unwritten { sink.old ≡ unwritten sink.old.holds }
-    requires capacity { capacity ≤ 65536 }
+    requires unwritten { sink.old ≡ new_writer sink.old.holds }
+    requires capacity { capacity ≤ MOST_ENTRIES }
     ensures ok { OnOk result (IsWhole TakesNone capacity lone_desk source.old source.new sink.old sink.new) }
     ensures fault { OnErr result (IsFront TakesNone capacity lone_desk source.old source.new sink.old sink.new) }
     ensures reads { source.new.reads ≤ MAX_READS }
@@ -71,7 +72,7 @@ pub fn script<X: Threads + Wait + Sync, R: Read, W: Write>(
 
 // A desk of its own, at which `workers` threads search.
 fn own_desk(alloc: Global, capacity: u32, workers: u32) -> Result<Solo, AllocError>
-    requires { capacity ≤ 65536 }
+    requires { capacity ≤ MOST_ENTRIES }
     ensures { IfOk result (λ solo. solo ≡ alone capacity 1 []) }
 {
     let mut solo = Solo::open(alloc, capacity)?;

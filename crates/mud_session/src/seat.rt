@@ -2,6 +2,7 @@
 
 ghost use Rattle.std.specs.Prelude.{◌≡◌, ◌≤◌, length};
 ghost use Rattle.mud_hall.specs.Desk.{untold};
+ghost use Rattle.mud_search.specs.declared.limits.TheConstants.{MOST_WORKERS};
 
 use crate::door::Door;
 use mud_guide::Answer;
@@ -26,6 +27,7 @@ impl<'h, J: HallName> Model for Seat<'h, J> {
     ghost use Rattle.std.specs.Prelude.{◌≤◌, length};
     ghost use Rattle.mud_hall.specs.Desk.{untold};
     ghost use Rattle.mud_session.specs.State.{DoorState};
+    ghost use Rattle.mud_search.specs.declared.limits.TheConstants.{MOST_WORKERS};
 
     ghost Value = { DoorState };
 
@@ -36,13 +38,13 @@ impl<'h, J: HallName> Model for Seat<'h, J> {
 
     ghost view = { λ s. record { capacity = length J.cells; desk = s.desk.state; untold = untold s.desk } };
 
-    ghost invariant = { λ s. s.workers ≤ 8 };
+    ghost invariant = { λ s. s.workers ≤ MOST_WORKERS };
 }
 
 impl<'h, J: HallName> Seat<'h, J> {
     /// The desk at its hall. The guide searches by `workers` threads, 0 to 8; the answers are the same.
     pub fn new(hall: &'h Hall<J>, desk: Desk<J>, workers: u32) -> Seat<'h, J>
-        requires { workers ≤ 8 }
+        requires { workers ≤ MOST_WORKERS }
         ensures { result ≡ record { capacity = length J.cells; desk = desk.state; untold = untold desk } }
     {
         Seat::up_to(hall, desk, workers, u32::MAX)
@@ -51,7 +53,7 @@ impl<'h, J: HallName> Seat<'h, J> {
     /// The same, but where it looks for what others did, or answers a question, it takes in no entry after
     /// the `most`-th. A line that acts takes in all.
     pub fn up_to(hall: &'h Hall<J>, desk: Desk<J>, workers: u32, most: u32) -> Seat<'h, J>
-        requires { workers ≤ 8 }
+        requires { workers ≤ MOST_WORKERS }
         ensures { result ≡ record { capacity = length J.cells; desk = desk.state; untold = untold desk } }
     {
         Seat {
@@ -77,10 +79,10 @@ impl<'h, J: HallName> Seat<'h, J> {
     }
 
     /// How many changes were accepted at the desk.
-    pub fn accepted(&self) -> usize
+    pub fn accepted_count(&self) -> usize
         ensures { result ≡ length self.now.desk.calls }
     {
-        self.desk.accepted()
+        self.desk.accepted_count()
     }
 
     /// The desk as it is.

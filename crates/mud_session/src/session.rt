@@ -4,7 +4,7 @@ ghost use Rattle.std.specs.Prelude.{◌≡◌, ℕ, List, ◌++◌, [], false, t
 ghost use Rattle.std.specs.Prelude.{OnOk, OnErr, IfOk, string_bytes};
 ghost use Rattle.mud_nvt.specs.History.{StandsAfter};
 ghost use Rattle.mud_nvt.specs.Units.{Text};
-ghost use Rattle.mud_nvt.specs.Shown.{shown};
+ghost use Rattle.mud_nvt.specs.Shown.{unit_shown};
 
 use crate::door::Door;
 use crate::fault::SessionFault;
@@ -36,9 +36,9 @@ pub struct Session {
 }
 
 impl Model for Session {
-    ghost use Rattle.mud_session.specs.State.{State};
+    ghost use Rattle.mud_session.specs.State.{SessionState};
 
-    ghost Value = { State };
+    ghost Value = { SessionState };
 
     ghost view = { λ s. record { terminal = s.terminal; has_ended = s.has_ended; out = s.out.items } };
 }
@@ -46,11 +46,11 @@ impl Model for Session {
 impl Session {
     ghost use Rattle.mud_words.specs.Line.{line_of};
     ghost use Rattle.mud_words.specs.Words.{is_blank as blank};
-    ghost use Rattle.mud_words.specs.Parse.{parsed};
+    ghost use Rattle.mud_words.specs.Parse.{parse_of};
     ghost use Rattle.mud_rules.specs.Table.{is_question, is_quit};
     ghost use Rattle.mud_hall.specs.Desk.{with_told};
-    ghost use Rattle.mud_hall.specs.Replies.{shown as replied};
-    ghost use Rattle.mud_session.specs.Session.{sent, numbered};
+    ghost use Rattle.mud_hall.specs.Replies.{reply_shown};
+    ghost use Rattle.mud_session.specs.Session.{wire_text, with_version};
     ghost use Rattle.mud_session.specs.inner.Turning.{sends, sent_for, Told, IsSaid, HasTurn};
     ghost use Rattle.mud_session.specs.Feeding.{Feeds, Nudges};
 
@@ -60,7 +60,7 @@ impl Session {
         ensures terminal { IfOk result (λ session. StandsAfter session.terminal []) }
         ensures open_still { IfOk result (λ session. session.has_ended ≡ false) }
         ensures out { IfOk result (λ session. session.out
-            ≡ (if greet then sent (codes "Welcome. Type: connect NAME") else [])) }
+            ≡ (if greet then wire_text (codes "Welcome. Type: connect NAME") else [])) }
     {
         let mut session = Session {
             alloc,
@@ -174,7 +174,7 @@ impl Session {
     ) -> Result<(), AllocError>
         ensures over { self.old.has_ended ≡ true → (self.new ≡ self.old) × (D.state door.new ≡ D.state door.old) }
         ensures turn { OnOk result (self.old.has_ended ≡ false
-            → HasTurn D.takes_in (shown unit.now) self.old self.new (D.state door.old) (D.state door.new)) }
+            → HasTurn D.takes_in (unit_shown unit.now) self.old self.new (D.state door.old) (D.state door.new)) }
         ensures capacity { (D.state door.new).capacity ≡ (D.state door.old).capacity }
     {
         if self.has_ended {
@@ -235,7 +235,7 @@ impl Session {
     ) -> Result<(), AllocError>
         requires goes_on { self.old.has_ended ≡ false }
         requires question { is_question (line_of line.now) ≡ true }
-        ensures turn { OnOk result ((text : List ℕ) → blank text ≡ false → parsed text ≡ line_of line.now
+        ensures turn { OnOk result ((text : List ℕ) → blank text ≡ false → parse_of text ≡ line_of line.now
             → HasTurn D.takes_in (Text text) self.old self.new (D.state door.old) (D.state door.new)) }
         ensures capacity { (D.state door.new).capacity ≡ (D.state door.old).capacity }
     {
@@ -261,7 +261,7 @@ impl Session {
     ) -> Result<(), AllocError>
         requires goes_on { self.old.has_ended ≡ false }
         requires acts { is_question (line_of line.now) ≡ false }
-        ensures turn { OnOk result ((text : List ℕ) → blank text ≡ false → parsed text ≡ line_of line.now
+        ensures turn { OnOk result ((text : List ℕ) → blank text ≡ false → parse_of text ≡ line_of line.now
             → HasTurn D.takes_in (Text text) self.old self.new (D.state door.old) (D.state door.new)) }
         ensures capacity { (D.state door.new).capacity ≡ (D.state door.old).capacity }
     {
@@ -274,8 +274,8 @@ impl Session {
 
     // Sends the reply to a line that acts.
     fn say(&mut self, reply: &Result<Reply, Fault>) -> Result<(), AllocError>
-        requires { IsSaid (replied reply.now) }
-        ensures { OnOk result (self.new ≡ sends self.old (sent_for (replied reply.now))) }
+        requires { IsSaid (reply_shown reply.now) }
+        ensures { OnOk result (self.new ≡ sends self.old (sent_for (reply_shown reply.now))) }
     {
         match reply {
             Ok(Reply::Accepted { version, text }) => self.send_numbered(*version, text.as_str()),
@@ -316,7 +316,7 @@ impl Session {
 
     // Sends a reply, which names the version that it speaks of.
     fn send_numbered(&mut self, version: u32, text: &str) -> Result<(), AllocError>
-        ensures { OnOk result (self.new ≡ sends self.old (sent (numbered version text.now))) }
+        ensures { OnOk result (self.new ≡ sends self.old (wire_text (with_version version text.now))) }
     {
         self.out.reserve(text.len().saturating_add(NUMBERED_BYTES))?;
         push_on_wire(&mut self.out, b"[")?;
@@ -328,7 +328,7 @@ impl Session {
     // Sends an answer. One that is long, and longer than what is to be sent before it, is made what is sent where it
     // stands: so in all no more is moved than is sent.
     fn send_answer(&mut self, version: u32, text: String) -> Result<(), AllocError>
-        ensures { OnOk result (self.new ≡ sends self.old (sent (numbered version (string_bytes text)))) }
+        ensures { OnOk result (self.new ≡ sends self.old (wire_text (with_version version (string_bytes text)))) }
     {
         if text.len() <= self.out.len().max(COPIED_BYTES) {
             return self.send_numbered(version, text.as_str());
@@ -340,7 +340,7 @@ impl Session {
 
     // Sends a text of one or more lines.
     fn send(&mut self, text: &str) -> Result<(), AllocError>
-        ensures { OnOk result (self.new ≡ sends self.old (sent text.now)) }
+        ensures { OnOk result (self.new ≡ sends self.old (wire_text text.now)) }
     {
         push_on_wire(&mut self.out, text.as_bytes())?;
         self.send_bytes(b"\r\n")

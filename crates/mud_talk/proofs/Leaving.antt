@@ -5,14 +5,14 @@ use Rattle.std.proofs.Math.Logic.{∥∥₁_map}
 use Rattle.websocket.specs.declared.error.Error.{Error}
 use Rattle.mud_nvt.specs.History as Nvt
 use Rattle.mud_hall.specs.Desk.{DeskState, TakesIn as TakesInEntries}
-use Rattle.mud_session.specs.State.{State, DoorState}
+use Rattle.mud_session.specs.State.{SessionState, DoorState}
 use Rattle.mud_session.specs.inner.Parts.{greeting}
 use Rattle.mud_session.specs.Laws.{NamesSeen}
 use Rattle.mud_talk.proofs.Naming.{NothingBeyond}
 use Rattle.mud_session.proofs.Naming.{begins_so, taken_so, names-nil}
-use Rattle.mud_web.specs.Channel.{StandsAfter, TakesIn, EndsWith, replies as replies_to, framed}
+use Rattle.mud_web.specs.Channel.{StandsAfter, TakesIn, EndsWith, replies as replies_to, frame_of}
 use Rattle.mud_web.specs.Closing.{ending_of, closes_for}
-use Rattle.mud_web_session.specs.Web.{WebState, has_ended, saying, AnswersTyped, NudgesWeb}
+use Rattle.mud_web_session.specs.Web.{WebState, has_ended, with_output, AnswersTyped, NudgesWeb}
 use Rattle.mud_web_session.specs.Web as Web
 use Rattle.mud_web_session.proofs.Feeding.{typed_none}
 use Rattle.mud_talk.specs.Sayings.{LeavesUpTo, SaysUpTo, SitsOnWeb}
@@ -32,7 +32,7 @@ begun web desk stands out told =
       stands = stands.channel;
     }) ∣₁
 
-emptied : (s : State) → s.out ≡ [] → s ≡ record s { out = [] }
+emptied : (s : SessionState) → s.out ≡ [] → s ≡ record s { out = [] }
 emptied s is = ap (λ (o : List ℕ). record s { out = o }) is
 
 -- a step that was done
@@ -40,12 +40,12 @@ abbrev pub Done : WebState → DeskState → List ℕ → Type 0
 Done web desk out = ∥ SitsOnWeb web desk × LeavesUpTo (length desk.seen) out ∥₁
 
 said : (old new : WebState) (desk : DeskState) (text none out : List ℕ) (old_desk : DeskState)
-    → SitsOnWeb old old_desk → NamesSeen (saying new.session text) desk → new.session.out ≡ []
-    → new.channel ≡ old.channel → none ≡ [] → out ≡ none ++ framed text
+    → SitsOnWeb old old_desk → NamesSeen (with_output new.session text) desk → new.session.out ≡ []
+    → new.channel ≡ old.channel → none ≡ [] → out ≡ none ++ frame_of text
     → SitsOnWeb new desk × LeavesUpTo (length desk.seen) out
 said old new desk text none out old_desk sits seen taken channel nothing is = (
   record {
-    names = taken_so (saying new.session text) new.session desk seen (emptied new.session taken);
+    names = taken_so (with_output new.session text) new.session desk seen (emptied new.session taken);
     earlier = sits.earlier;
     stands = subst (λ c. StandsAfter c sits.earlier) (sym channel) sits.stands;
   },
@@ -54,8 +54,8 @@ said old new desk text none out old_desk sits seen taken channel nothing is = (
     said = text;
     ending = None;
     names = seen.out;
-    is = is ∙ ap (λ (l : List ℕ). l ++ framed text) nothing
-        ∙ sym (append-nil (framed text));
+    is = is ∙ ap (λ (l : List ℕ). l ++ frame_of text) nothing
+        ∙ sym (append-nil (frame_of text));
   },
 )
 
@@ -65,7 +65,7 @@ pub fed : (law : NothingBeyond) (old new : WebState) (was is : DoorState) (line 
 fed law old new was is line none out sits going nothing answers =
     ∥∥₁_map sits (λ sat.
     let s = sat going in
-    let seen = (law old.session (saying new.session answers.said) was is s.names).0 line
+    let seen = (law old.session (with_output new.session answers.said) was is s.names).0 line
     (answers.feeds s.names.earlier s.names.stands) in
     said old new is.desk answers.said none out was.desk s seen answers.taken answers.channel nothing answers.out)
 
@@ -75,7 +75,7 @@ pub nudged : (law : NothingBeyond) (old new : WebState) (was is : DoorState) (no
 nudged law old new was is none out sits going nothing nudges =
     ∥∥₁_map sits (λ sat.
     let s = sat going in
-    let seen = (law old.session (saying new.session nudges.said) was is s.names).1 nudges.nudges in
+    let seen = (law old.session (with_output new.session nudges.said) was is s.names).1 nudges.nudges in
     said old new is.desk nudges.said none out was.desk s seen nudges.taken nudges.channel nothing nudges.out)
 
 -- what leaves is what is held

@@ -5,7 +5,7 @@ use Rattle.std.proofs.Math.Logic.{∥∥₁_map}
 use Rattle.mud_nvt.specs.History.{StandsAfter}
 use Rattle.mud_hall.specs.Desk.{DeskState, TakesIn}
 use Rattle.mud_session.specs.declared.fault.SessionFault.TheVariants.{Ended}
-use Rattle.mud_session.specs.State.{State, DoorState}
+use Rattle.mud_session.specs.State.{SessionState, DoorState}
 use Rattle.mud_session.specs.Feeding.{Feeds, Nudges}
 use Rattle.mud_session.specs.inner.Parts.{greeting}
 use Rattle.mud_session.specs.Naming.{NamesUpTo}
@@ -16,7 +16,7 @@ use Rattle.mud_talk.specs.Sayings.{SaysUpTo}
 -- what `mud_session::laws::nothing_beyond` says
 abbrev pub NothingBeyond : Type 0
 NothingBeyond =
-    (old new : State) (was is : DoorState) (names : NamesSeen old was.desk)
+    (old new : SessionState) (was is : DoorState) (names : NamesSeen old was.desk)
     → ((bytes : List ℕ) → Feeds TakesIn names.earlier bytes old new was is → NamesSeen new is.desk)
     × (Nudges TakesIn old new was is → NamesSeen new is.desk)
 
@@ -26,7 +26,7 @@ goes_on : {A F : Type 0} (x : A) (fault : F) (has_ended : Bool) → (has_ended �
 goes_on x fault true over = let clash = over refl in absurd (cc)
 goes_on x fault false over = refl
 
-pub fed : {A : Type 0} (x : A) (law : NothingBeyond) (old new : State) (was is : DoorState) (bytes : List ℕ)
+pub fed : {A : Type 0} (x : A) (law : NothingBeyond) (old new : SessionState) (was is : DoorState) (bytes : List ℕ)
     → ∥ (old.has_ended ≡ false → NamesSeen old was.desk) ∥₁
     → (old.has_ended ≡ true → Ok x ≡ Err Ended)
     → ((earlier : List ℕ) → StandsAfter old.terminal earlier → Feeds TakesIn earlier bytes old new was is)
@@ -36,14 +36,14 @@ fed x law old new was is bytes names over feeds =
     let seen = named (goes_on x Ended old.has_ended over) in
     (law old new was is seen).0 bytes (feeds seen.earlier seen.stands))
 
-pub nudged : {A : Type 0} (x : A) (law : NothingBeyond) (old new : State) (was is : DoorState)
+pub nudged : {A : Type 0} (x : A) (law : NothingBeyond) (old new : SessionState) (was is : DoorState)
     → ∥ (old.has_ended ≡ false → NamesSeen old was.desk) ∥₁
     → (old.has_ended ≡ true → Ok x ≡ Err Ended) → Nudges TakesIn old new was is → ∥ NamesSeen new is.desk ∥₁
 nudged x law old new was is names over nudges =
     ∥∥₁_map names (λ named. (law old new was is (named (goes_on x Ended old.has_ended over))).1 nudges)
 
 -- what it gives to be sent
-pub out_named : (session : State) (desk : DeskState) (text : List ℕ) (version : ℕ) → ∥ NamesSeen session desk ∥₁
+pub out_named : (session : SessionState) (desk : DeskState) (text : List ℕ) (version : ℕ) → ∥ NamesSeen session desk ∥₁
     → text ≡ session.out → version ≡ length desk.seen → ∥ SaysUpTo version text ∥₁
 out_named session desk text version names is long =
     ∥∥₁_map names (λ named.
@@ -54,10 +54,10 @@ pub none_named : (text : List ℕ) (version : ℕ) → text ≡ [] → ∥ SaysU
 none_named text version is = ∣ inl (subst (NamesUpTo version) (sym is) (names-nil version)) ∣₁
 
 -- what was to be sent was taken out
-pub taken : (old new : State) (desk : DeskState) → ∥ NamesSeen old desk ∥₁ → new ≡ record old { out = [] }
+pub taken : (old new : SessionState) (desk : DeskState) → ∥ NamesSeen old desk ∥₁ → new ≡ record old { out = [] }
     → ∥ (new.has_ended ≡ false → NamesSeen new desk) ∥₁
 taken old new desk names is = ∥∥₁_map names (λ named e. taken_so old new desk named is)
 
-pub begun : (session : State) (desk : DeskState) → StandsAfter session.terminal [] → session.out ≡ greeting
+pub begun : (session : SessionState) (desk : DeskState) → StandsAfter session.terminal [] → session.out ≡ greeting
     → desk.told ≡ [] → ∥ (session.has_ended ≡ false → NamesSeen session desk) ∥₁
 begun session desk stands out told = ∣ (λ e. begins_so session desk true stands out told) ∣₁

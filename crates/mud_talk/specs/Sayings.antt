@@ -3,7 +3,7 @@ use Rattle.std.specs.Prelude.{◌≡◌, ◌⊎◌, ℕ, List, ◌++◌, Option}
 use Rattle.websocket.specs.Connection.{Effect}
 use Rattle.mud_hall.specs.Desk.{DeskState}
 use Rattle.mud_web.specs.declared.closing.Ending.{Ending}
-use Rattle.mud_web.specs.Channel.{StandsAfter, replies, framed}
+use Rattle.mud_web.specs.Channel.{StandsAfter, replies, frame_of}
 use Rattle.mud_web.specs.Closing.{closes}
 use Rattle.mud_session.specs.Naming.{NamesUpTo}
 use Rattle.mud_session.specs.Laws.{NamesSeen}
@@ -15,7 +15,7 @@ pub record LeavesUpTo (most : ℕ) (bytes : List ℕ) : Type 0 where
   pub said : List ℕ
   pub ending : Option Ending
   pub names : NamesUpTo most said
-  pub is : bytes ≡ replies answered ++ framed said ++ closes ending
+  pub is : bytes ≡ replies answered ++ frame_of said ++ closes ending
 
 -- what leaves by Telnet is the text itself
 abbrev pub SaysUpTo : ℕ → List ℕ → Type 0

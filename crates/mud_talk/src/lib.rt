@@ -9,7 +9,7 @@ mod talk;
 mod telnet_talk;
 mod web_talk;
 
-pub use step::{Sayings, Step};
+pub use step::{Sayings, TalkStep};
 pub use talk::Talk;
 pub use telnet_talk::TelnetTalk;
 pub use web_talk::WebTalk;

@@ -14,7 +14,7 @@ impl Telling for Sayings {
 
 /// A talk after a step, what the step gives to be sent, and what came of it.
 #[derive(Drop)]
-pub struct Step<T> {
+pub struct TalkStep<T> {
     /// The talk.
     pub talk: T,
     /// What is to be sent, once what it may name is synced: all that the desk has seen.

@@ -1,8 +1,9 @@
 //! A session, and its desk, by whichever entrance it came.
 
 ghost use Rattle.std.specs.Prelude.{◌≤◌};
+ghost use Rattle.mud_search.specs.declared.limits.TheConstants.{MOST_WORKERS};
 
-use crate::step::Step;
+use crate::step::TalkStep;
 use crate::telnet_talk::TelnetTalk;
 use crate::web_talk::WebTalk;
 use mud_hall::{Desk, Hall, HallName};
@@ -20,8 +21,8 @@ pub enum Talk<J: HallName> {
 }
 
 // A step by Telnet.
-fn by_telnet<J: HallName>(step: Step<TelnetTalk<J>>) -> Step<Talk<J>> {
-    Step {
+fn by_telnet<J: HallName>(step: TalkStep<TelnetTalk<J>>) -> TalkStep<Talk<J>> {
+    TalkStep {
         talk: Talk::Telnet(step.talk),
         text: step.text,
         parting: step.parting,
@@ -30,8 +31,8 @@ fn by_telnet<J: HallName>(step: Step<TelnetTalk<J>>) -> Step<Talk<J>> {
 }
 
 // A step over a web socket.
-fn by_web<J: HallName>(step: Step<WebTalk<J>>) -> Step<Talk<J>> {
-    Step {
+fn by_web<J: HallName>(step: TalkStep<WebTalk<J>>) -> TalkStep<Talk<J>> {
+    TalkStep {
         talk: Talk::Web(step.talk),
         text: step.text,
         parting: step.parting,
@@ -47,8 +48,8 @@ impl<J: HallName> Talk<J> {
         hall: &Hall<J>,
         workers: u32,
         typed: &[u8],
-    ) -> Step<Talk<J>>
-        requires { workers ≤ 8 }
+    ) -> TalkStep<Talk<J>>
+        requires { workers ≤ MOST_WORKERS }
     {
         match self {
             Talk::Telnet(talk) => by_telnet(talk.feed(rt, hall, workers, typed)),
@@ -57,8 +58,8 @@ impl<J: HallName> Talk<J> {
     }
 
     /// Has the session look for what others did, at none of the entries after the `most`-th.
-    pub fn nudge(self, hall: &Hall<J>, workers: u32, most: u32) -> Step<Talk<J>>
-        requires { workers ≤ 8 }
+    pub fn nudge(self, hall: &Hall<J>, workers: u32, most: u32) -> TalkStep<Talk<J>>
+        requires { workers ≤ MOST_WORKERS }
     {
         match self {
             Talk::Telnet(talk) => by_telnet(talk.nudge(hall, workers, most)),

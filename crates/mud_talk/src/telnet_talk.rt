@@ -3,9 +3,10 @@
 ghost use Rattle.std.specs.Prelude.{◌≡◌, ◌≤◌, [], codes, true, false};
 ghost use Rattle.mud_nvt.specs.History.{StandsAfter};
 ghost use Rattle.mud_session.specs.Laws.{NamesSeen};
-ghost use Rattle.mud_session.specs.Session.{sent};
+ghost use Rattle.mud_session.specs.Session.{wire_text};
+ghost use Rattle.mud_search.specs.declared.limits.TheConstants.{MOST_WORKERS};
 
-use crate::step::{Sayings, Step};
+use crate::step::{Sayings, TalkStep};
 use mud_hall::{Desk, Hall, HallName};
 use mud_journal::Held;
 use mud_session::laws::nothing_beyond;
@@ -26,7 +27,7 @@ impl<J: HallName> TelnetTalk<J> {
     /// A session to which nothing came, and which is to greet, at the desk, which is a guest's again.
     pub fn new(session: Session, desk: Desk<J>) -> TelnetTalk<J>
         requires stands { StandsAfter session.terminal [] }
-        requires out { session.out ≡ sent (codes "Welcome. Type: connect NAME") }
+        requires out { session.out ≡ wire_text (codes "Welcome. Type: connect NAME") }
     {
         let mut desk = desk;
         desk.guest();
@@ -40,12 +41,12 @@ impl<J: HallName> TelnetTalk<J> {
         text: Held<Sayings>,
         before: usize,
         parting: Option<Parting>,
-    ) -> Step<TelnetTalk<J>>
+    ) -> TalkStep<TelnetTalk<J>>
         requires { ∥ (session.has_ended ≡ false → NamesSeen session seat.desk) ∥₁ }
     {
-        let has_changed = seat.accepted() > before;
+        let has_changed = seat.accepted_count() > before;
         let desk = seat.into_desk();
-        Step {
+        TalkStep {
             talk: TelnetTalk { session, desk },
             text,
             parting,
@@ -54,7 +55,7 @@ impl<J: HallName> TelnetTalk<J> {
     }
 
     // After a step that was done: what it says is to be sent.
-    fn told(session: Session, seat: Seat<'_, J>, before: usize) -> Step<TelnetTalk<J>>
+    fn step_done(session: Session, seat: Seat<'_, J>, before: usize) -> TalkStep<TelnetTalk<J>>
         requires { ∥ NamesSeen session seat.desk ∥₁ }
     {
         let mut session = session;
@@ -67,12 +68,12 @@ impl<J: HallName> TelnetTalk<J> {
     }
 
     // After a step that was not done: nothing is sent, since nobody promises what it names.
-    fn silenced(
+    fn step_refused(
         session: Session,
         seat: Seat<'_, J>,
         before: usize,
         fault: &SessionFault,
-    ) -> Step<TelnetTalk<J>>
+    ) -> TalkStep<TelnetTalk<J>>
         requires { session.has_ended ≡ true }
     {
         let mut session = session;
@@ -93,32 +94,32 @@ impl<J: HallName> TelnetTalk<J> {
         hall: &Hall<J>,
         workers: u32,
         bytes: &[u8],
-    ) -> Step<TelnetTalk<J>>
-        requires { workers ≤ 8 }
+    ) -> TalkStep<TelnetTalk<J>>
+        requires { workers ≤ MOST_WORKERS }
     {
         let TelnetTalk { mut session, desk } = self;
         let mut seat = Seat::new(hall, desk, workers);
-        let before = seat.accepted();
+        let before = seat.accepted_count();
         // for the prover: the law that a session names no version beyond what its desk has seen
         nothing_beyond();
         match session.feed(rt, &mut seat, bytes) {
-            Ok(()) => TelnetTalk::told(session, seat, before),
-            Err(fault) => TelnetTalk::silenced(session, seat, before, &fault),
+            Ok(()) => TelnetTalk::step_done(session, seat, before),
+            Err(fault) => TelnetTalk::step_refused(session, seat, before, &fault),
         }
     }
 
     /// Has the session look for what others did, at none of the entries after the `most`-th.
-    pub fn nudge(self, hall: &Hall<J>, workers: u32, most: u32) -> Step<TelnetTalk<J>>
-        requires { workers ≤ 8 }
+    pub fn nudge(self, hall: &Hall<J>, workers: u32, most: u32) -> TalkStep<TelnetTalk<J>>
+        requires { workers ≤ MOST_WORKERS }
     {
         let TelnetTalk { mut session, desk } = self;
         let mut seat = Seat::up_to(hall, desk, workers, most);
-        let before = seat.accepted();
+        let before = seat.accepted_count();
         // for the prover: the law that a session names no version beyond what its desk has seen
         nothing_beyond();
         match session.nudge(&mut seat) {
-            Ok(()) => TelnetTalk::told(session, seat, before),
-            Err(fault) => TelnetTalk::silenced(session, seat, before, &fault),
+            Ok(()) => TelnetTalk::step_done(session, seat, before),
+            Err(fault) => TelnetTalk::step_refused(session, seat, before, &fault),
         }
     }
 

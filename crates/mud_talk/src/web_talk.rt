@@ -1,11 +1,12 @@
 //! A session over a web socket, and its desk.
 
 ghost use Rattle.std.specs.Prelude.{◌≡◌, ◌≤◌, ◌⊎◌, [], codes, length, true, false};
-ghost use Rattle.mud_session.specs.Session.{sent};
+ghost use Rattle.mud_session.specs.Session.{wire_text};
 ghost use Rattle.mud_web_session.specs.Web.{StandsAfter, has_ended};
 ghost use Rattle.mud_talk.specs.Sayings.{LeavesUpTo, SitsOnWeb};
+ghost use Rattle.mud_search.specs.declared.limits.TheConstants.{MOST_WORKERS};
 
-use crate::step::{Sayings, Step};
+use crate::step::{Sayings, TalkStep};
 use mud_hall::{Desk, Hall, HallName};
 use mud_journal::Held;
 use mud_session::Seat;
@@ -57,7 +58,7 @@ impl<J: HallName> WebTalk<J> {
     /// A session to which nothing came, and which is to greet, at the desk, which is a guest's again.
     pub fn new(alloc: Global, web: WebSession, desk: Desk<J>) -> WebTalk<J>
         requires stands { StandsAfter web [] }
-        requires out { web.session.out ≡ sent (codes "Welcome. Type: connect NAME") }
+        requires out { web.session.out ≡ wire_text (codes "Welcome. Type: connect NAME") }
     {
         let mut desk = desk;
         desk.guest();
@@ -71,11 +72,11 @@ impl<J: HallName> WebTalk<J> {
         desk: Desk<J>,
         replies: Vec<u8>,
         parting: Option<Parting>,
-    ) -> Step<WebTalk<J>>
+    ) -> TalkStep<WebTalk<J>>
         requires sits { ∥ (has_ended web ≡ false → SitsOnWeb web desk.state) ∥₁ }
         requires leaves { ∥ LeavesUpTo 0 replies.items ∥₁ }
     {
-        Step {
+        TalkStep {
             talk: WebTalk { alloc, web, desk },
             text: Held::new(replies, 0),
             parting,
@@ -84,7 +85,7 @@ impl<J: HallName> WebTalk<J> {
     }
 
     // After it has ended: nothing is sent.
-    fn lost(alloc: Global, web: WebSession, desk: Desk<J>, parting: Parting) -> Step<WebTalk<J>>
+    fn lost(alloc: Global, web: WebSession, desk: Desk<J>, parting: Parting) -> TalkStep<WebTalk<J>>
         requires { has_ended web ≡ true }
     {
         WebTalk::took(alloc, web, desk, Vec::new(alloc), Some(parting))
@@ -93,7 +94,7 @@ impl<J: HallName> WebTalk<J> {
     /// Takes the next bytes of the socket in: what they type is added to `typed`, and is to be fed line by line. The
     /// replies of the protocol are to be sent before that. Where the frames end the session, what was typed before is
     /// still to be fed, though it gets no answer, and the replies, with a close after them, are the last to be sent.
-    pub fn take_in(self, bytes: &[u8], typed: &mut Vec<u8>) -> Step<WebTalk<J>> {
+    pub fn take_in(self, bytes: &[u8], typed: &mut Vec<u8>) -> TalkStep<WebTalk<J>> {
         let WebTalk {
             alloc,
             mut web,
@@ -123,12 +124,12 @@ impl<J: HallName> WebTalk<J> {
         text: Held<Sayings>,
         before: usize,
         parting: Option<Parting>,
-    ) -> Step<WebTalk<J>>
+    ) -> TalkStep<WebTalk<J>>
         requires { ∥ (has_ended web ≡ false → SitsOnWeb web seat.desk) ∥₁ }
     {
-        let has_changed = seat.accepted() > before;
+        let has_changed = seat.accepted_count() > before;
         let desk = seat.into_desk();
-        Step {
+        TalkStep {
             talk: WebTalk { alloc, web, desk },
             text,
             parting,
@@ -137,13 +138,13 @@ impl<J: HallName> WebTalk<J> {
     }
 
     // After a step that was done: what it says is to be sent.
-    fn told(
+    fn step_done(
         alloc: Global,
         web: WebSession,
         seat: Seat<'_, J>,
         out: Vec<u8>,
         before: usize,
-    ) -> Step<WebTalk<J>>
+    ) -> TalkStep<WebTalk<J>>
         requires sits { ∥ SitsOnWeb web seat.desk ∥₁ }
         requires leaves { ∥ LeavesUpTo (length seat.desk.seen) out.items ∥₁ }
     {
@@ -156,14 +157,14 @@ impl<J: HallName> WebTalk<J> {
     }
 
     // After a step that was not done: nothing is sent, since nobody promises what it names.
-    fn silenced(
+    fn step_refused(
         alloc: Global,
         web: WebSession,
         seat: Seat<'_, J>,
         out: Vec<u8>,
         before: usize,
         parting: Parting,
-    ) -> Step<WebTalk<J>>
+    ) -> TalkStep<WebTalk<J>>
         requires { has_ended web ≡ true }
     {
         let mut out = out;
@@ -179,14 +180,14 @@ impl<J: HallName> WebTalk<J> {
         web: WebSession,
         seat: Seat<'_, J>,
         typed: &[u8],
-    ) -> Step<WebTalk<J>> {
+    ) -> TalkStep<WebTalk<J>> {
         let mut web = web;
         let mut seat = seat;
-        let before = seat.accepted();
+        let before = seat.accepted_count();
         let mut out = Vec::new(alloc);
         let _ = web.answer(rt, &mut seat, typed, &mut out);
         let _ = web.close(Close::Normal, &mut out);
-        WebTalk::silenced(alloc, web, seat, out, before, Parting::Left)
+        WebTalk::step_refused(alloc, web, seat, out, before, Parting::Left)
     }
 
     /// Gives the session what was typed. One that has ended does it, and says nothing.
@@ -196,8 +197,8 @@ impl<J: HallName> WebTalk<J> {
         hall: &Hall<J>,
         workers: u32,
         typed: &[u8],
-    ) -> Step<WebTalk<J>>
-        requires { workers ≤ 8 }
+    ) -> TalkStep<WebTalk<J>>
+        requires { workers ≤ MOST_WORKERS }
     {
         let WebTalk {
             alloc,
@@ -208,19 +209,19 @@ impl<J: HallName> WebTalk<J> {
         if web.ended() {
             return WebTalk::finish(rt, alloc, web, seat, typed);
         }
-        let before = seat.accepted();
+        let before = seat.accepted_count();
         let mut out = Vec::new(alloc);
         // for the prover: the law that a session names no version beyond what its desk has seen
         nothing_beyond();
         match web.answer(rt, &mut seat, typed, &mut out) {
-            Ok(()) => WebTalk::told(alloc, web, seat, out, before),
-            Err(fault) => WebTalk::silenced(alloc, web, seat, out, before, parting_of(&fault)),
+            Ok(()) => WebTalk::step_done(alloc, web, seat, out, before),
+            Err(fault) => WebTalk::step_refused(alloc, web, seat, out, before, parting_of(&fault)),
         }
     }
 
     /// Has the session look for what others did, at none of the entries after the `most`-th.
-    pub fn nudge(self, hall: &Hall<J>, workers: u32, most: u32) -> Step<WebTalk<J>>
-        requires { workers ≤ 8 }
+    pub fn nudge(self, hall: &Hall<J>, workers: u32, most: u32) -> TalkStep<WebTalk<J>>
+        requires { workers ≤ MOST_WORKERS }
     {
         let WebTalk {
             alloc,
@@ -231,13 +232,13 @@ impl<J: HallName> WebTalk<J> {
             return WebTalk::lost(alloc, web, desk, Parting::Left);
         }
         let mut seat = Seat::up_to(hall, desk, workers, most);
-        let before = seat.accepted();
+        let before = seat.accepted_count();
         let mut out = Vec::new(alloc);
         // for the prover: the law that a session names no version beyond what its desk has seen
         nothing_beyond();
         match web.nudge(&mut seat, &mut out) {
-            Ok(()) => WebTalk::told(alloc, web, seat, out, before),
-            Err(fault) => WebTalk::silenced(alloc, web, seat, out, before, parting_of(&fault)),
+            Ok(()) => WebTalk::step_done(alloc, web, seat, out, before),
+            Err(fault) => WebTalk::step_refused(alloc, web, seat, out, before, parting_of(&fault)),
         }
     }
 

@@ -13,7 +13,7 @@ fn read_line(mut stream: &TcpStream, line: &mut String) -> io::Result<()> {
         if stream.read(&mut byte)? == 0 || byte[0] == b'\n' {
             break;
         }
-        if byte[0] >= 32 && byte[0] < 127 {
+        if matches!(byte[0], b' '..=b'~') {
             line.push(char::from(byte[0]))?;
         }
     }
@@ -39,7 +39,7 @@ fn talk(stream: &TcpStream, lines: &str, heard: &mut String) -> io::Result<()> {
 }
 
 // Comes to a server, and waits at most twenty seconds for a line.
-fn connected<R: Net<Listener = TcpListener, Stream = TcpStream>>(
+fn connect<R: Net<Listener = TcpListener, Stream = TcpStream>>(
     rt: &R,
     address: SocketAddr,
 ) -> io::Result<TcpStream> {
@@ -58,7 +58,7 @@ pub(crate) fn play<R: Net<Listener = TcpListener, Stream = TcpStream>>(
 ) -> io::Result<String> {
     let mut heard = String::new(alloc);
     if !lines.is_empty() {
-        talk(&connected(rt, address)?, lines, &mut heard)?;
+        talk(&connect(rt, address)?, lines, &mut heard)?;
     }
     Ok(heard)
 }

@@ -2,7 +2,9 @@
 //! what lies under a lock, or whether a cell is found that another desk has set.
 
 ghost use Rattle.std.specs.Prelude.{◌≡◌, ◌≤◌};
+ghost use Rattle.mud_chron.specs.declared.limits.TheConstants.{MOST_ENTRIES};
 
+use crate::histories::LAST_VERSION;
 use mud_hall::{CloseFault, Desk, Fault, Hall, HallName, NewHall};
 use std::alloc::{AllocError, Global};
 use std::marker::{Brand, PhantomData};
@@ -40,7 +42,7 @@ impl<J: HallName> Talks<Hall<J>, Desk<J>> for OfHall<J> {
 }
 
 // Each desk talks, on a thread of its own.
-fn talked<H: Sync, D: Send + Drop, K: Talks<H, D> + Send + Sync, R: Threads + Wait + Sync>(
+fn talk_all<H: Sync, D: Send + Drop, K: Talks<H, D> + Send + Sync, R: Threads + Wait + Sync>(
     rt: &R,
     hall: &H,
     desks: Vec<D>,
@@ -50,7 +52,7 @@ fn talked<H: Sync, D: Send + Drop, K: Talks<H, D> + Send + Sync, R: Threads + Wa
 }
 
 // So many desks.
-fn given<J: HallName, R: Wait>(
+fn give_desks<J: HallName, R: Wait>(
     rt: &R,
     alloc: Global,
     hall: &Hall<J>,
@@ -64,22 +66,22 @@ fn given<J: HallName, R: Wait>(
 }
 
 // So many desks, which talked at once.
-fn crowded<J: HallName + Send + Sync, R: Threads + Wait + Sync>(
+fn crowd_desks<J: HallName + Send + Sync, R: Threads + Wait + Sync>(
     rt: &R,
     alloc: Global,
     hall: &Hall<J>,
     count: u32,
     lines: u32,
 ) -> Result<Vec<Desk<J>>, Fail> {
-    let desks = given(rt, alloc, hall, count)?;
-    Ok(talked::<Hall<J>, Desk<J>, OfHall<J>, R>(rt, hall, desks, lines)?)
+    let desks = give_desks(rt, alloc, hall, count)?;
+    Ok(talk_all::<Hall<J>, Desk<J>, OfHall<J>, R>(rt, hall, desks, lines)?)
 }
 
 // How many changes were accepted at these desks.
-fn accepted<J: HallName>(desks: &[Desk<J>]) -> usize {
+fn count_accepted<J: HallName>(desks: &[Desk<J>]) -> usize {
     let mut accepted = 0_usize;
     for desk in desks {
-        accepted = accepted.saturating_add(desk.accepted());
+        accepted = accepted.saturating_add(desk.accepted_count());
     }
     accepted
 }
@@ -93,7 +95,7 @@ fn is_full<J: HallName, R: Wait>(rt: &R, hall: &Hall<J>, desk: &mut Desk<J>) -> 
 }
 
 // Closes a hall with these desks and one more; how many entries there are.
-fn closed<J: HallName, R: Wait>(
+fn close_hall<J: HallName, R: Wait>(
     rt: &R,
     hall: Hall<J>,
     desks: Vec<Desk<J>>,
@@ -121,7 +123,7 @@ fn closed_at_last<J: HallName, R: Wait + Abort>(
         Err((hall, desks, fault)) => {
             assert!(rt; fault == CloseFault::Missing(last.number()));
             assert!(rt; is_full(rt, &hall, &mut last) == full);
-            closed(rt, hall, desks, last)
+            close_hall(rt, hall, desks, last)
         }
     }
 }
@@ -168,12 +170,12 @@ fn check_crowd_in<J: HallName + Send + Sync, R: Threads + Wait + Sync + Abort>(
     requires cells { hall.cells ≡ J.cells }
     requires loaded { hall.loaded ≡ J.loaded }
 {
-    let hall = hall.named::<J>();
+    let hall = hall.with_name::<J>();
     if count == 0 {
         return Ok(seen_at_last(rt, &hall)?);
     }
-    let mut desks = crowded(rt, alloc, &hall, count, lines)?;
-    assert!(rt; accepted(&desks) == wanted as usize);
+    let mut desks = crowd_desks(rt, alloc, &hall, count, lines)?;
+    assert!(rt; count_accepted(&desks) == wanted as usize);
     match desks.pop() {
         Some(last) => closed_at_last(rt, hall, desks, last, full),
         None => Ok(0),
@@ -190,7 +192,7 @@ fn check_crowd<R: Threads + Wait + Sync + Abort>(
     wanted: u32,
     entries: u32,
 ) -> Result<(), Fail>
-    requires { (1 ≤ capacity) × (capacity ≤ 65536) }
+    requires { (1 ≤ capacity) × (capacity ≤ MOST_ENTRIES) }
 {
     let hall = NewHall::open(alloc, capacity)?;
     let full = entries == capacity;
@@ -208,6 +210,6 @@ fn check_crowd<R: Threads + Wait + Sync + Abort>(
 fn crowds(rt: HostRuntime) -> Result<(), Fail> {
     check_crowd(&rt, rt.alloc(), 16, 0, 0, 0, 7)?;
     check_crowd(&rt, rt.alloc(), 256, 4, 50, 200, 201)?;
-    check_crowd(&rt, rt.alloc(), 65_536, 8, 5_000, 40_000, 40_001)?;
+    check_crowd(&rt, rt.alloc(), LAST_VERSION, 8, 5_000, 40_000, 40_001)?;
     check_crowd(&rt, rt.alloc(), 100, 4, 50, 100, 100)
 }

@@ -5,7 +5,7 @@ ghost use Rattle.std.specs.Prelude.{◌≤◌};
 use crate::rows::same;
 use crate::village::world;
 use mud_cert::{check, read};
-use mud_chron::{Entry, read_history, write_entry, write_history};
+use mud_chron::{Entry, MOST_ENTRIES, read_history, write_entry, write_history};
 use mud_verdict::verdict;
 use std::alloc::{AllocError, Global};
 use std::process::Abort;
@@ -64,6 +64,9 @@ route #2 cost 1
 end
 ";
 
+/// The version of a history that is full.
+pub(crate) const LAST_VERSION: u32 = MOST_ENTRIES as u32;
+
 // Appends the line of a copy of an entry.
 fn push_copy(
     alloc: Global,
@@ -71,7 +74,7 @@ fn push_copy(
     entry: &Entry,
     text: &mut String,
 ) -> Result<(), AllocError>
-    requires { (1 ≤ version) × (version ≤ 65536) }
+    requires { (1 ≤ version) × (version ≤ MOST_ENTRIES) }
 {
     let copy = entry.copy(alloc)?;
     write_entry(alloc, version, &copy, text)
@@ -81,7 +84,7 @@ fn push_copy(
 fn push_copies(alloc: Global, entries: &[Entry], text: &mut String) -> Result<(), AllocError> {
     let mut version = 0_u32;
     for entry in entries {
-        version = version.wrapping_add(1).clamp(1, 65_536);
+        version = version.wrapping_add(1).clamp(1, LAST_VERSION);
         push_copy(alloc, version, entry, text)?;
     }
     Ok(())
@@ -102,7 +105,7 @@ fn push_whole(
     entries: &[Entry],
     text: &mut String,
 ) -> Result<(), AllocError> {
-    assert!(rt; entries.len() <= 65_536);
+    assert!(rt; entries.len() <= MOST_ENTRIES);
     write_history(alloc, entries, text)
 }
 
@@ -143,7 +146,7 @@ fn a_history_is_written_as_it_was_read(rt: HostRuntime) -> Result<(), Fail> {
 }
 
 // A certificate as it is written.
-fn written(alloc: Global, proof: &str) -> Result<String, Fail> {
+fn certificate_text(alloc: Global, proof: &str) -> Result<String, Fail> {
     let mut text = String::new(alloc);
     read(alloc, proof.as_bytes())?.write(alloc, &mut text)?;
     Ok(text)
@@ -158,11 +161,16 @@ fn is_valid(alloc: Global, history: &str, proof: &str) -> Result<bool, Fail> {
 #[test]
 fn a_certificate_is_read_written_and_judged(rt: HostRuntime) -> Result<(), Fail> {
     let alloc = rt.alloc();
-    same(&rt, "journey", written(alloc, PROOF)?.as_str(), PROOF);
+    same(
+        &rt,
+        "journey",
+        certificate_text(alloc, PROOF)?.as_str(),
+        PROOF,
+    );
     same(
         &rt,
         "library",
-        written(alloc, TO_LIBRARY)?.as_str(),
+        certificate_text(alloc, TO_LIBRARY)?.as_str(),
         TO_LIBRARY,
     );
     assert!(rt; is_valid(alloc, WAY_ROUND, PROOF)?);

@@ -1,13 +1,16 @@
 //! Journals on a disk in memory, of which each call fails in turn; by their own calls, and under a server.
 
 ghost use Rattle.std.specs.Prelude.{◌≤◌};
+ghost use Rattle.mud_chron.specs.declared.limits.TheConstants.{MOST_ENTRIES};
+ghost use Rattle.mud_search.specs.declared.limits.TheConstants.{MOST_WORKERS};
 
 use crate::client::play;
 use crate::rows::same;
 use log::Log;
+use mud_chron::limits::MOST_DESKS;
 use mud_chron::{ChronFault, Entry, read_front};
 use mud_ends::Sink;
-use mud_journal::{Disk, DiskFault, Found, Journal, JournalFault, OpenFault, recovered};
+use mud_journal::{Disk, DiskFault, Found, Journal, JournalFault, OpenFault, recover};
 use mud_listen::{Doors, Limits, ListenFault, listen_journaled};
 use std::alloc::{AllocError, Global};
 use std::io::Write;
@@ -106,7 +109,12 @@ fn commit(
 }
 
 // Adds what these entries have more than a disk; how many of them are synced then.
-fn added(rt: &impl Abort, alloc: Global, found: Found<MemoryDisk<'_>>, entries: &[Entry]) -> usize {
+fn add_entries(
+    rt: &impl Abort,
+    alloc: Global,
+    found: Found<MemoryDisk<'_>>,
+    entries: &[Entry],
+) -> usize {
     let had = found.len();
     match found.begin() {
         Ok(mut journal) => {
@@ -123,12 +131,12 @@ fn found_on<'s>(
     store: &'s mut Store,
     bytes: &[u8],
 ) -> Result<Found<MemoryDisk<'s>>, OpenFault> {
-    let (found, _, _) = recovered(alloc, MemoryDisk { store }, bytes)?;
+    let (found, _, _) = recover(alloc, MemoryDisk { store }, bytes)?;
     Ok(found)
 }
 
 // Adds what these entries have more than the disk; how many were found there, and how many are synced.
-fn completed(
+fn complete(
     rt: &impl Abort,
     alloc: Global,
     store: &mut Store,
@@ -137,7 +145,7 @@ fn completed(
 ) -> Result<(usize, usize), OpenFault> {
     let found = found_on(alloc, store, bytes)?;
     let had = found.len();
-    Ok((had, added(rt, alloc, found, entries)))
+    Ok((had, add_entries(rt, alloc, found, entries)))
 }
 
 // A disk on which these bytes are.
@@ -155,7 +163,7 @@ fn check_front(
     synced: usize,
 ) -> Result<(), Fail> {
     let mut store = disk_of(alloc, left)?;
-    let (had, _) = completed(rt, alloc, &mut store, left, entries)?;
+    let (had, _) = complete(rt, alloc, &mut store, left, entries)?;
     assert!(rt; synced <= had && store.bytes.as_slice() == text.as_bytes());
     Ok(())
 }
@@ -200,7 +208,7 @@ fn check_fault(
     fails_at: u32,
 ) -> Result<(), Fail> {
     let mut store = Store::new(Vec::new(alloc), fails_at);
-    let (_, synced) = completed(rt, alloc, &mut store, &[], entries)?;
+    let (_, synced) = complete(rt, alloc, &mut store, &[], entries)?;
     assert!(rt; store.calls == fails_at.min(CALLS));
     check_fronts(rt, alloc, &store, entries, TEXT, synced)
 }
@@ -217,13 +225,13 @@ fn each_call_of_a_disk_fails(rt: HostRuntime) -> Result<(), Fail> {
 
 // The limits of a server that serves one session.
 fn limits() -> Limits
-    ensures sessions { result.sessions ≤ 64 }
-    ensures workers { result.workers ≤ 8 }
+    ensures sessions { result.sessions ≤ MOST_DESKS }
+    ensures workers { result.workers ≤ MOST_WORKERS }
     ensures from { 1 ≤ result.capacity }
-    ensures to { result.capacity ≤ 65536 }
+    ensures to { result.capacity ≤ MOST_ENTRIES }
 {
     Limits {
-        sessions: 64,
+        sessions: MOST_DESKS,
         per_address: 0,
         total: 1,
         counts_players: false,
@@ -246,7 +254,7 @@ fn serve<
     W: Write,
 >(rt: &R, telnet: TcpListener, store: &mut Store, out: &mut Sink<W>) -> Result<(), ListenFault> {
     let alloc = rt.alloc();
-    let Ok((found, had, _)) = recovered(alloc, MemoryDisk { store }, &[]) else {
+    let Ok((found, had, _)) = recover(alloc, MemoryDisk { store }, &[]) else {
         return Err(ListenFault::OutOfMemory);
     };
     let doors = Doors { telnet, web: None };
@@ -257,7 +265,7 @@ fn serve<
 }
 
 // How a server ended.
-fn ended(served: &Result<(), ListenFault>) -> &'static str {
+fn end_word(served: &Result<(), ListenFault>) -> &'static str {
     match served {
         Ok(()) => "done",
         Err(ListenFault::Journal(JournalFault::Disk)) => "journal fault: disk",
@@ -266,13 +274,13 @@ fn ended(served: &Result<(), ListenFault>) -> &'static str {
 }
 
 // A listener on a free port that only this machine reaches.
-fn bound<R: Net<Listener = TcpListener, Stream = TcpStream>>(rt: &R) -> io::Result<TcpListener> {
+fn bind<R: Net<Listener = TcpListener, Stream = TcpStream>>(rt: &R) -> io::Result<TcpListener> {
     TcpListener::bind(rt, SocketAddr::from((Ipv4Addr::LOCALHOST, 0)))
 }
 
 // Has a client type lines to a server over a disk: what he is sent, and how the server ends. What the server writes is
 // added to `written`.
-fn served<
+fn serve_client<
     R: Net<Listener = TcpListener, Stream = TcpStream>
         + AllocGlobal
         + Threads
@@ -296,7 +304,7 @@ fn served<
         || play(rt, alloc, address, lines),
     );
     let mut heard = heard?;
-    heard.push_str(ended(&served))?;
+    heard.push_str(end_word(&served))?;
     Ok(heard)
 }
 
@@ -319,7 +327,7 @@ fn check_served<
         + Abort,
 >(rt: &R, store: &mut Store, lines: &str, wanted: &str, text: &str) -> Result<(), Fail> {
     let mut written = Vec::new(rt.alloc());
-    let heard = served(rt, bound(rt)?, store, lines, &mut written)?;
+    let heard = serve_client(rt, bind(rt)?, store, lines, &mut written)?;
     same(rt, lines, heard.as_str(), wanted);
     same(rt, lines, history_of(&written), text);
     Ok(())

@@ -45,7 +45,7 @@ pub(crate) fn push_sent(alloc: Global, bytes: &[u8], out: &mut String) -> Result
 }
 
 /// The first word of a text, and what comes after it.
-pub(crate) fn parted(text: &str) -> (&str, &str) {
+pub(crate) fn split_word(text: &str) -> (&str, &str) {
     match text.split_once(' ') {
         Some(parts) => parts,
         None => (text, ""),

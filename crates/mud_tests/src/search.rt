@@ -2,8 +2,9 @@
 
 ghost use Rattle.std.specs.Prelude.{◌≡◌, ◌≤◌, All, length};
 ghost use Rattle.mud_roads.specs.Open.{IsTraveller};
+ghost use Rattle.mud_world.specs.declared.limits.TheConstants.{MOST_PARTY};
 
-use crate::rows::{digit, parted, same};
+use crate::rows::{digit, same, split_word};
 use crate::village::world;
 use mud_roads::{Label, Traveller};
 use mud_search::{Frontier, Job, Labels, Put, Task};
@@ -77,7 +78,7 @@ fn moves<J: Job>(
 }
 
 // The moves of the wizard alone, who begins at #0: each `MOVE ROOM COST EXITS`, with a task of his, and how many rooms
-// are open and held after it.
+// wait and are held after it.
 const MOVES: &str = "
 take 0 0 0 => 0 1
 back 0 0 1 => 0 1
@@ -98,7 +99,7 @@ done 7 8 3 => 0 0
 
 // The task of `ROOM COST EXITS`.
 fn task_of(text: &str) -> Task {
-    let (room, label) = parted(text);
+    let (room, label) = split_word(text);
     Task {
         member: 0,
         room: digit(room),
@@ -108,14 +109,14 @@ fn task_of(text: &str) -> Task {
 
 // The label of `COST EXITS`.
 fn label_of(text: &str) -> Label {
-    let (cost, exits) = parted(text);
+    let (cost, exits) = split_word(text);
     Label {
         cost: digit(cost),
         exits: digit(exits),
     }
 }
 
-// Does a move, and tells whether so many rooms are then open and held.
+// Does a move, and tells whether so many rooms then wait and are held.
 fn goes_so<J: Job>(
     frontier: &mut Frontier<J>,
     alloc: Global,
@@ -128,14 +129,14 @@ fn goes_so<J: Job>(
     requires party { party.now ≡ J.travellers }
     requires travellers { All (IsTraveller J.world) J.travellers }
 {
-    let (what, task) = parted(asked);
-    let (opened, held) = parted(wanted);
+    let (what, task) = split_word(asked);
+    let (opened, held) = split_word(wanted);
     let is_so = moves(frontier, alloc, world, party, what, &task_of(task))?;
     let rest = frontier.rest();
     Ok(is_so && rest.opened == digit(opened) as usize && rest.held == digit(held) as usize)
 }
 
-// Does the moves, each as told; no room is open at the end.
+// Does the moves, each as told; no room waits at the end.
 fn play<J: Job>(
     rt: &impl Abort,
     alloc: Global,
@@ -170,7 +171,7 @@ fn by_hand<J: Job>(
     requires world { world.now ≡ J.world }
     requires party { party.now ≡ J.travellers }
     requires travellers { All (IsTraveller J.world) J.travellers }
-    requires few { length J.travellers ≤ 8 }
+    requires few { length J.travellers ≤ MOST_PARTY }
 {
     let mut frontier = Frontier::<J>::new(alloc, world, party)?;
     play(rt, alloc, &mut frontier, world, party)?;

@@ -3,7 +3,7 @@
 
 ghost use Rattle.std.specs.Prelude.{◌≡◌};
 
-use crate::rows::{parted, push_sent, push_text, same};
+use crate::rows::{push_sent, push_text, same, split_word};
 use mud_ends::{Sink, Source};
 use mud_hall::{Desk, Fault, Hall, HallName, NewHall, Reply, Solo};
 use mud_session::{Seat, Session, SessionFault, script};
@@ -22,7 +22,7 @@ struct Guest<'h, J: HallName> {
 }
 
 // A guest comes.
-fn greeted<'h, J: HallName, R: Wait>(
+fn greet<'h, J: HallName, R: Wait>(
     rt: &R,
     alloc: Global,
     hall: &'h Hall<J>,
@@ -35,7 +35,7 @@ fn greeted<'h, J: HallName, R: Wait>(
 }
 
 // A guest types a line; for an empty one he types nothing, and what others did is looked for.
-fn typed<J: HallName, R: Threads + Wait + Sync>(
+fn type_line<J: HallName, R: Threads + Wait + Sync>(
     rt: &R,
     alloc: Global,
     guest: &mut Guest<'_, J>,
@@ -57,7 +57,7 @@ fn push_typed<J: HallName, R: Threads + Wait + Sync>(
     line: &str,
     out: &mut String,
 ) -> Result<(), AllocError> {
-    match typed(rt, alloc, guest, line)? {
+    match type_line(rt, alloc, guest, line)? {
         Err(SessionFault::Ended) => out.push_str("the session has ended"),
         _ => push_sent(alloc, &guest.session.take_out(), out),
     }
@@ -90,7 +90,7 @@ fn check_row<'h, J: HallName, R: Threads + Wait + Sync + Abort>(
     found: &mut String,
 ) -> Result<(), AllocError> {
     if let Some((asked, wanted)) = row.split_once(" => ") {
-        let (who, line) = parted(asked);
+        let (who, line) = split_word(asked);
         let guest = if who == "1" { first } else { second };
         found.clear();
         push_typed(rt, alloc, guest, line, found)?;
@@ -119,8 +119,8 @@ fn play_at<J: HallName, R: Threads + Wait + Sync + Abort>(
     alloc: Global,
     hall: &Hall<J>,
 ) -> Result<(), Fail> {
-    let mut first = greeted(rt, alloc, hall)?;
-    let mut second = greeted(rt, alloc, hall)?;
+    let mut first = greet(rt, alloc, hall)?;
+    let mut second = greet(rt, alloc, hall)?;
     Ok(check_guests(rt, alloc, &mut first, &mut second)?)
 }
 
@@ -133,7 +133,7 @@ fn play<J: HallName, R: Threads + Wait + Sync + Abort>(
     requires cells { hall.cells ≡ J.cells }
     requires loaded { hall.loaded ≡ J.loaded }
 {
-    play_at(rt, alloc, &hall.named::<J>())
+    play_at(rt, alloc, &hall.with_name::<J>())
 }
 
 #[test]
@@ -206,7 +206,7 @@ fn is_told_once_in<J: HallName, R: Threads + Wait + Sync>(
     requires cells { hall.cells ≡ J.cells }
     requires loaded { hall.loaded ≡ J.loaded }
 {
-    is_told_once(rt, alloc, &hall.named::<J>())
+    is_told_once(rt, alloc, &hall.with_name::<J>())
 }
 
 const HEARD: &str = "(2) Wizard says, \"hi\"\r\n(3) Wizard waves.\r\n(4) Wizard says, \"ho\"\r\n";
@@ -277,7 +277,7 @@ fn check_solo<R: Threads + Wait + Sync + Abort>(
 ) -> Result<(), AllocError> {
     if let Some((asked, wanted)) = row.split_once(" => ") {
         found.clear();
-        match parted(asked) {
+        match split_word(asked) {
             ("act", line) => push_acted(solo, line, found)?,
             (_, line) => push_asked(rt, alloc, solo, line, found)?,
         }
@@ -302,7 +302,7 @@ const LINES: &[u8] = b"@dig north|south to \"Library\"\nroute to #2\n";
 const WRITTEN: &str = "[1] dug room #2, exit #3, exit back #4;[1] route #0 to #2 cost 1 by #3;";
 
 // What a script writes.
-fn written<R: Threads + Wait + Sync>(rt: &R, alloc: Global) -> Result<String, Fail> {
+fn script_text<R: Threads + Wait + Sync>(rt: &R, alloc: Global) -> Result<String, Fail> {
     let mut bytes = Vec::new(alloc);
     script(
         rt,
@@ -319,6 +319,11 @@ fn written<R: Threads + Wait + Sync>(rt: &R, alloc: Global) -> Result<String, Fa
 
 #[test]
 fn a_script_is_answered(rt: HostRuntime) -> Result<(), Fail> {
-    same(&rt, "script", written(&rt, rt.alloc())?.as_str(), WRITTEN);
+    same(
+        &rt,
+        "script",
+        script_text(&rt, rt.alloc())?.as_str(),
+        WRITTEN,
+    );
     Ok(())
 }

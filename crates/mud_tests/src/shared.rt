@@ -32,12 +32,12 @@ fn outcome(
 {
     match row.publish(pass, entry) {
         Ok(_) => "published",
-        Err((entry, fault)) => refused(is_so(alloc, &entry, change), fault),
+        Err((entry, fault)) => refusal_of(is_so(alloc, &entry, change), fault),
     }
 }
 
 // Why an entry was refused, if it came back as it was.
-fn refused(is_so: bool, fault: RowFault) -> &'static str {
+fn refusal_of(is_so: bool, fault: RowFault) -> &'static str {
     match (is_so, fault) {
         (false, _) => "changed",
         (true, RowFault::HistoryFull) => "full",

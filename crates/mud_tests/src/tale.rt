@@ -5,7 +5,7 @@ ghost use Rattle.std.specs.Prelude.{◌≤◌, IfOk, IsTrue, Some};
 ghost use Rattle.mud_world.specs.State.{is_player};
 ghost use Rattle.mud_rules.specs.Outcome.{IsJourney, IsLawful, IsQuestion};
 
-use crate::rows::{digit, parted, push_text, same};
+use crate::rows::{digit, push_text, same, split_word};
 use mud_guide::{Answer, meet, meet_alone, route, route_alone};
 use mud_rules::{
     Journey, Query, Verdict, View, decide, heard, refusal_text, reply_text, show, welcome_text,
@@ -102,7 +102,7 @@ enum Guide {
 }
 
 // The answer to a journey, the version being 0: no answer's text has it.
-fn guided<R: Threads + Wait + Sync>(
+fn guide_by<R: Threads + Wait + Sync>(
     rt: &R,
     alloc: Global,
     world: &World,
@@ -205,7 +205,7 @@ fn push_journey<R: Threads + Wait + Sync>(
     requires player { IsTrue (is_player world.now player) }
     requires journey { IsJourney world.now journey.now }
 {
-    let answer = guided(rt, alloc, world, player, journey, guide)?;
+    let answer = guide_by(rt, alloc, world, player, journey, guide)?;
     push_text(alloc, answer.text.as_str(), out)
 }
 
@@ -230,7 +230,7 @@ fn push_answer<R: Threads + Wait + Sync>(
 }
 
 // What a line is decided to be.
-fn decided(alloc: Global, world: &World, player: u32, line: &str) -> Result<Verdict, AllocError>
+fn decide_line(alloc: Global, world: &World, player: u32, line: &str) -> Result<Verdict, AllocError>
     ensures { IfOk result (IsLawful world.now (Some player)) }
 {
     decide(alloc, world, Some(player), &parse(alloc, line)?)
@@ -280,7 +280,7 @@ impl Tale {
     ) -> Result<(), AllocError>
         requires player { IsTrue (is_player self.old.world player) }
     {
-        let verdict = decided(self.alloc, &self.world, player, line)?;
+        let verdict = decide_line(self.alloc, &self.world, player, line)?;
         self.tell(rt, player, hearer, &verdict, out)
     }
 }
@@ -293,7 +293,7 @@ impl Tale {
         asked: &str,
         out: &mut String,
     ) -> Result<(), Fail> {
-        let (who, line) = parted(asked);
+        let (who, line) = split_word(asked);
         let (who, other) = who.split_once('>').unwrap_or((who, "0"));
         let player = digit(who);
         if self.world.is_player(player) {

@@ -1,6 +1,6 @@
 //! Calls that take a text apart or make one: each by its name, on a worked text.
 
-use crate::rows::{Answers, check_rows, parted, push_sent};
+use crate::rows::{Answers, check_rows, push_sent, split_word};
 use mud_key::{Key, Miss, Namer, Names, asks, atoms, print, read, resolve};
 use mud_nvt::{Nvt, Unit, write_line};
 use mud_words::{Parsed, parse, words};
@@ -167,7 +167,7 @@ struct Calls {
 impl Answers for Calls {
     fn answer(&mut self, asked: &str, out: &mut String) -> Result<(), Fail> {
         let alloc = self.alloc;
-        let (call, text) = parted(asked);
+        let (call, text) = split_word(asked);
         match call {
             "words" => Ok(push_words(alloc, text, out)?),
             "parse" => Ok(push_parsed(alloc, text, out)?),

@@ -97,7 +97,7 @@ fn text_by<R: Threads + Wait + Sync + Abort>(
 }
 
 // The same in the world of a history.
-fn found<R: Threads + Wait + Sync + Abort>(
+fn find_labels<R: Threads + Wait + Sync + Abort>(
     rt: &R,
     alloc: Global,
     history: &str,
@@ -119,7 +119,7 @@ fn check_labels<R: Threads + Wait + Sync + Abort>(
     same(
         rt,
         "labels",
-        found(rt, alloc, history, workers, &gate)?.as_str(),
+        find_labels(rt, alloc, history, workers, &gate)?.as_str(),
         wanted,
     );
     assert!(rt; gate.is_met() == (workers > 1));
@@ -143,9 +143,9 @@ fn workers_work_at_once(rt: HostRuntime) -> Result<(), Fail> {
 #[test]
 fn eight_workers_may_run_out_of_memory(rt: HostRuntime) -> Result<(), Fail> {
     let alloc = rt.alloc();
-    let text = match found(&rt, alloc, CROSSING, 8, &Barrier::new()) {
+    let text = match find_labels(&rt, alloc, CROSSING, 8, &Barrier::new()) {
         Ok(text) => text,
-        Err(_) => found(&rt, alloc, CROSSING, 8, &Barrier::new())?,
+        Err(_) => find_labels(&rt, alloc, CROSSING, 8, &Barrier::new())?,
     };
     same(&rt, "labels", text.as_str(), LABELS);
     Ok(())
@@ -195,7 +195,7 @@ fn question(room: u32) -> &'static str {
 }
 
 // What a new desk of the wizard's is answered by workers who look for a way.
-fn asked<J: HallName, R: Threads + Wait + Sync>(
+fn ask_workers<J: HallName, R: Threads + Wait + Sync>(
     rt: &R,
     hall: &Hall<J>,
     room: u32,
@@ -218,8 +218,8 @@ fn asked_in<J: HallName, R: Threads + Wait + Sync + Abort>(
     requires cells { hall.cells ≡ J.cells }
     requires loaded { hall.loaded ≡ J.loaded }
 {
-    let hall = hall.named::<J>();
-    asked(rt, &hall, room, workers, gate)
+    let hall = hall.with_name::<J>();
+    ask_workers(rt, &hall, room, workers, gate)
 }
 
 // Sees what a desk of a hall that goes on from a history answers by workers, and that these work at once, if there are

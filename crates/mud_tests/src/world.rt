@@ -78,7 +78,7 @@ move #7 #8 #0 => legal
 ";
 
 // What is said of a change that is refused.
-fn said(world: &World, change: &Change) -> &'static str {
+fn refusal_word(world: &World, change: &Change) -> &'static str {
     match world.legal(change) {
         Ok(()) => "legal",
         Err(refusal) => refusal_text(refusal),
@@ -86,8 +86,8 @@ fn said(world: &World, change: &Change) -> &'static str {
 }
 
 // The same of a change as it is written.
-fn refused(alloc: Global, world: &World, change: &str) -> Result<&'static str, ChronFault> {
-    Ok(said(world, entry(alloc, change)?.change()))
+fn refusal_of(alloc: Global, world: &World, change: &str) -> Result<&'static str, ChronFault> {
+    Ok(refusal_word(world, entry(alloc, change)?.change()))
 }
 
 // A world that tells what refuses changes.
@@ -99,7 +99,7 @@ struct Village {
 
 impl Answers for Village {
     fn answer(&mut self, asked: &str, out: &mut String) -> Result<(), Fail> {
-        Ok(out.push_str(refused(self.alloc, &self.world, asked)?)?)
+        Ok(out.push_str(refusal_of(self.alloc, &self.world, asked)?)?)
     }
 }
 

@@ -66,7 +66,7 @@ where
     }
 
     // The socket of a browser, for who hears it and for the lobby, where it has a chair; none where it can't be heard.
-    fn received(&self, stream: TcpStream) -> Option<(Arc<Wire>, usize)> {
+    fn enter_lobby(&self, stream: TcpStream) -> Option<(Arc<Wire>, usize)> {
         if !set_up(&stream) {
             return None;
         }
@@ -78,7 +78,7 @@ where
 
     /// Begins a thread that hears a browser; without a chair in the lobby it is sent away.
     pub fn receive(&self, stream: TcpStream, peer: SocketAddr) {
-        let Some((wire, chair)) = self.received(stream) else {
+        let Some((wire, chair)) = self.enter_lobby(stream) else {
             return;
         };
         let server = self.again();

@@ -29,8 +29,8 @@ const CLOSE_TRIES: u32 = 20;
 const CLOSE_MILLISECONDS: u64 = 50;
 
 // How many entries are synced, as far as sessions count.
-pub(crate) fn synced<R: Wait, J: HallName>(rt: &R, house: &HouseOf<J>) -> u32 {
-    u32::try_from(house.gate.synced(rt)).unwrap_or(u32::MAX)
+pub(crate) fn synced_entries<R: Wait, J: HallName>(rt: &R, house: &HouseOf<J>) -> u32 {
+    u32::try_from(house.gate.synced_count(rt)).unwrap_or(u32::MAX)
 }
 
 impl<J: HallName> Connection<J> {
@@ -177,7 +177,7 @@ impl<J: HallName> Connection<J> {
     /// Has the session look for what others did, as far as it is synced, and sends what it says; whether the session
     /// goes on. How far that is, is asked first: so nothing but the other side is waited for under the session's lock.
     pub(crate) fn look<R: Wait + Clock>(&self, rt: &R, house: &HouseOf<J>) -> bool {
-        let most = synced(rt, house);
+        let most = synced_entries(rt, house);
         let mut guard = self.talk.lock(rt);
         self.catch_up(rt, house, most, &mut guard)
     }

@@ -56,11 +56,11 @@ where
     }
 
     /// How many sessions count for the total.
-    pub fn counted(&self) -> u32 {
+    pub fn counted_sessions(&self) -> u32 {
         if self.house.limits.counts_players {
             self.house.players()
         } else {
-            self.house.lobby.begun()
+            self.house.lobby.begun_count()
         }
     }
 

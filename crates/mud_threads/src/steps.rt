@@ -4,7 +4,7 @@ use crate::connection::HouseOf;
 use mud_hall::{Desk, HallName};
 use mud_journal::Held;
 use mud_session::Session;
-use mud_talk::{Sayings, Step, Talk, TelnetTalk, WebTalk};
+use mud_talk::{Sayings, Talk, TalkStep, TelnetTalk, WebTalk};
 use mud_web_session::WebSession;
 use mud_wire::{Entrance, Parting, Wire};
 use std::alloc::Global;
@@ -61,7 +61,7 @@ pub(crate) fn greet<R: Wait, J: HallName>(
 }
 
 // Puts a session back after a step; what the step gives.
-fn put_back<J: HallName>(talk: &mut Option<Talk<J>>, step: Step<Talk<J>>) -> Said {
+fn put_back<J: HallName>(talk: &mut Option<Talk<J>>, step: TalkStep<Talk<J>>) -> Said {
     *talk = Some(step.talk);
     Said {
         text: step.text,

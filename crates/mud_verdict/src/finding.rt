@@ -39,7 +39,7 @@ fn world_at(alloc: Global, entries: &[Entry], version: usize) -> Result<World, A
 }
 
 // What is found of a certificate, after a history.
-fn tried(alloc: Global, entries: &[Entry], cert: &Cert) -> Result<Finding, AllocError>
+fn try_certificate(alloc: Global, entries: &[Entry], cert: &Cert) -> Result<Finding, AllocError>
     requires { AreLegal (changes_of entries.now) }
     ensures { IfOk result (IsTried entries.now cert.now) }
 {
@@ -73,5 +73,5 @@ pub fn finding_of(alloc: Global, history: &[u8], proof: &[u8]) -> Result<Finding
         Err(CertFault::OutOfMemory) => return Err(AllocError),
         Err(CertFault::BadLine(line)) => return Ok(Finding::BadProof(line)),
     };
-    tried(alloc, &entries, &cert)
+    try_certificate(alloc, &entries, &cert)
 }

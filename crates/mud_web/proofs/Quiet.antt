@@ -15,8 +15,8 @@ use Rattle.websocket.specs.Stream.{after_read, read_times}
 use Rattle.websocket.proofs.EffectLemmas.{IsSoundEffect_from_read}
 use Rattle.mud_nvt.specs.declared.codes.TheConstants.{IAC, NUL, BS, HT, LF, CR, DEL, SPACE, TILDE}
 use Rattle.mud_nvt.specs.declared.telnet.Piece.TheVariants.{Data}
-use Rattle.mud_nvt.specs.declared.telnet.Place.{Place}
-use Rattle.mud_nvt.specs.declared.telnet.Place.TheVariants.{Between}
+use Rattle.mud_nvt.specs.declared.telnet.Position.{Position}
+use Rattle.mud_nvt.specs.declared.telnet.Position.TheVariants.{Between}
 use Rattle.mud_nvt.specs.declared.strokes.Stroke.{Stroke}
 use Rattle.mud_nvt.specs.declared.strokes.Stroke.TheVariants.{Character, EraseCharacter, EraseLine, EndLine}
 use Rattle.mud_nvt.specs.declared.strokes.Stroke.TheVariants.{AreYouThere, Refuse, Nothing}
@@ -24,11 +24,11 @@ use Rattle.mud_nvt.specs.Editing.{stroke}
 use Rattle.mud_nvt.specs.Units.{Given, Text, TooLong, units}
 use Rattle.mud_nvt.specs.Machine.{Held, start, next, next_place, finished_piece, stroke_units, byte_units, run_units}
 use Rattle.mud_nvt.proofs.Whole.{units_is}
-use Rattle.mud_web.specs.Channel.{opened, typed_by, typed, typed_of}
+use Rattle.mud_web.specs.Channel.{new_connection, typed_by, text_typed, typed_of}
 use Rattle.mud_web.specs.Laws.{IsLine}
 
 abbrev IsLow : ℕ → Type 0
-IsLow b = b < 255
+IsLow b = b < IAC
 
 -- ---- UTF-8
 
@@ -40,16 +40,16 @@ low_cond false xs ys f g = g refl
 below : (c n : ℕ) → nat_lt c n ≡ true → c < n
 below c n h = grind (arith, nat_tests)
 
-one_low : (a : ℕ) → a < 255 → All IsLow (a ∷ [])
+one_low : (a : ℕ) → a < IAC → All IsLow (a ∷ [])
 one_low a h = All-cons IsLow a [] h (All-nil IsLow)
 
-two_low : (a b : ℕ) → a < 255 → b < 255 → All IsLow (a ∷ b ∷ [])
+two_low : (a b : ℕ) → a < IAC → b < IAC → All IsLow (a ∷ b ∷ [])
 two_low a b h k = All-cons IsLow a (b ∷ []) h (one_low b k)
 
-three_low : (a b c : ℕ) → a < 255 → b < 255 → c < 255 → All IsLow (a ∷ b ∷ c ∷ [])
+three_low : (a b c : ℕ) → a < IAC → b < IAC → c < IAC → All IsLow (a ∷ b ∷ c ∷ [])
 three_low a b c h k l = All-cons IsLow a (b ∷ c ∷ []) h (two_low b c k l)
 
-four_low : (a b c d : ℕ) → a < 255 → b < 255 → c < 255 → d < 255 → All IsLow (a ∷ b ∷ c ∷ d ∷ [])
+four_low : (a b c d : ℕ) → a < IAC → b < IAC → c < IAC → d < IAC → All IsLow (a ∷ b ∷ c ∷ d ∷ [])
 four_low a b c d h k l m = All-cons IsLow a (b ∷ c ∷ d ∷ []) h (three_low b c d k l m)
 
 scalar_below : (c : ℕ) → scalar c ≡ true → c < 1114112
@@ -83,7 +83,7 @@ utf8_low bs (cs, (valid, is)) = rw is at (encodes_low cs valid)
 
 message_low : (m : Option Content) → IfSome m HasValidText → All IsLow (typed_by m)
 message_low None valid = All-nil IsLow
-message_low (Some (text bs)) valid = All-push IsLow bs 10 (utf8_low bs valid) (omega arith)
+message_low (Some (text bs)) valid = All-push IsLow bs LF (utf8_low bs valid) (omega arith)
 message_low (Some (binary bs)) valid = All-nil IsLow
 message_low (Some (ping bs)) valid = All-nil IsLow
 message_low (Some (pong bs)) valid = All-nil IsLow
@@ -91,21 +91,21 @@ message_low (Some (close frame)) valid = All-nil IsLow
 
 reads_low_by : (n : ℕ) (conn : Connection) (bs : List ℕ) (r : Result (FrameStatus (ℕ × Effect)) Error)
     → read_step conn bs ≡ r
-    → ((next : Connection) (rest : List ℕ) → All IsLow (typed (read_times n next rest).effects))
-    → All IsLow (typed (after_read (read_times n) conn bs r).effects)
+    → ((next : Connection) (rest : List ℕ) → All IsLow (text_typed (read_times n next rest).effects))
+    → All IsLow (text_typed (after_read (read_times n) conn bs r).effects)
 reads_low_by n conn bs (Err e) read later = All-nil IsLow
 reads_low_by n conn bs (Ok (Partial needed)) read later = All-nil IsLow
 reads_low_by n conn bs (Ok (Complete p)) read later =
-    All-append IsLow (typed_by p.1.message) (typed (read_times n p.1.next (drop p.0 bs)).effects)
+    All-append IsLow (typed_by p.1.message) (text_typed (read_times n p.1.next (drop p.0 bs)).effects)
     (message_low p.1.message (IsSoundEffect_from_read conn bs p read).valid_text) (later p.1.next (drop p.0 bs))
 
-reads_low : (n : ℕ) (conn : Connection) (bs : List ℕ) → All IsLow (typed (read_times n conn bs).effects)
+reads_low : (n : ℕ) (conn : Connection) (bs : List ℕ) → All IsLow (text_typed (read_times n conn bs).effects)
 unfolding read_times
 reads_low zero conn bs = All-nil IsLow
 reads_low (suc n) conn bs = reads_low_by n conn bs _ refl (reads_low n)
 
-pub typed_low : (bytes : List ℕ) → All (λ b. b < 255) (typed_of bytes)
-typed_low bytes = reads_low (suc (length bytes)) opened bytes
+pub typed_low : (bytes : List ℕ) → All (λ b. b < IAC) (typed_of bytes)
+typed_low bytes = reads_low (suc (length bytes)) new_connection bytes
 
 -- ---- what a terminal makes of it
 
@@ -144,16 +144,16 @@ stroke_lines too_long line Nothing typing = All-nil IsLine
 stroke_lines too_long line AreYouThere typing = absurd typing
 stroke_lines too_long line (Refuse verb option) typing = absurd typing
 
-is_no_iac : (b : ℕ) → b < 255 → (b == IAC) ≡ false
+is_no_iac : (b : ℕ) → b < IAC → (b == IAC) ≡ false
 is_no_iac b low = grind (arith, nat_tests)
 
-stays_between : (place : Place) (b : ℕ) → place ≡ Between → b < 255 → next_place place b ≡ Between
+stays_between : (place : Position) (b : ℕ) → place ≡ Between → b < IAC → next_place place b ≡ Between
 stays_between place b between low = rw (between, is_no_iac b low) refl
 
-is_data : (place : Place) (b : ℕ) → place ≡ Between → b < 255 → finished_piece place b ≡ Some (Data b)
+is_data : (place : Position) (b : ℕ) → place ≡ Between → b < IAC → finished_piece place b ≡ Some (Data b)
 is_data place b between low = rw (between, is_no_iac b low) refl
 
-byte_lines : (h : Held) (b : ℕ) → h.place ≡ Between → b < 255 → All IsLine (byte_units h b)
+byte_lines : (h : Held) (b : ℕ) → h.place ≡ Between → b < IAC → All IsLine (byte_units h b)
 byte_lines h b between low =
     rw (is_data h.place b between low)
     (stroke_lines h.too_long h.text (stroke h.after_cr (Data b)) (data_typing h.after_cr b))

@@ -30,7 +30,7 @@ use Rattle.websocket.specs.Stream.{after_read, read_times}
 use Rattle.websocket.proofs.StreamLemmas.{after_check_passed, TookFrame_from_read}
 use Rattle.websocket.proofs.EffectLemmas.{read_step_after_close}
 use Rattle.mud_web.specs.declared.closing.Ending.{Ending}
-use Rattle.mud_web.specs.Channel.{Standing, StandsAfter, opened, reply_by}
+use Rattle.mud_web.specs.Channel.{Standing, StandsAfter, new_connection, reply_by}
 use Rattle.mud_web.specs.Closing.{closes, closes_for, ending_of}
 use Rattle.mud_web.specs.Steps.{IsOpen, closes_in}
 
@@ -158,7 +158,7 @@ ends_live (suc n) conn bs live = ends_live_by n conn bs _ refl (ends_live n) liv
 
 pub stands_live : (channel : Standing) (bytes : List ℕ) → StandsAfter channel bytes → IsLive channel.conn
 stands_live channel bytes stands =
-    rw stands.is at (ends_live (suc (length bytes)) opened bytes (record { role = refl; open_still = tt }))
+    rw stands.is at (ends_live (suc (length bytes)) new_connection bytes (record { role = refl; open_still = tt }))
 
 -- ---- where reading fails
 

@@ -17,8 +17,8 @@ use Rattle.websocket.specs.Connection.{Connection, Effect, read_step, failed_con
 use Rattle.websocket.specs.Stream.{Trace, prepend, after_read, read_times, read_all}
 use Rattle.websocket.specs.View.{Returns, ReadLeaves}
 use Rattle.websocket.proofs.StreamLemmas.{TookFrame_from_read, receive-read_all}
-use Rattle.mud_web.specs.Channel.{Standing, opened, typed_by, reply_by, typed, replies, StandsAfter, Grows, TakesIn}
-use Rattle.mud_web.specs.Channel.{EndsWith}
+use Rattle.mud_web.specs.Channel.{Standing, new_connection, typed_by, reply_by, text_typed, replies, StandsAfter, Grows}
+use Rattle.mud_web.specs.Channel.{TakesIn, EndsWith}
 use Rattle.mud_web.specs.Closing.{closes_for, ending_of}
 use Rattle.mud_web.specs.Steps.{Took, Steps, Refuses, IfOver, Reached, closes_in}
 use Rattle.mud_web.proofs.Roles.{IsLive, role_kept, live_kept, sends_server, stands_live, closes_is}
@@ -102,13 +102,13 @@ pub all_fails : (conn : Connection) (bs : List ℕ) (e : Error) → read_step co
 all_fails conn bs e is = rw (all_first conn bs, is) refl
 
 pub goes_on : (line : Standing) (earlier bytes : List ℕ) → StandsAfter line earlier
-    → read_all opened (earlier ++ bytes)
-    ≡ prepend (read_all opened earlier).effects (read_all line.conn (line.unread ++ bytes))
-goes_on line earlier bytes stands = rw (sym (receive-read_all opened earlier bytes), stands.is) refl
+    → read_all new_connection (earlier ++ bytes)
+    ≡ prepend (read_all new_connection earlier).effects (read_all line.conn (line.unread ++ bytes))
+goes_on line earlier bytes stands = rw (sym (receive-read_all new_connection earlier bytes), stands.is) refl
 
 -- ---- grows, one step after the other
 
-typed_more : (done : List Effect) (e : Effect) → typed (done ++ e ∷ []) ≡ typed done ++ typed_by e.message
+typed_more : (done : List Effect) (e : Effect) → text_typed (done ++ e ∷ []) ≡ text_typed done ++ typed_by e.message
 typed_more [] e = rw append-nil refl
 typed_more (x ∷ done) e = rw (typed_more done e, append_assoc) refl
 
@@ -186,7 +186,8 @@ ends old new bytes t0 t1 r0 r1 r2 e kept reached fails sends =
           (rw (closes_is new.conn new.unread e (kept (stands_live old earlier stands)) fails) at sends);
     }
 
-pub fresh : (line : Standing) → line.conn ≡ opened → line.unread ≡ [] → line.has_ended ≡ false → StandsAfter line []
+pub fresh : (line : Standing) → line.conn ≡ new_connection → line.unread ≡ [] → line.has_ended ≡ false
+    → StandsAfter line []
 unfolding read_times read_step decode_frame decode_header
 fresh line conn unread goes_on = record { is = rw (conn, unread) refl; goes_on = goes_on }
 

@@ -11,13 +11,14 @@ use Rattle.websocket.specs.Content.{Content, text}
 use Rattle.websocket.specs.Frame.{encode_frame}
 use Rattle.websocket.specs.Connection.{Connection, Effect, Outgoing, whole_header}
 use Rattle.websocket.specs.Stream.{read_all}
+use Rattle.mud_nvt.specs.declared.codes.TheConstants.{LF}
 use Rattle.mud_web.specs.declared.channel.TheConstants.{MOST_MESSAGE}
 use Rattle.mud_web.specs.Closing.{closes_for}
 
 -- a connection of a server to which no frame came yet: a message and a frame have 4,096 bytes at most, and a frame
 -- without a mask is refused
-abbrev pub opened : Connection
-opened = record {
+abbrev pub new_connection : Connection
+new_connection = record {
   role = Server;
   state = Active;
   fragments = None;
@@ -36,16 +37,16 @@ pub record Standing : Type 0 where
 
 -- a text message types its bytes and LF, and no other message types anything
 abbrev pub typed_by : Option Content → List ℕ
-typed_by (Some (text bs)) = bs ++ 10 ∷ []
+typed_by (Some (text bs)) = bs ++ LF ∷ []
 typed_by other = []
 
 -- what all these frames type, in order
-abbrev pub typed : List Effect → List ℕ
-typed effects = flat_map (λ e. typed_by e.message) effects
+abbrev pub text_typed : List Effect → List ℕ
+text_typed effects = flat_map (λ e. typed_by e.message) effects
 
 -- what is typed by all bytes that came
 abbrev pub typed_of : List ℕ → List ℕ
-typed_of bytes = typed (read_all opened bytes).effects
+typed_of bytes = text_typed (read_all new_connection bytes).effects
 
 -- a reply is one frame, without a mask (5.1)
 abbrev pub reply_by : Option Outgoing → List ℕ
@@ -57,27 +58,27 @@ abbrev pub replies : List Effect → List ℕ
 replies effects = flat_map (λ e. reply_by e.reply) effects
 
 -- a text leaves as one text message of one frame, without a mask; no text, no frame
-abbrev pub framed : List ℕ → List ℕ
-framed [] = []
-framed (b ∷ bs) = encode_frame (whole_header (Op.Data Text) None) (b ∷ bs)
+abbrev pub frame_of : List ℕ → List ℕ
+frame_of [] = []
+frame_of (b ∷ bs) = encode_frame (whole_header (Op.Data Text) None) (b ∷ bs)
 
 -- the channel stands where these bytes, and no others, came to it: all frames of them were read, in whatever pieces
 -- they came, and neither side closed
 pub record StandsAfter (channel : Standing) (bytes : List ℕ) : Type 0 where
-  pub is : (read_all opened bytes).end ≡ Ok (channel.conn, channel.unread)
+  pub is : (read_all new_connection bytes).end ≡ Ok (channel.conn, channel.unread)
   pub goes_on : channel.has_ended ≡ false
 
 -- these are the frames that the bytes finish, after the earlier ones
 abbrev pub Finishes : (earlier bytes : List ℕ) → List Effect → Type 0
 Finishes earlier bytes fresh =
-    (read_all opened (earlier ++ bytes)).effects ≡ (read_all opened earlier).effects ++ fresh
+    (read_all new_connection (earlier ++ bytes)).effects ≡ (read_all new_connection earlier).effects ++ fresh
 
 -- what is typed grows by what the frames type that the bytes finish, and what is replied by the replies to them and
 -- then by this end
 pub record Grows (earlier bytes typed_old typed_new replies_old replies_new end : List ℕ) : Type 0 where
   pub fresh : List Effect
   pub finishes : Finishes earlier bytes fresh
-  pub types : typed_new ≡ typed_old ++ typed fresh
+  pub types : typed_new ≡ typed_old ++ text_typed fresh
   pub answers : replies_new ≡ replies_old ++ replies fresh ++ end
 
 -- the channel takes these bytes in, whatever bytes came earlier
@@ -90,6 +91,6 @@ pub record TakesIn (old new : Standing) (bytes typed_old typed_new replies_old r
 -- the error asks for is replied
 pub record EndsWith (old : Standing) (bytes typed_old typed_new replies_old replies_new : List ℕ)
     (e : Error) : Type 0 where
-  pub ends : (earlier : List ℕ) → StandsAfter old earlier → (read_all opened (earlier ++ bytes)).end ≡ Err e
+  pub ends : (earlier : List ℕ) → StandsAfter old earlier → (read_all new_connection (earlier ++ bytes)).end ≡ Err e
   pub grows : (earlier : List ℕ) → StandsAfter old earlier
       → Grows earlier bytes typed_old typed_new replies_old replies_new (closes_for e)

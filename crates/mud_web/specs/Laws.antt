@@ -10,10 +10,11 @@ use Rattle.websocket.specs.FrameHeader.{IsMask}
 use Rattle.websocket.specs.Frame.{encode_frame}
 use Rattle.websocket.specs.Content.{text}
 use Rattle.websocket.specs.Connection.{Connection, Effect, whole_header, read_step}
+use Rattle.mud_nvt.specs.declared.codes.TheConstants.{IAC, LF}
 use Rattle.mud_nvt.specs.Units.{Given, units}
 use Rattle.mud_nvt.specs.Units as Unit
 use Rattle.mud_web.specs.declared.channel.TheConstants.{MOST_MESSAGE}
-use Rattle.mud_web.specs.Channel.{opened, typed_by, typed_of, framed}
+use Rattle.mud_web.specs.Channel.{new_connection, typed_by, typed_of, frame_of}
 
 -- the other side of a web socket, without limits of its own, to which no frame came yet
 abbrev pub client : Connection
@@ -28,7 +29,7 @@ client = record {
 abbrev pub TextsArrive : Type 0
 TextsArrive =
     (bs rest : List ℕ) → IsUtf8 bs → bs ≢ [] → length bs < 2 ^ 63
-    → (effect : Effect) × (read_step client (framed bs ++ rest) ≡ Ok (Complete (length (framed bs), effect)))
+    → (effect : Effect) × (read_step client (frame_of bs ++ rest) ≡ Ok (Complete (length (frame_of bs), effect)))
     × (effect.message ≡ Some (text bs))
 
 -- a text message that the other side writes as one frame, under any mask, types that text and LF
@@ -36,12 +37,12 @@ abbrev pub MessagesType : Type 0
 MessagesType =
     (bs key rest : List ℕ) → IsUtf8 bs → length bs ≤ MOST_MESSAGE → IsMask (Some key)
     → let frame = encode_frame (whole_header (Op.Data Text) (Some key)) bs in
-    (effect : Effect) × (read_step opened (frame ++ rest) ≡ Ok (Complete (length frame, effect)))
-    × (typed_by effect.message ≡ bs ++ 10 ∷ [])
+    (effect : Effect) × (read_step new_connection (frame ++ rest) ≡ Ok (Complete (length frame, effect)))
+    × (typed_by effect.message ≡ bs ++ LF ∷ [])
 
--- whatever comes over a web socket, it types no byte 255, with which every command of Telnet begins
+-- whatever comes over a web socket, it types no byte IAC, with which every command of Telnet begins
 abbrev pub NothingCommands : Type 0
-NothingCommands = (bytes : List ℕ) → All (λ b. b < 255) (typed_of bytes)
+NothingCommands = (bytes : List ℕ) → All (λ b. b < IAC) (typed_of bytes)
 
 -- a line, and no command or question of Telnet
 abbrev pub IsLine : Given → Type 0

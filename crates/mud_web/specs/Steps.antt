@@ -12,7 +12,7 @@ use Rattle.mud_web.specs.declared.closing.Ending.{Ending}
 use Rattle.mud_web.specs.declared.fault.Fault.{Fault}
 use Rattle.mud_web.specs.declared.fault.Fault.TheVariants.{OutOfMemory, Over, Ended}
 use Rattle.mud_web.specs.Closing.{closes_once}
-use Rattle.mud_web.specs.Channel.{Standing, typed_by, typed, reply_by, replies}
+use Rattle.mud_web.specs.Channel.{Standing, typed_by, text_typed, reply_by, replies}
 
 -- a whole frame was taken from the front
 pub record Took (old new : Standing) (typed_old typed_new replies_old replies_new : List ℕ) : Type 0 where
@@ -69,7 +69,7 @@ pub record Reached (conn : Connection) (input : List ℕ) (channel : Standing)
     (typed_old typed_new replies_old replies_new : List ℕ) : Type 0 where
   pub done : List Effect
   pub rest : read_all conn input ≡ prepend done (read_all channel.conn channel.unread)
-  pub types : typed_new ≡ typed_old ++ typed done
+  pub types : typed_new ≡ typed_old ++ text_typed done
   pub answers : replies_new ≡ replies_old ++ replies done
 
 -- what is sent in this state where reading ends with an error

@@ -4,7 +4,8 @@ ghost use Rattle.std.specs.Prelude.{◌≡◌, ◌↔◌, ◌≤◌, ℕ, List, 
 ghost use Rattle.std.specs.Prelude.{IsUtf8, IfOk, IfErr, OnOk, OnErr, IfSome, option_map};
 ghost use Rattle.websocket.specs.Content.{IsReceivedInside, HasValidText, received_content};
 ghost use Rattle.websocket.specs.Connection.{IsDoneSending, can_write};
-ghost use Rattle.mud_web.specs.Channel.{StandsAfter, TakesIn, EndsWith, typed_by, framed};
+ghost use Rattle.mud_nvt.specs.declared.codes.TheConstants.{LF};
+ghost use Rattle.mud_web.specs.Channel.{StandsAfter, TakesIn, EndsWith, typed_by, frame_of};
 ghost use Rattle.mud_web.specs.declared.fault.Fault.TheVariants.{Over};
 ghost use Rattle.mud_web.specs.Closing.{ending_of, closes_once};
 ghost use Rattle.mud_web.specs.Steps.{Steps, Refuses, IfOver, IsNoEnd, IsTyped, closes_in};
@@ -176,7 +177,7 @@ impl Channel {
 
     /// Adds a text to `out`, as a text message of one frame; no text, no frame. After an error nothing has changed.
     pub fn send(&mut self, text: &[u8], out: &mut Vec<u8>) -> Result<(), SendFault>
-        ensures ok { OnOk result (out.new.items ≡ out.old.items ++ framed text.now) }
+        ensures ok { OnOk result (out.new.items ≡ out.old.items ++ frame_of text.now) }
         ensures same { self.new ≡ self.old }
         ensures err { OnErr result (out.new.items ≡ out.old.items) }
         ensures not_text { result ≡ Err SendFault.NotText → ¬ (IsUtf8 text.now) }
@@ -264,7 +265,7 @@ fn drop_front(unread: &mut Vec<u8>, count: usize)
 
 // Adds a text, and LF.
 fn type_line(typed: &mut Vec<u8>, text: &[u8]) -> Result<(), AllocError>
-    ensures { OnOk result (typed.new.items ≡ typed.old.items ++ (text.now ++ 10 ∷ [])) }
+    ensures { OnOk result (typed.new.items ≡ typed.old.items ++ (text.now ++ LF ∷ [])) }
 {
     typed.extend_from_slice(text)?;
     typed.push(b'\n')?;

@@ -7,26 +7,28 @@ use Rattle.websocket.specs.Frame.{decode_frame}
 use Rattle.websocket.specs.FrameHeader.{decode_header}
 use Rattle.websocket.specs.Stream.{Trace, read_times, read_all}
 use Rattle.mud_nvt.specs.History as Nvt
-use Rattle.mud_web.specs.Channel.{Standing, opened, typed, typed_of, Finishes, Grows, TakesIn, EndsWith}
+use Rattle.mud_web.specs.Channel.{Standing, new_connection, text_typed, typed_of, Finishes, Grows, TakesIn, EndsWith}
 use Rattle.mud_web.specs.Channel as Channel
 use Rattle.mud_web.specs.Closing.{closes_for}
 use Rattle.mud_session.specs.Session.{TakingIn}
-use Rattle.mud_session.specs.State.{State, DoorState}
+use Rattle.mud_session.specs.State.{SessionState, DoorState}
 use Rattle.mud_session.specs.Feeding.{Feeds, Nudges}
-use Rattle.mud_web_session.specs.Web.{WebState, saying, StandsAfter, AnswersTyped, NudgesWeb, FeedsWeb, EndsWeb, Sent}
+use Rattle.mud_web_session.specs.Web.{WebState, with_output, StandsAfter, AnswersTyped, NudgesWeb, FeedsWeb, EndsWeb}
+use Rattle.mud_web_session.specs.Web.{Sent}
 
-typed-append : (some more : List Effect) → typed (some ++ more) ≡ typed some ++ typed more
+typed-append : (some more : List Effect) → text_typed (some ++ more) ≡ text_typed some ++ text_typed more
 typed-append [] more = refl
 typed-append (e ∷ some) more = rw (typed-append some more, append_assoc) refl
 
 typed_grows : (earlier bytes : List ℕ) (fresh : List Effect) → Finishes earlier bytes fresh
-    → typed_of (earlier ++ bytes) ≡ typed_of earlier ++ typed fresh
-typed_grows earlier bytes fresh finishes = ap typed finishes ∙ typed-append (read_all opened earlier).effects fresh
+    → typed_of (earlier ++ bytes) ≡ typed_of earlier ++ text_typed fresh
+typed_grows earlier bytes fresh finishes =
+    ap text_typed finishes ∙ typed-append (read_all new_connection earlier).effects fresh
 
-said_again : (mid new : State) → new ≡ saying mid [] → saying new mid.out ≡ mid
+said_again : (mid new : SessionState) → new ≡ with_output mid [] → with_output new mid.out ≡ mid
 said_again mid new is = rw is refl
 
-pub answered : (takes_in : TakingIn) (line : List ℕ) (channel : Standing) (old mid : State) (new : WebState)
+pub answered : (takes_in : TakingIn) (line : List ℕ) (channel : Standing) (old mid : SessionState) (new : WebState)
     (old_door new_door : DoorState) (out_old out_new : List ℕ)
     → ((earlier : List ℕ) → Nvt.StandsAfter old.terminal earlier
     → Feeds takes_in earlier line old mid old_door new_door)
@@ -40,7 +42,7 @@ answered takes_in line channel old mid new old_door new_door out_old out_new fee
   out = sent.out;
 }
 
-pub nudged : (takes_in : TakingIn) (channel : Standing) (old mid : State) (new : WebState)
+pub nudged : (takes_in : TakingIn) (channel : Standing) (old mid : SessionState) (new : WebState)
     (old_door new_door : DoorState) (out_old out_new : List ℕ) → Nudges takes_in old mid old_door new_door
     → Sent (record { channel = channel; session = mid }) new out_old out_new
     → NudgesWeb takes_in (record { channel = channel; session = old }) new old_door new_door out_old out_new
@@ -60,8 +62,8 @@ pub fed : (takes_in : TakingIn) (bytes line : List ℕ) (old mid new : WebState)
     → FeedsWeb takes_in earlier bytes old new old_door new_door out_old out_new
 fed takes_in bytes line old mid new old_door new_door out_old out_mid out_new same takes answers earlier stands =
     let grows : Grows earlier bytes [] line out_old out_mid [] = takes.grows earlier stands.channel in
-    let feeds : Feeds takes_in (typed_of earlier) (typed grows.fresh) old.session
-    (saying new.session answers.said) old_door new_door =
+    let feeds : Feeds takes_in (typed_of earlier) (text_typed grows.fresh) old.session
+    (with_output new.session answers.said) old_door new_door =
     rw (same, grows.types) at (answers.feeds (typed_of earlier) (rw same stands.terminal)) in
     record {
       stands = record {
@@ -76,7 +78,7 @@ fed takes_in bytes line old mid new old_door new_door out_old out_mid out_new sa
       out = rw (answers.out, grows.answers, append-nil, append_assoc) refl;
     }
 
-pub fed_to_end : (takes_in : TakingIn) (bytes line : List ℕ) (old new : WebState) (mid : State)
+pub fed_to_end : (takes_in : TakingIn) (bytes line : List ℕ) (old new : WebState) (mid : SessionState)
     (old_door new_door : DoorState) (out_old out_new : List ℕ) (e : Error) → mid ≡ old.session
     → EndsWith old.channel bytes [] line out_old out_new e
     → ((earlier : List ℕ) → Nvt.StandsAfter mid.terminal earlier
@@ -100,7 +102,7 @@ pub typed_none : typed_of [] ≡ []
 unfolding read_times read_step decode_frame decode_header
 typed_none = refl
 
-pub begins : (channel : Standing) (session : State) → Channel.StandsAfter channel []
+pub begins : (channel : Standing) (session : SessionState) → Channel.StandsAfter channel []
     → Nvt.StandsAfter session.terminal []
     → StandsAfter (record { channel = channel; session = session }) []
 begins channel session stands terminal = record { channel = stands; terminal = rw typed_none terminal }

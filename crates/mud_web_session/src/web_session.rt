@@ -2,10 +2,10 @@
 
 ghost use Rattle.std.specs.Prelude.{◌≡◌, ◌++◌, ℕ, List, [], false, true, codes, if◌then◌else◌};
 ghost use Rattle.std.specs.Prelude.{OnOk, OnErr, IfOk, IfErr};
-ghost use Rattle.mud_web.specs.Channel.{TakesIn, EndsWith, framed};
+ghost use Rattle.mud_web.specs.Channel.{TakesIn, EndsWith, frame_of};
 ghost use Rattle.mud_web.specs.Closing.{closes_once};
 ghost use Rattle.mud_web.specs.Steps.{IfOver as IfChannelOver};
-ghost use Rattle.mud_session.specs.Session.{sent as line_sent};
+ghost use Rattle.mud_session.specs.Session.{wire_text};
 ghost use Rattle.mud_web_session.specs.Web.{StandsAfter, AnswersTyped, NudgesWeb, FeedsWeb, EndsWeb, IfOver, IsNotOver};
 ghost use Rattle.mud_web_session.specs.Web.{has_ended, Sent};
 
@@ -40,7 +40,7 @@ impl WebSession {
         ensures stands { IfOk result (λ web. StandsAfter web []) }
         ensures open_still { IfOk result (λ web. has_ended web ≡ false) }
         ensures out { IfOk result (λ web. web.session.out
-            ≡ (if greet then line_sent (codes "Welcome. Type: connect NAME") else [])) }
+            ≡ (if greet then wire_text (codes "Welcome. Type: connect NAME") else [])) }
     {
         let session = Session::new(alloc, greet)?;
         Ok(WebSession {
@@ -147,7 +147,7 @@ impl WebSession {
 
     /// Adds a text of the server's own to `out`, as one message. After an error nothing has changed.
     pub fn tell(&mut self, text: &[u8], out: &mut Vec<u8>) -> Result<(), SendFault>
-        ensures ok { OnOk result (out.new.items ≡ out.old.items ++ framed text.now) }
+        ensures ok { OnOk result (out.new.items ≡ out.old.items ++ frame_of text.now) }
         ensures same { self.new ≡ self.old }
         ensures err { OnErr result (out.new.items ≡ out.old.items) }
     {

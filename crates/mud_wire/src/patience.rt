@@ -70,14 +70,14 @@ impl Patience {
 
     /// How long the next read may wait, for ever where there is no limit; or what ends the session now.
     pub fn wait(&self, now: Duration) -> Result<Option<Duration>, Parting> {
-        let idle = left(self.idle, self.last_line, now, Parting::Idle)?;
-        let unnamed = left(self.unnamed, self.start, now, Parting::Unnamed)?;
+        let idle = time_left(self.idle, self.last_line, now, Parting::Idle)?;
+        let unnamed = time_left(self.unnamed, self.start, now, Parting::Unnamed)?;
         Ok(shorter(idle, unnamed))
     }
 }
 
 // What is left now of a limit that began at a time; nothing is what ends the session.
-fn left(
+fn time_left(
     limit: Option<Duration>,
     since: Duration,
     now: Duration,

@@ -4,6 +4,7 @@ use Rattle.std.proofs.Common.{length, refl, sym, ◌∙◌, arith}
 use Rattle.std.specs.List.{slice_split, onto_first, list_all}
 use Rattle.std.proofs.lemmas.Bool.{false≢true}
 use Rattle.std.proofs.lemmas.Bool.Decides.{nat_tests}
+use Rattle.mud_words.specs.declared.codes.TheConstants.{QUOTE, COLON, SEMICOLON}
 use Rattle.mud_words.specs.declared.piece.Piece.{Piece}
 use Rattle.mud_words.specs.declared.piece.Piece.TheVariants.{Mark, Char}
 use Rattle.mud_words.specs.Words.{is_gap, texts_of, pieces_from, quoted_after, escaped_after, plain_words, is_space}
@@ -65,7 +66,7 @@ no_words [] other = (λ _. refl, λ _. refl)
 no_words (b ∷ bs) other = (
   λ none. absurd (false≢true (sym (not_empty b bs) ∙ none)),
   λ none.
-      absurd (spelled b bs (b == 34) (b == 58) (b == 59) other none),
+      absurd (spelled b bs (b == QUOTE) (b == COLON) (b == SEMICOLON) other none),
 )
 
 -- and a line has no words just where it is blank

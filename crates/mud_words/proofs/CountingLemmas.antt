@@ -10,7 +10,7 @@ use Rattle.std.proofs.lemmas.List.{take-map, length-map, length-drop, length-tak
 use Rattle.std.proofs.lemmas.Bool.{false≢true}
 use Rattle.std.proofs.lemmas.Bool.Decides.{nat_tests}
 use Rattle.mud_words.specs.Prepositions.{Phrase, Found, Stands, Counts, table, of_length, lower, begins, phrase_at}
-use Rattle.mud_words.specs.Prepositions.{or_later, counted}
+use Rattle.mud_words.specs.Prepositions.{or_later, preposition_of}
 
 -- a phrase is one of a list
 abbrev Among : List Phrase → Phrase → Type 0
@@ -269,10 +269,10 @@ says_step w ws None (Some f) is rest = record {
   longest = λ q h. rest.longest q (subst (λ l. Here l q) (drop-past w ws f.place) h);
 }
 
-says : (args : List (List ℕ)) → Says args (counted args)
-unfolding counted
+says : (args : List (List ℕ)) → Says args (preposition_of args)
+unfolding preposition_of
 says [] = λ k q h. nowhere k q h
-says (w ∷ ws) = says_step w ws (phrase_at (w ∷ ws)) (counted ws) refl (says ws)
+says (w ∷ ws) = says_step w ws (phrase_at (w ∷ ws)) (preposition_of ws) refl (says ws)
 
 -- ---- no two phrases of the table have the same words
 abbrev find_same : List (List ℕ) → Option Phrase
@@ -329,16 +329,16 @@ is_that args f (Some g) told h =
     ap (λ k. Some (record { place = k; phrase = g.phrase })) place
     ∙ ap (λ p. Some (record { place = f.place; phrase = p })) phrase
 
-pub counted_counts : (args : List (List ℕ)) (f : Found) → (counted args ≡ Some f) ↔ Counts args f
+pub counted_counts : (args : List (List ℕ)) (f : Found) → (preposition_of args ≡ Some f) ↔ Counts args f
 counted_counts args f =
-    ((λ e. counts args f (subst (Says args) e (says args))), (λ h. is_that args f (counted args) (says args) h))
+    ((λ e. counts args f (subst (Says args) e (says args))), (λ h. is_that args f (preposition_of args) (says args) h))
 
 is_none : (args : List (List ℕ)) (o : Option Found) → Says args o → ((f : Found) → ¬ Stands args f) → o ≡ None
 is_none args None told bare = refl
 is_none args (Some f) told bare = absurd (bare f (stands args f.place f.phrase told.stands))
 
-pub counted_none : (args : List (List ℕ)) → (counted args ≡ None) ↔ ((f : Found) → ¬ Stands args f)
+pub counted_none : (args : List (List ℕ)) → (preposition_of args ≡ None) ↔ ((f : Found) → ¬ Stands args f)
 counted_none args = (
   (λ e f h. let bare : Says args None = subst (Says args) e (says args) in bare f.place f.phrase (heard args f h)),
-  (λ bare. is_none args (counted args) (says args) bare),
+  (λ bare. is_none args (preposition_of args) (says args) bare),
 )

@@ -5,7 +5,7 @@ use Rattle.std.proofs.lemmas.List.{append-nil}
 use Rattle.mud_words.specs.declared.piece.Piece.{Piece}
 use Rattle.mud_words.specs.declared.piece.Piece.TheVariants.{Mark, Char}
 use Rattle.mud_words.specs.Words.{is_gap, text_of, texts_of}
-use Rattle.mud_words.specs.inner.Cutting.{goes_on, rest_words, begun}
+use Rattle.mud_words.specs.inner.Cutting.{goes_on, rest_words, open_word}
 
 pub onto : (word : List ℕ) (c : ℕ) (parts : List (List Piece))
     → goes_on word (onto_first (Char c) parts) ≡ goes_on (word ++ c ∷ []) parts
@@ -25,6 +25,6 @@ more_mark word [] = ap (λ (w : List ℕ). w ∷ []) (append-nil word)
 more_mark word (part ∷ parts) = refl
 
 pub mark : (word : Option (List ℕ)) (ps : List Piece)
-    → rest_words word (Mark ∷ ps) ≡ goes_on (begun word) (slice_split is_gap ps)
+    → rest_words word (Mark ∷ ps) ≡ goes_on (open_word word) (slice_split is_gap ps)
 mark (Some word) ps = more_mark word (slice_split is_gap ps)
 mark None ps = first_mark (slice_split is_gap ps)

@@ -3,31 +3,32 @@ use Rattle.std.proofs.Common.{◌≡◌, ℕ, List, [], ◌∷◌, ◌++◌, map
 use Rattle.std.proofs.Common.{◌∙◌, ◌<◌, ◌≤◌, length, get_or, take_all, arith}
 use Rattle.std.specs.List.{join_by, flat_map}
 use Rattle.std.proofs.lemmas.List.{append-nil, take-map, drop-map}
+use Rattle.mud_words.specs.declared.codes.TheConstants.{SPACE}
 use Rattle.mud_words.specs.declared.prepositions.Spot.{Spot}
-use Rattle.mud_words.specs.Prepositions.{Found, counted}
+use Rattle.mud_words.specs.Prepositions.{Found, preposition_of}
 use Rattle.mud_words.specs.Parse.{round}
-use Rattle.mud_words.specs.inner.Searching.{spot_of, split, joined}
+use Rattle.mud_words.specs.inner.Searching.{spot_of, split, join_words}
 
 -- the library's words for the same
-pub joined_by : {X : Type 0} (f : X → List ℕ) (xs : List X) → join_by f (32 ∷ []) xs ≡ joined (map f xs)
+pub joined_by : {X : Type 0} (f : X → List ℕ) (xs : List X) → join_by f (SPACE ∷ []) xs ≡ join_words (map f xs)
 joined_by f [] = refl
 joined_by f (x ∷ []) = append-nil (f x)
-joined_by f (x ∷ y ∷ xs) = ap (λ (l : List ℕ). f x ++ (32 ∷ l)) (joined_by f (y ∷ xs))
+joined_by f (x ∷ y ∷ xs) = ap (λ (l : List ℕ). f x ++ (SPACE ∷ l)) (joined_by f (y ∷ xs))
 
 -- the first word, and each other one with a space in front
 pub joined_from : {X : Type 0} (f : X → List ℕ) (xs : List X) (x : X) (n : ℕ) (text : List ℕ) → 0 < length xs
-    → x ≡ get_or xs 0 x → length (drop 1 xs) ≤ n → text ≡ f x ++ flat_map (λ y. 32 ∷ f y) (take n (drop 1 xs))
-    → text ≡ joined (map f xs)
+    → x ≡ get_or xs 0 x → length (drop 1 xs) ≤ n → text ≡ f x ++ flat_map (λ y. SPACE ∷ f y) (take n (drop 1 xs))
+    → text ≡ join_words (map f xs)
 joined_from f [] x n text some first all is = absurd (omega arith)
 joined_from f (y ∷ ys) x n text some first all is =
     is
-    ∙ ap (λ (l : List ℕ). l ++ flat_map (λ y. 32 ∷ f y) (take n ys)) (ap f first)
-    ∙ ap (λ zs. f y ++ flat_map (λ y. 32 ∷ f y) zs) (take_all n ys all)
+    ∙ ap (λ (l : List ℕ). l ++ flat_map (λ y. SPACE ∷ f y) (take n ys)) (ap f first)
+    ∙ ap (λ zs. f y ++ flat_map (λ y. SPACE ∷ f y) zs) (take_all n ys all)
     ∙ joined_by f (y ∷ ys)
 
 round_is : {X : Type 0} (f : X → List ℕ) (verb rest direct indirect : List ℕ) (xs : List X) (spot : Spot)
-    (o : Option Found) → Some spot ≡ option_map spot_of o → direct ≡ joined (map f (take spot.start xs))
-    → indirect ≡ joined (map f (drop spot.end xs))
+    (o : Option Found) → Some spot ≡ option_map spot_of o → direct ≡ join_words (map f (take spot.start xs))
+    → indirect ≡ join_words (map f (drop spot.end xs))
     → record { verb = verb; args = map f xs; direct = direct; prep = Some spot.prep; indirect = indirect; rest = rest }
     ≡ round verb (map f xs) rest o
 round_is f verb rest direct indirect xs spot None is before behind = cc
@@ -37,8 +38,8 @@ round_is f verb rest direct indirect xs spot (Some g) is before behind =
 
 -- what stands round a preposition
 pub split_is : {X : Type 0} (f : X → List ℕ) (verb rest direct indirect : List ℕ) (xs : List X) (spot : Spot)
-    → Some spot ≡ option_map spot_of (counted (map f xs)) → direct ≡ joined (map f (take spot.start xs))
-    → indirect ≡ joined (map f (drop spot.end xs))
+    → Some spot ≡ option_map spot_of (preposition_of (map f xs)) → direct ≡ join_words (map f (take spot.start xs))
+    → indirect ≡ join_words (map f (drop spot.end xs))
     → record { verb = verb; args = map f xs; direct = direct; prep = Some spot.prep; indirect = indirect; rest = rest }
     ≡ split verb (map f xs) rest
 split_is f verb rest direct indirect xs spot is before behind =

@@ -5,26 +5,27 @@ use Rattle.std.proofs.Common.{filter, None, refl, sym, ap, ◌∙◌, append_ass
 use Rattle.std.specs.List.{slice_split, onto_first, flat_map, join_with_byte, list_all}
 use Rattle.std.proofs.lemmas.List.{append-nil}
 use Rattle.std.proofs.lemmas.Bool.{false≢true}
+use Rattle.mud_words.specs.declared.codes.TheConstants.{SPACE, QUOTE, BACKSLASH}
 use Rattle.mud_words.specs.declared.piece.Piece.{Piece}
 use Rattle.mud_words.specs.declared.piece.Piece.TheVariants.{Gap, Char}
 use Rattle.mud_words.specs.Words.{pieces_from, pieces, is_gap, text_of, texts_of, plain_words, is_space}
-use Rattle.mud_words.specs.Laws.{is_mark, quoted, is_empty}
+use Rattle.mud_words.specs.Laws.{is_mark, in_quotes, is_empty}
 use Rattle.mud_words.specs.inner.Cutting.{goes_on}
 use Rattle.mud_words.proofs.CuttingLemmas.{onto, more_mark, mark}
 
 -- ---- words between quotes
 -- a byte that stands for itself between quotes: a quote or a backslash has a backslash before it
 abbrev guarded : ℕ → List ℕ
-guarded b = if is_mark b then 92 ∷ b ∷ [] else b ∷ []
+guarded b = if is_mark b then BACKSLASH ∷ b ∷ [] else b ∷ []
 
 -- a word goes on with a text, with these flags
 abbrev goes : List ℕ → Bool → Bool → List ℕ → List (List ℕ)
 goes word quoted escaped text = goes_on word (slice_split is_gap (pieces_from quoted escaped text))
 
 -- a guarded byte between quotes adds itself, whichever test finds it to be a mark
-guarded_goes : (word : List ℕ) (b : ℕ) (rest : List ℕ) (quote backslash : Bool) → eqb b 34 ≡ quote
-    → eqb b 92 ≡ backslash
-    → goes word true false (cond (quote || backslash) (92 ∷ b ∷ []) (b ∷ []) ++ rest)
+guarded_goes : (word : List ℕ) (b : ℕ) (rest : List ℕ) (quote backslash : Bool) → eqb b QUOTE ≡ quote
+    → eqb b BACKSLASH ≡ backslash
+    → goes word true false (cond (quote || backslash) (BACKSLASH ∷ b ∷ []) (b ∷ []) ++ rest)
     ≡ goes (word ++ b ∷ []) true false rest
 guarded_goes word b rest true backslash is_quote is_backslash =
     more_mark word _ ∙ onto word b (slice_split is_gap (pieces_from true false rest))
@@ -37,29 +38,30 @@ inside : (word w rest : List ℕ) → goes word true false (flat_map guarded w +
 inside word [] rest = ap (λ l. goes l true false rest) (sym (append-nil word))
 inside word (b ∷ w) rest =
     ap (goes word true false) (append_assoc (guarded b) (flat_map guarded w) rest)
-    ∙ guarded_goes word b (flat_map guarded w ++ rest) (eqb b 34) (eqb b 92) refl refl
+    ∙ guarded_goes word b (flat_map guarded w ++ rest) (eqb b QUOTE) (eqb b BACKSLASH) refl refl
     ∙ inside (word ++ b ∷ []) w rest
     ∙ ap (λ l. goes l true false rest) (append_assoc word (b ∷ []) w)
 
 -- a word between quotes, and what follows it
-quoted_goes : (w rest : List ℕ) → plain_words (quoted w ++ rest) ≡ goes w false false rest
+quoted_goes : (w rest : List ℕ) → plain_words (in_quotes w ++ rest) ≡ goes w false false rest
 quoted_goes w rest =
-    mark None (pieces_from true false ((flat_map guarded w ++ 34 ∷ []) ++ rest))
-    ∙ ap (goes [] true false) (append_assoc (flat_map guarded w) (34 ∷ []) rest)
-    ∙ inside [] w (34 ∷ rest)
+    mark None (pieces_from true false ((flat_map guarded w ++ QUOTE ∷ []) ++ rest))
+    ∙ ap (goes [] true false) (append_assoc (flat_map guarded w) (QUOTE ∷ []) rest)
+    ∙ inside [] w (QUOTE ∷ rest)
     ∙ more_mark w (slice_split is_gap (pieces_from false false rest))
 
 last_word : (w : List ℕ) → goes w false false [] ≡ w ∷ []
 last_word w = ap (λ (l : List ℕ). l ∷ []) (append-nil w)
 
-word_then : (w rest : List ℕ) → goes w false false (32 ∷ rest) ≡ w ∷ plain_words rest
+word_then : (w rest : List ℕ) → goes w false false (SPACE ∷ rest) ≡ w ∷ plain_words rest
 word_then w rest = ap (λ (l : List ℕ). l ∷ plain_words rest) (append-nil w)
 
-pub quoted_words : (ws : List (List ℕ)) → plain_words (join_with_byte 32 (map quoted ws)) ≡ ws
+pub quoted_words : (ws : List (List ℕ)) → plain_words (join_with_byte SPACE (map in_quotes ws)) ≡ ws
 quoted_words [] = refl
-quoted_words (w ∷ []) = ap plain_words (sym (append-nil (quoted w))) ∙ quoted_goes w [] ∙ last_word w
+quoted_words (w ∷ []) = ap plain_words (sym (append-nil (in_quotes w))) ∙ quoted_goes w [] ∙ last_word w
 quoted_words (w ∷ v ∷ vs) =
-    quoted_goes w (32 ∷ join_with_byte 32 (map quoted (v ∷ vs))) ∙ word_then w (join_with_byte 32 (map quoted (v ∷ vs)))
+    quoted_goes w (SPACE ∷ join_with_byte SPACE (map in_quotes (v ∷ vs)))
+    ∙ word_then w (join_with_byte SPACE (map in_quotes (v ∷ vs)))
     ∙ ap (λ (l : List (List ℕ)). w ∷ l) (quoted_words (v ∷ vs))
 
 -- ---- a line without quotes and backslashes
@@ -88,7 +90,7 @@ plain_pieces : (line : List ℕ) → list_all (λ b. not (is_mark b)) line ≡ t
 plain_pieces [] all = refl
 plain_pieces (b ∷ bs) all =
     let parts = both (not (is_mark b)) (list_all (λ b. not (is_mark b)) bs) all in
-    let plain = no_mark (b == 34) (b == 92) parts.0 in
+    let plain = no_mark (b == QUOTE) (b == BACKSLASH) parts.0 in
     rw (plain.0, plain.1) (plain_byte b (is_space b) (pieces bs) (slice_split is_space bs) (plain_pieces bs parts.1))
 
 chars_text : (part : List ℕ) → text_of (map Char part) ≡ part

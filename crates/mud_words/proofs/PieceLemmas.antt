@@ -4,6 +4,7 @@ use Rattle.std.proofs.Common.{refl, inl, inr, arith}
 use Rattle.std.proofs.lemmas.Bool.Decides.{nat_tests}
 use Rattle.std.proofs.lemmas.Bool.{cases_lt}
 use Rattle.std.specs.List.{position_or_len}
+use Rattle.mud_words.specs.declared.codes.TheConstants.{SPACE, QUOTE, BACKSLASH}
 use Rattle.mud_words.specs.declared.piece.Piece.{Piece}
 use Rattle.mud_words.specs.declared.piece.Piece.TheVariants.{Gap, Mark, Char}
 use Rattle.mud_words.specs.Words.{piece, quoted_after, escaped_after, is_gap}
@@ -14,9 +15,9 @@ not_eqb b c lt = grind (arith, nat_tests)
 -- a byte past ASCII stands for itself
 piece-high : (quoted escaped : Bool) (b : ℕ) → 127 < b → piece quoted escaped b ≡ Char b
 piece-high quoted true b high = refl
-piece-high true false b high = rw (not_eqb b 92 (omega arith), not_eqb b 34 (omega arith)) refl
+piece-high true false b high = rw (not_eqb b BACKSLASH (omega arith), not_eqb b QUOTE (omega arith)) refl
 piece-high false false b high =
-    rw (not_eqb b 92 (omega arith), not_eqb b 34 (omega arith), not_eqb b 32 (omega arith)) refl
+    rw (not_eqb b BACKSLASH (omega arith), not_eqb b QUOTE (omega arith), not_eqb b SPACE (omega arith)) refl
 
 -- and so one that does not is ASCII
 pub piece-low : (quoted escaped : Bool) (b : ℕ) → (piece quoted escaped b ≡ Char b → ⊥) → b < 128
@@ -44,7 +45,7 @@ open_tests false space false false b gap = (refl, refl)
 pub after_gap : (quoted escaped : Bool) (b : ℕ) → Gap ≡ piece quoted escaped b
     → (quoted_after quoted escaped b ≡ false) × (escaped_after escaped b ≡ false)
 after_gap quoted true b gap = cc
-after_gap quoted false b gap = open_tests quoted (eqb b 32) (eqb b 34) (eqb b 92) b gap
+after_gap quoted false b gap = open_tests quoted (eqb b SPACE) (eqb b QUOTE) (eqb b BACKSLASH) b gap
 
 -- what stands after the first gap
 abbrev pub from_gap : List Piece → List ℕ → List ℕ

@@ -12,7 +12,7 @@ use Rattle.std.proofs.lemmas.List.{take_rest, drop-map, drop-drop, drop_all, len
 use Rattle.std.proofs.lemmas.List.{nil_from_length}
 use Rattle.std.proofs.lemmas.Slice.Eq.{bytes_eq-Decides}
 use Rattle.mud_words.specs.declared.Prep.{Prep}
-use Rattle.mud_words.specs.Prepositions.{Phrase, Found, lower, begins, of_length, phrase_at, or_later, counted}
+use Rattle.mud_words.specs.Prepositions.{Phrase, Found, lower, begins, of_length, phrase_at, or_later, preposition_of}
 use Rattle.mud_words.specs.inner.Searching.{spot_of, phrase_len}
 
 -- the same phrase, so many words further on
@@ -39,8 +39,9 @@ begins_more f g (x ∷ xs) (y ∷ ys) d e some more same =
 -- the preposition at the first of the words that follow place i
 found : (i : ℕ) (ws : List (List ℕ)) (o : Option Phrase) (prep : Prep) (len : ℕ) → 0 < length ws → o ≡ phrase_at ws
     → Some (prep, len) ≡ option_map phrase_len o
-    → Some (record { prep = prep; start = i; end = i + len }) ≡ option_map spot_of (option_map (moved i) (counted ws))
-unfolding counted
+    → Some (record { prep = prep; start = i; end = i + len })
+    ≡ option_map spot_of (option_map (moved i) (preposition_of ws))
+unfolding preposition_of
 found i [] o prep len some is this = absurd (omega arith)
 found i (w ∷ ws) None prep len some is this = cc
 found i (w ∷ ws) (Some p) prep len some is this =
@@ -53,17 +54,17 @@ later i (Some f) = let e : i + (f.place + 1) ≡ i + 1 + f.place = omega arith i
 
 passed : (i : ℕ) (ws : List (List ℕ)) (o : Option Phrase) → 0 < length ws → o ≡ phrase_at ws
     → None ≡ option_map phrase_len o
-    → option_map (moved i) (counted ws) ≡ option_map (moved (i + 1)) (counted (drop 1 ws))
-unfolding counted
+    → option_map (moved i) (preposition_of ws) ≡ option_map (moved (i + 1)) (preposition_of (drop 1 ws))
+unfolding preposition_of
 passed i [] o some is this = absurd (omega arith)
 passed i (w ∷ ws) (Some p) some is this = cc
-passed i (w ∷ ws) None some is this = rw (← is) (later i (counted ws))
+passed i (w ∷ ws) None some is this = rw (← is) (later i (preposition_of ws))
 
 -- the same in the code's words: one stands at place i
 pub counted_here : {X : Type 0} (f : X → List ℕ) (xs : List X) (i : ℕ) (prep : Prep) (len : ℕ) → i < length xs
     → Some (prep, len) ≡ option_map phrase_len (phrase_at (map f (take (length xs - i) (drop i xs))))
     → Some (record { prep = prep; start = i; end = i + len })
-    ≡ option_map spot_of (option_map (moved i) (counted (map f (drop i xs))))
+    ≡ option_map spot_of (option_map (moved i) (preposition_of (map f (drop i xs))))
 counted_here f xs i prep len lt here =
     found i (map f (drop i xs)) _ prep len (omega (arith, length-map (drop i xs) f, length-drop i xs)) refl
     (rw take_rest at here)
@@ -71,12 +72,12 @@ counted_here f xs i prep len lt here =
 -- and none does
 pub counted_later : {X : Type 0} (f : X → List ℕ) (xs : List X) (i : ℕ) → i < length xs
     → None ≡ option_map phrase_len (phrase_at (map f (take (length xs - i) (drop i xs))))
-    → option_map (moved i) (counted (map f (drop i xs)))
-    ≡ option_map (moved (i + 1)) (counted (map f (drop (i + 1) xs)))
+    → option_map (moved i) (preposition_of (map f (drop i xs)))
+    ≡ option_map (moved (i + 1)) (preposition_of (map f (drop (i + 1) xs)))
 counted_later f xs i lt here =
     passed i (map f (drop i xs)) _ (omega (arith, length-map (drop i xs) f, length-drop i xs)) refl
     (rw take_rest at here)
-    ∙ ap (λ (ws : List (List ℕ)). option_map (moved (i + 1)) (counted ws))
+    ∙ ap (λ (ws : List (List ℕ)). option_map (moved (i + 1)) (preposition_of ws))
     (drop-map f 1 (drop i xs) ∙ ap (map f) (drop-drop 1 i xs))
 
 moved_none : (o : Option Found) → option_map (moved 0) o ≡ o
@@ -84,12 +85,12 @@ moved_none None = refl
 moved_none (Some f) = rw zero-add refl
 
 -- no word is passed yet, and none is left
-pub counted_first : (ws : List (List ℕ)) → option_map (moved 0) (counted ws) ≡ counted ws
-counted_first ws = moved_none (counted ws)
+pub counted_first : (ws : List (List ℕ)) → option_map (moved 0) (preposition_of ws) ≡ preposition_of ws
+counted_first ws = moved_none (preposition_of ws)
 
 pub counted_end : {X : Type 0} (f : X → List ℕ) (xs : List X) (i : ℕ) → length xs ≤ i
-    → None ≡ option_map (moved i) (counted (map f (drop i xs)))
-unfolding counted
+    → None ≡ option_map (moved i) (preposition_of (map f (drop i xs)))
+unfolding preposition_of
 counted_end f xs i end = rw (drop_all i xs end) refl
 
 -- ---- by the first letter

@@ -7,6 +7,7 @@ use Rattle.std.proofs.lemmas.Bool.{eqb-true}
 use Rattle.std.proofs.lemmas.List.{append-nil, take_more, take_all, get_or-drop, get_or_default, length-drop}
 use Rattle.std.proofs.lemmas.List.{drop_more, drop_all, map_push}
 use Rattle.std.proofs.lemmas.Str.{IsCharBoundary-after_ascii, IsCharBoundary-start}
+use Rattle.mud_words.specs.declared.codes.TheConstants.{SPACE}
 use Rattle.mud_words.specs.declared.piece.Piece.{Piece}
 use Rattle.mud_words.specs.declared.piece.Piece.TheVariants.{Gap, Mark, Char}
 use Rattle.mud_words.specs.Words.{piece, quoted_after, escaped_after, is_gap, pieces_from, pieces, texts_of}
@@ -221,7 +222,7 @@ without_front-words (b ∷ bs) = front b bs (is_space b) refl (without_front-wor
   where
     front : (b : ℕ) (bs : List ℕ) (t : Bool) → is_space b ≡ t → plain_words (without_front bs) ≡ plain_words bs
         → plain_words (cond t (without_front bs) (b ∷ bs)) ≡ plain_words (b ∷ bs)
-    front b bs true is rest = rest ∙ sym (ap (λ (c : ℕ). plain_words (c ∷ bs)) (eqb-true b 32 is))
+    front b bs true is rest = rest ∙ sym (ap (λ (c : ℕ). plain_words (c ∷ bs)) (eqb-true b SPACE is))
     front b bs false is rest = refl
 
 pub without_front-length : (text : List ℕ) → length (without_front text) ≤ length text

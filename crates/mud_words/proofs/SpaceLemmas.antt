@@ -11,6 +11,7 @@ use Rattle.std.proofs.lemmas.Str.{encode_ascii}
 use Rattle.std.proofs.lemmas.Str.Pattern.{drop_at_char}
 use Rattle.std.proofs.lemmas.Bool.{cases_eq, eqb-true}
 use Rattle.std.proofs.lemmas.Bool.Decides.{nat_tests}
+use Rattle.mud_words.specs.declared.codes.TheConstants.{QUOTE, COLON, SEMICOLON}
 use Rattle.mud_words.specs.Words.{is_space, without_front, without_back, spelled_out}
 
 -- ---- in front
@@ -81,11 +82,12 @@ other_first b c bs bare =
           grind (arith, nat_tests)
     ]
 
-plain_first : (line : List ℕ) → ((rest : List ℕ) → line ≡ 34 ∷ rest → ⊥) → ((rest : List ℕ) → line ≡ 58 ∷ rest → ⊥)
-    → ((rest : List ℕ) → line ≡ 59 ∷ rest → ⊥) → line ≡ spelled_out line
+plain_first : (line : List ℕ) → ((rest : List ℕ) → line ≡ QUOTE ∷ rest → ⊥)
+    → ((rest : List ℕ) → line ≡ COLON ∷ rest → ⊥) → ((rest : List ℕ) → line ≡ SEMICOLON ∷ rest → ⊥)
+    → line ≡ spelled_out line
 plain_first [] say emote eval = refl
 plain_first (b ∷ bs) say emote eval =
-    rw (other_first b 34 bs say, other_first b 58 bs emote, other_first b 59 bs eval) refl
+    rw (other_first b QUOTE bs say, other_first b COLON bs emote, other_first b SEMICOLON bs eval) refl
 
 -- a line without shorthand is spelled out already
 pub spelled_out-plain : (line : List ℕ) → ((rest : List ℕ) → line ≡ encode_utf8 34 ++ rest → ⊥)

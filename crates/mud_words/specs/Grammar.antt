@@ -1,17 +1,17 @@
 -- The words of a line by a grammar, over whole lists: which texts spell a word, and which lines have which words.
--- The law `laws::grammar` says that a line has the words that `plain_words` gives and no others. 32 is a space, 34 a
--- quote, 92 a backslash.
+-- The law `laws::grammar` says that a line has the words that `plain_words` gives and no others.
 use Rattle.std.specs.Prelude.{◌≢◌, ℕ, List, [], ◌∷◌, ◌++◌, codes}
+use Rattle.mud_words.specs.declared.codes.TheConstants.{SPACE, QUOTE, BACKSLASH}
 
 -- what stands between two quotes, and its characters: bytes but quotes and backslashes, and any byte after a backslash
 pub data SpellsQuoted : List ℕ → List ℕ → Type 0 where
   nothing : SpellsQuoted [] []
-  byte : {b : ℕ} {x text : List ℕ} → b ≢ 34 → b ≢ 92 → SpellsQuoted x text → SpellsQuoted (b ∷ x) (b ∷ text)
+  byte : {b : ℕ} {x text : List ℕ} → b ≢ QUOTE → b ≢ BACKSLASH → SpellsQuoted x text → SpellsQuoted (b ∷ x) (b ∷ text)
   guarded : {b : ℕ} {x text : List ℕ} → SpellsQuoted x text → SpellsQuoted (codes "\\" ++ b ∷ x) (b ∷ text)
 
 -- a run of a word, and its characters: one plain byte, any byte after a backslash, or what stands between quotes
 pub data SpellsRun : List ℕ → List ℕ → Type 0 where
-  plain : {b : ℕ} → b ≢ 32 → b ≢ 34 → b ≢ 92 → SpellsRun (b ∷ []) (b ∷ [])
+  plain : {b : ℕ} → b ≢ SPACE → b ≢ QUOTE → b ≢ BACKSLASH → SpellsRun (b ∷ []) (b ∷ [])
   escaped : {b : ℕ} → SpellsRun (codes "\\" ++ b ∷ []) (b ∷ [])
   quoted : {x text : List ℕ} → SpellsQuoted x text → SpellsRun (codes "\"" ++ x ++ codes "\"") text
 

@@ -3,20 +3,21 @@ use Rattle.std.specs.Prelude.{◌≡◌, ℕ, Bool, true, false, not, ◌||◌, 
 use Rattle.std.specs.Prelude.{◌↔◌, codes}
 use Rattle.std.specs.Prelude.{map}
 use Rattle.std.specs.List.{slice_split, flat_map, join_with_byte, list_all}
+use Rattle.mud_words.specs.declared.codes.TheConstants.{SPACE, QUOTE, BACKSLASH}
 use Rattle.mud_words.specs.Words.{plain_words, is_space, after_first_word}
 use Rattle.mud_words.specs.Grammar.{SpellsWord, SpellsLast, HasWords}
 
--- a double quote, 34, or a backslash, 92
+-- a double quote or a backslash
 abbrev pub is_mark : ℕ → Bool
-is_mark b = b == 34 || b == 92
+is_mark b = b == QUOTE || b == BACKSLASH
 
 -- a word between double quotes, with a backslash before each quote and each backslash of it
-abbrev pub quoted : List ℕ → List ℕ
-quoted word = 34 ∷ (flat_map (λ b. if is_mark b then 92 ∷ b ∷ [] else b ∷ []) word ++ 34 ∷ [])
+abbrev pub in_quotes : List ℕ → List ℕ
+in_quotes word = QUOTE ∷ (flat_map (λ b. if is_mark b then BACKSLASH ∷ b ∷ [] else b ∷ []) word ++ QUOTE ∷ [])
 
 -- every list of words can be written as a line, each word between quotes, with one space between two, and reads back
 abbrev pub QuotedWordsReadBack : Type 0
-QuotedWordsReadBack = (ws : List (List ℕ)) → plain_words (join_with_byte 32 (map quoted ws)) ≡ ws
+QuotedWordsReadBack = (ws : List (List ℕ)) → plain_words (join_with_byte SPACE (map in_quotes ws)) ≡ ws
 
 -- there is nothing in it
 abbrev pub is_empty : {A : Type 0} → List A → Bool

@@ -2,27 +2,28 @@
 use Rattle.std.specs.Prelude.{ℕ, ◌+◌, List, [], ◌∷◌, length, take, drop, Option, None}
 use Rattle.std.specs.Option.{option_map, option_map_or}
 use Rattle.std.specs.List.{join_with_byte}
+use Rattle.mud_words.specs.declared.codes.TheConstants.{SPACE}
 use Rattle.mud_words.specs.Words.{words, after_first_word, without_front, without_back, spelled_out}
 use Rattle.mud_words.specs.Line.{Line}
-use Rattle.mud_words.specs.Prepositions.{Found, lower, counted}
+use Rattle.mud_words.specs.Prepositions.{Found, lower, preposition_of}
 
 -- the objects round a preposition: the words before it are direct, those after it indirect; without one all are direct
 abbrev pub round : List ℕ → List (List ℕ) → List ℕ → Option Found → Line
 round verb args rest found = record {
   verb = verb;
   args = args;
-  direct = join_with_byte 32 (option_map_or (λ f. take f.place args) found args);
+  direct = join_with_byte SPACE (option_map_or (λ f. take f.place args) found args);
   prep = option_map (λ f. f.phrase.prep) found;
-  indirect = join_with_byte 32 (option_map_or (λ f. drop (f.place + length f.phrase.words) args) found []);
+  indirect = join_with_byte SPACE (option_map_or (λ f. drop (f.place + length f.phrase.words) args) found []);
   rest = rest;
 }
 
 -- what some words say: the first is the verb, and the others are parted at the preposition that counts
-abbrev pub said : List (List ℕ) → List ℕ → Line
-said [] rest = round [] [] rest None
-said (verb ∷ args) rest = round (lower verb) args rest (counted args)
+abbrev pub line_of_words : List (List ℕ) → List ℕ → Line
+line_of_words [] rest = round [] [] rest None
+line_of_words (verb ∷ args) rest = round (lower verb) args rest (preposition_of args)
 
 -- what a line says: what its words say, with the text after the first of them, without the spaces at its ends
-unfoldable pub parsed : List ℕ → Line
-parsed line =
-    said (words line) (without_back (without_front (after_first_word (spelled_out (without_front line)))))
+unfoldable pub parse_of : List ℕ → Line
+parse_of line =
+    line_of_words (words line) (without_back (without_front (after_first_word (spelled_out (without_front line)))))

@@ -76,6 +76,6 @@ or_later None None = None
 or_later None (Some f) = Some (record f { place = f.place + 1 })
 
 -- the preposition that counts. A reader need not look into this: `laws::preposition` says that it is that of `Counts`
-unfoldable pub counted : List (List ℕ) → Option Found
-counted [] = None
-counted (w ∷ ws) = or_later (phrase_at (w ∷ ws)) (counted ws)
+unfoldable pub preposition_of : List (List ℕ) → Option Found
+preposition_of [] = None
+preposition_of (w ∷ ws) = or_later (phrase_at (w ∷ ws)) (preposition_of ws)

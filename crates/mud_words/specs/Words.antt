@@ -2,27 +2,26 @@
 use Rattle.std.specs.Prelude.{ℕ, ◌+◌, Bool, true, false, not, ◌&&◌, ◌||◌, ◌==◌, if◌then◌else◌, List, [], ◌∷◌, ◌++◌}
 use Rattle.std.specs.Prelude.{drop, filter, map, reverse, codes}
 use Rattle.std.specs.List.{slice_split, flat_map, list_all, position_or_len}
+use Rattle.mud_words.specs.declared.codes.TheConstants.{SPACE, QUOTE, BACKSLASH, COLON, SEMICOLON}
 use Rattle.mud_words.specs.declared.piece.Piece.{Piece}
 use Rattle.mud_words.specs.declared.piece.Piece.TheVariants.{Gap, Mark, Char}
 
 -- ---- what each byte is
 -- A byte is a gap (a space between words), a mark (a quote or a backslash, which belongs to a word and is no character
--- of it)
--- or a character, by whether a quote is open and whether a backslash stands right before; 92 is a backslash, 34 a
--- quote, 32 a space.
+-- of it) or a character, by whether a quote is open and whether a backslash stands right before.
 abbrev pub piece : Bool → Bool → ℕ → Piece
 piece quoted escaped b =
-    if not escaped && (b == 92 || b == 34) then Mark
-    else if not escaped && not quoted && b == 32 then Gap
+    if not escaped && (b == BACKSLASH || b == QUOTE) then Mark
+    else if not escaped && not quoted && b == SPACE then Gap
     else Char b
 
 -- whether a quote is open after the byte
 abbrev pub quoted_after : Bool → Bool → ℕ → Bool
-quoted_after quoted escaped b = if not escaped && b == 34 then not quoted else quoted
+quoted_after quoted escaped b = if not escaped && b == QUOTE then not quoted else quoted
 
 -- whether the byte makes the next one stand for itself
 abbrev pub escaped_after : Bool → ℕ → Bool
-escaped_after escaped b = not escaped && b == 92
+escaped_after escaped b = not escaped && b == BACKSLASH
 
 -- what each byte of a line is; the laws of `laws.rt` say the same of whole lines, by the grammar in Grammar.antt
 abbrev pub pieces_from : Bool → Bool → List ℕ → List Piece
@@ -67,7 +66,7 @@ after_first_word line = drop (position_or_len is_gap (pieces line) + 1) line
 
 -- ---- spaces and shorthand
 abbrev pub is_space : ℕ → Bool
-is_space b = b == 32
+is_space b = b == SPACE
 
 -- a text without the spaces at its front
 abbrev pub without_front : List ℕ → List ℕ
@@ -82,7 +81,10 @@ without_back text = reverse (without_front (reverse text))
 abbrev pub spelled_out : List ℕ → List ℕ
 spelled_out [] = []
 spelled_out (b ∷ bs) =
-    (if b == 34 then codes "say " else if b == 58 then codes "emote " else if b == 59 then codes "eval " else b ∷ [])
+    (if b == QUOTE then codes "say "
+    else if b == COLON then codes "emote "
+    else if b == SEMICOLON then codes "eval "
+    else b ∷ [])
     ++ bs
 
 -- the words of a line: those of the line that it stands for

@@ -1,15 +1,15 @@
 //! Laws about the definitions, each the contract of a function that does nothing.
 
 ghost use Rattle.std.specs.Prelude.{◌≡◌, ◌↔◌, List, ℕ, Some, None};
-ghost use Rattle.mud_words.specs.Prepositions.{Found, Stands, Counts, counted};
+ghost use Rattle.mud_words.specs.Prepositions.{Found, Stands, Counts, preposition_of};
 ghost use Rattle.mud_words.specs.Laws.{QuotedWordsReadBack, PlainLinesSplitAtSpaces, WordsAreSpelled};
 ghost use Rattle.mud_words.specs.Laws.{RestFollowsFirstWord};
 
 /// The preposition that the words are searched for is the one that counts: of those that stand
 /// at the earliest place the longest. There is none exactly where no preposition stands at all.
 pub fn preposition()
-    ensures counts { (args : List (List ℕ)) (f : Found) → (counted args ≡ Some f) ↔ Counts args f }
-    ensures none { (args : List (List ℕ)) → (counted args ≡ None) ↔ ((f : Found) → ¬ Stands args f) }
+    ensures counts { (args : List (List ℕ)) (f : Found) → (preposition_of args ≡ Some f) ↔ Counts args f }
+    ensures none { (args : List (List ℕ)) → (preposition_of args ≡ None) ↔ ((f : Found) → ¬ Stands args f) }
 {}
 
 /// Words between quotes read back: for every list of words, the line that has each between double

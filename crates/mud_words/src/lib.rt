@@ -40,8 +40,9 @@
 ghost use Rattle.std.specs.Prelude.{◌≡◌, ◌↔◌, [], ◌∷◌, IsTrue, map, string_bytes, IfOk, IfSome, MatchOption};
 ghost use Rattle.mud_words.specs.Words.{words, plain_words, is_blank, without_front, after_first_word, spelled_out};
 ghost use Rattle.mud_words.specs.Line.{line_of};
-ghost use Rattle.mud_words.specs.Parse.{parsed};
+ghost use Rattle.mud_words.specs.Parse.{parse_of};
 
+pub mod codes;
 mod cut;
 pub mod laws;
 mod piece;
@@ -51,7 +52,7 @@ mod split;
 
 use crate::cut::{first_word, push_words};
 use crate::spaces::{shorthand, without_front};
-use crate::split::{blank, said};
+use crate::split::{blank, line_with_verb};
 use std::alloc::{AllocError, Global};
 
 /// A preposition: one variant for all phrases that say the same (LambdaMOO Programmer's Manual,
@@ -133,12 +134,12 @@ pub fn words(alloc: Global, line: &str) -> Result<Vec<String>, AllocError>
 /// at one place the one of most words. ASCII case is ignored, and quotes make no difference; but
 /// a preposition of several words is several words of the line, so that `"in front of"` between
 /// quotes is none. The time is in proportion to the line.
-#[tactic(auto, unfolding(crate::specs::Parse::parsed, crate::specs::Words::words))]
+#[tactic(auto, unfolding(crate::specs::Parse::parse_of, crate::specs::Words::words))]
 pub fn parse(alloc: Global, line: &str) -> Result<Parsed, AllocError>
-    ensures { IfOk result (λ p. line_of p ≡ parsed line.now) }
+    ensures { IfOk result (λ p. line_of p ≡ parse_of line.now) }
 {
     match verb_and_text(alloc, line)? {
-        Some((verb, text)) => said(alloc, verb, text),
+        Some((verb, text)) => line_with_verb(alloc, verb, text),
         None => Ok(blank(alloc)),
     }
 }

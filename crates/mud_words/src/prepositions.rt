@@ -2,8 +2,8 @@ ghost use Rattle.std.specs.Prelude.{◌≡◌, ◌≤◌, ℕ, List, ◌∷◌, 
 ghost use Rattle.std.specs.Char.{to_ascii_lowercase};
 ghost use Rattle.std.specs.List.{find};
 ghost use Rattle.std.specs.Option.{option_map};
-ghost use Rattle.mud_words.specs.Prepositions.{begins, phrase_at, counted};
-ghost use Rattle.mud_words.specs.inner.Searching.{shown, texts, spot_of, phrase_len};
+ghost use Rattle.mud_words.specs.Prepositions.{begins, phrase_at, preposition_of};
+ghost use Rattle.mud_words.specs.inner.Searching.{row_shown, texts, spot_of, phrase_len};
 
 use crate::Prep;
 
@@ -16,8 +16,8 @@ pub(crate) struct Spot {
 }
 
 // The preposition that counts among the words of a line.
-pub(crate) fn counted(args: &[String]) -> Option<Spot>
-    ensures value { result ≡ option_map spot_of (counted (map string_bytes args.now)) }
+pub(crate) fn preposition_of(args: &[String]) -> Option<Spot>
+    ensures value { result ≡ option_map spot_of (preposition_of (map string_bytes args.now)) }
     ensures order { IfSome result (λ s. s.start ≤ s.end) }
     ensures within { IfSome result (λ s. s.end ≤ length args.now) }
 {
@@ -95,7 +95,7 @@ const WITH_W: &[(Prep, &[&str])] = &[(Prep::With, &["with"])];
 // The phrases that begin with a letter.
 fn phrases_with(letter: u8) -> &'static [(Prep, &'static [&'static str])]
     ensures { (c : ℕ) (cs : List ℕ) (ws : List (List ℕ)) → to_ascii_lowercase c ≡ letter
-        → find (λ p. begins ((c ∷ cs) ∷ ws) p.words) (map shown result.now) ≡ phrase_at ((c ∷ cs) ∷ ws) }
+        → find (λ p. begins ((c ∷ cs) ∷ ws) p.words) (map row_shown result.now) ≡ phrase_at ((c ∷ cs) ∷ ws) }
 {
     match letter {
         b'a' => WITH_A,
@@ -113,7 +113,7 @@ fn phrases_with(letter: u8) -> &'static [(Prep, &'static [&'static str])]
 // The first of the phrases that the words begin with, and how many words it has.
 fn first_said(phrases: &[(Prep, &[&str])], words: &[String]) -> Option<(Prep, usize)>
     ensures value { result ≡ option_map phrase_len
-        (find (λ p. begins (map string_bytes words.now) p.words) (map shown phrases.now)) }
+        (find (λ p. begins (map string_bytes words.now) p.words) (map row_shown phrases.now)) }
     ensures within { IfSome result (λ p. p.1 ≤ length words.now) }
 {
     for (prep, phrase) in phrases {

@@ -1,19 +1,23 @@
 ghost use Rattle.std.specs.Prelude.{◌≡◌, ℕ, List, [], ◌∷◌, map, string_bytes, IfOk};
 ghost use Rattle.mud_words.specs.Words.{plain_words, without_front, without_back};
 ghost use Rattle.mud_words.specs.Line.{line_of};
-ghost use Rattle.mud_words.specs.Parse.{said};
-ghost use Rattle.mud_words.specs.inner.Searching.{line_with, split, joined};
+ghost use Rattle.mud_words.specs.Parse.{line_of_words};
+ghost use Rattle.mud_words.specs.inner.Searching.{line_with, split, join_words};
 
 use crate::cut::push_words;
-use crate::prepositions::counted;
+use crate::prepositions::preposition_of;
 use crate::spaces::{without_back, without_front};
 use crate::{Parsed, Prep};
 use std::alloc::{AllocError, Global};
 
 /// What a line says that has a verb, and this text after it.
-pub(crate) fn said(alloc: Global, mut verb: String, text: &str) -> Result<Parsed, AllocError>
+pub(crate) fn line_with_verb(
+    alloc: Global,
+    mut verb: String,
+    text: &str,
+) -> Result<Parsed, AllocError>
     ensures { IfOk result (λ p. line_of p
-        ≡ said (string_bytes verb ∷ plain_words text.now) (without_back (without_front text.now))) }
+        ≡ line_of_words (string_bytes verb ∷ plain_words text.now) (without_back (without_front text.now))) }
 {
     verb.make_ascii_lowercase();
     let mut args = Vec::new(alloc);
@@ -24,7 +28,7 @@ pub(crate) fn said(alloc: Global, mut verb: String, text: &str) -> Result<Parsed
 
 /// What a blank line says.
 pub(crate) fn blank(alloc: Global) -> Parsed
-    ensures { line_of result ≡ said [] [] }
+    ensures { line_of result ≡ line_of_words [] [] }
 {
     Parsed {
         verb: String::new(alloc),
@@ -65,8 +69,8 @@ fn objects_of(alloc: Global, args: &[String]) -> Result<Objects, AllocError>
     ensures { IfOk result (λ o. (verb rest : List ℕ) →
         line_with verb (map string_bytes args.now) rest o ≡ split verb (map string_bytes args.now) rest) }
 {
-    let Some(spot) = counted(args) else {
-        let direct = joined(alloc, args)?;
+    let Some(spot) = preposition_of(args) else {
+        let direct = join_words(alloc, args)?;
         let indirect = String::new(alloc);
         return Ok(Objects {
             direct,
@@ -74,8 +78,8 @@ fn objects_of(alloc: Global, args: &[String]) -> Result<Objects, AllocError>
             indirect,
         });
     };
-    let direct = joined(alloc, &args[..spot.start])?;
-    let indirect = joined(alloc, &args[spot.end..])?;
+    let direct = join_words(alloc, &args[..spot.start])?;
+    let indirect = join_words(alloc, &args[spot.end..])?;
     Ok(Objects {
         direct,
         prep: Some(spot.prep),
@@ -84,8 +88,8 @@ fn objects_of(alloc: Global, args: &[String]) -> Result<Objects, AllocError>
 }
 
 /// The words, joined by one space.
-fn joined(alloc: Global, words: &[String]) -> Result<String, AllocError>
-    ensures { IfOk result (λ text. string_bytes text ≡ joined (map string_bytes words.now)) }
+fn join_words(alloc: Global, words: &[String]) -> Result<String, AllocError>
+    ensures { IfOk result (λ text. string_bytes text ≡ join_words (map string_bytes words.now)) }
 {
     let [first, others @ ..] = words else {
         return Ok(String::new(alloc));

@@ -7,6 +7,7 @@ use Rattle.std.specs.List.{list_all}
 use Rattle.std.specs.Map.{lookup}
 use Rattle.std.proofs.lemmas.Bool.{and_from, and_parts, true≢false, ne_eqb}
 use Rattle.mud_key.specs.Tree.{IsKey}
+use Rattle.mud_world.specs.declared.limits.TheConstants.{NUMBERS}
 use Rattle.mud_world.specs.declared.record.Record.{Record}
 use Rattle.mud_world.specs.declared.record.Kind.{Kind}
 use Rattle.mud_world.specs.declared.record.Kind.TheVariants.{Room, Exit, Thing, Player}
@@ -39,7 +40,7 @@ IsRising-numbered n (r ∷ rs) = (
       (IsRising-numbered (n + 1) rs),
 )
 
-module _ (w : State) (sound : IsSound w) (rs : List Record) (room : w.next + length rs ≤ 8192) where
+module _ (w : State) (sound : IsSound w) (rs : List Record) (room : w.next + length rs ≤ NUMBERS) where
   abbrev w' : State
   w' = with_new w rs
 

@@ -5,7 +5,7 @@ use Rattle.std.specs.Prelude.{nat_eq, nat_lt, IsTrue}
 use Rattle.std.specs.List.{list_any}
 use Rattle.std.specs.Option.{option_map}
 use Rattle.std.proofs.lemmas.Bool.{or_left, or_right, eq-eqb, eqb-true, eqb-false, ne_eqb, true≢false}
-use Rattle.mud_lists.specs.Rising.{inserted, put, without}
+use Rattle.mud_lists.specs.Rising.{insert, put, without}
 use Rattle.mud_lists.specs.Lists.{list_at, AreSame, AreChanged, AreBetween}
 use Rattle.mud_world.specs.declared.record.Kind.{Kind}
 use Rattle.mud_world.specs.declared.links.Links.{Links}
@@ -14,20 +14,20 @@ use Rattle.mud_world.specs.State.{is_number}
 use Rattle.mud_world.specs.inner.Edits.{AreLinked, AreSameLinks, IsInNone}
 use Rattle.mud_world.proofs.Records.{bool_cases}
 
-any-inserted : (n : ℕ) (xs : List ℕ) → list_any (nat_eq n) (inserted n xs) ≡ true
+any-inserted : (n : ℕ) (xs : List ℕ) → list_any (nat_eq n) (insert n xs) ≡ true
 any-inserted n [] = or_left (nat_eq n n) false (eq-eqb n n refl)
 any-inserted n (x ∷ xs) =
     bool_cases (nat_lt n x)
-    (λ e. ap (λ b. list_any (nat_eq n) (cond b (n ∷ x ∷ xs) (x ∷ inserted n xs))) e
+    (λ e. ap (λ b. list_any (nat_eq n) (cond b (n ∷ x ∷ xs) (x ∷ insert n xs))) e
     ∙ or_left (nat_eq n n) _ (eq-eqb n n refl))
-    (λ e. ap (λ b. list_any (nat_eq n) (cond b (n ∷ x ∷ xs) (x ∷ inserted n xs))) e
+    (λ e. ap (λ b. list_any (nat_eq n) (cond b (n ∷ x ∷ xs) (x ∷ insert n xs))) e
     ∙ or_right (nat_eq n x) _ (any-inserted n xs))
 
 pub put-there : (n : ℕ) (xs : List ℕ) → list_any (nat_eq n) xs ≡ true → put n xs ≡ xs
-put-there n xs e = ap (λ b. cond b xs (inserted n xs)) e
+put-there n xs e = ap (λ b. cond b xs (insert n xs)) e
 
-pub put-new : (n : ℕ) (xs : List ℕ) → list_any (nat_eq n) xs ≡ false → put n xs ≡ inserted n xs
-put-new n xs e = ap (λ b. cond b xs (inserted n xs)) e
+pub put-new : (n : ℕ) (xs : List ℕ) → list_any (nat_eq n) xs ≡ false → put n xs ≡ insert n xs
+put-new n xs e = ap (λ b. cond b xs (insert n xs)) e
 
 pub put-twice : (n : ℕ) (xs : List ℕ) → put n (put n xs) ≡ put n xs
 put-twice n xs =
@@ -61,15 +61,15 @@ absent-without n (x ∷ xs) =
 pub without-twice : (n : ℕ) (xs : List ℕ) → without n (without n xs) ≡ without n xs
 without-twice n xs = without-absent n (without n xs) (absent-without n xs)
 
-pub without-inserted : (n : ℕ) (xs : List ℕ) → without n (inserted n xs) ≡ without n xs
+pub without-inserted : (n : ℕ) (xs : List ℕ) → without n (insert n xs) ≡ without n xs
 without-inserted n [] = ap (λ b. cond (not b) (n ∷ []) []) (eq-eqb n n refl)
 without-inserted n (x ∷ xs) =
     bool_cases (nat_lt n x)
     (λ e.
-    ap (λ b. without n (cond b (n ∷ x ∷ xs) (x ∷ inserted n xs))) e
+    ap (λ b. without n (cond b (n ∷ x ∷ xs) (x ∷ insert n xs))) e
     ∙ ap (λ b. cond (not b) (n ∷ without n (x ∷ xs)) (without n (x ∷ xs))) (eq-eqb n n refl))
     (λ e.
-    ap (λ b. without n (cond b (n ∷ x ∷ xs) (x ∷ inserted n xs))) e
+    ap (λ b. without n (cond b (n ∷ x ∷ xs) (x ∷ insert n xs))) e
     ∙ ap (λ v. cond (not (nat_eq x n)) (x ∷ v) v) (without-inserted n xs))
 
 -- ---- changes one after the other, of f done twice as once
@@ -145,7 +145,7 @@ taken_out m new old l l1 l2 known between is = λ n.
 
 -- what was put into lists that did not have it is taken out again
 pub inserted-out : (m : ℕ) (t : ℕ → Bool) (l l1 l2 : List (ℕ × List ℕ))
-    → ((n : ℕ) → list_any (nat_eq m) (list_at l n) ≡ false) → AreChanged t (inserted m) l l1
+    → ((n : ℕ) → list_any (nat_eq m) (list_at l n) ≡ false) → AreChanged t (insert m) l l1
     → AreChanged t (without m) l1 l2 → AreSame l l2
 inserted-out m t l l1 l2 absent in' out = λ n.
     out n
@@ -153,12 +153,12 @@ inserted-out m t l l1 l2 absent in' out = λ n.
     ∙ back (t n) n
   where
     back : (b : Bool) (n : ℕ)
-        → cond b (without m (cond b (inserted m (list_at l n)) (list_at l n)))
-        (cond b (inserted m (list_at l n)) (list_at l n)) ≡ list_at l n
+        → cond b (without m (cond b (insert m (list_at l n)) (list_at l n)))
+        (cond b (insert m (list_at l n)) (list_at l n)) ≡ list_at l n
     back true n = without-inserted m (list_at l n) ∙ without-absent m (list_at l n) (absent n)
     back false n = refl
 
-pub linked-out : (k : Kind) (m : ℕ) (l l1 l2 : Links) → IsInNone m l → AreLinked k (inserted m) l l1
+pub linked-out : (k : Kind) (m : ℕ) (l l1 l2 : Links) → IsInNone m l → AreLinked k (insert m) l l1
     → AreLinked k (without m) l1 l2 → AreSameLinks l l2
 linked-out k m l l1 l2 absent in' out = record {
   contents =

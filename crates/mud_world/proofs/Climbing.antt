@@ -10,7 +10,7 @@ use Rattle.mud_key.specs.Tree.{Tree}
 use Rattle.mud_world.specs.declared.record.Record.{Record}
 use Rattle.mud_world.specs.State.{State, record_at, key_of, nests, all_nest}
 use Rattle.mud_world.specs.Sound.{IsSound, IsRising}
-use Rattle.mud_world.specs.inner.Parts.{locked}
+use Rattle.mud_world.specs.inner.Parts.{with_lock}
 use Rattle.mud_world.specs.Nesting.{Question, Questions}
 use Rattle.mud_world.specs.inner.Askers.{askers_of, climbs}
 use Rattle.mud_world.specs.inner.Edits.{asked_by}
@@ -131,7 +131,7 @@ module _ (w : State) (sound : IsSound w) where
 
   module _ (n : ℕ) (r : Record) (at : record_at w n ≡ Some r) (key : Tree ℕ) where
     abbrev w' : State
-    w' = locked w n key
+    w' = with_lock w n key
 
     own : key_of w' n ≡ Some key
     own = key_of-locked_same w n key r at
@@ -219,8 +219,8 @@ module _ (w : State) (sound : IsSound w) where
 -- the key nests at most one more than e, and more than e
 pub nest-exactly : (w : State) (sound : IsSound w) (n : ℕ) (r : Record) (at : record_at w n ≡ Some r) (key : Tree ℕ)
     (e u : ℕ) → e ≤ 2 → u + e ≡ 3
-    → nests (locked w n key) (e + 1) key ≡ true → nests (locked w n key) e key ≡ false
-    → all_nest (locked w n key) ≡ not (climbs w u n)
+    → nests (with_lock w n key) (e + 1) key ≡ true → nests (with_lock w n key) e key ≡ false
+    → all_nest (with_lock w n key) ≡ not (climbs w u n)
 nest-exactly w sound n r at key e u le sum within beyond =
     let up : 3 - e ≡ u = omega (arith, sum) in
     let low : 4 - (e + 1) ≡ u = omega (arith, sum) in
@@ -231,7 +231,7 @@ nest-exactly w sound n r at key e u le sum within beyond =
     ∙ sym (ap not none))
 
 pub nest-missing : (w : State) → IsSound w → (n : ℕ) (key : Tree ℕ) → record_at w n ≡ None
-    → all_nest (locked w n key) ≡ true
+    → all_nest (with_lock w n key) ≡ true
 nest-missing w sound n key gone = ap all_nest (locked-missing w n key gone) ∙ sound.nesting
 
 before : (n : ℕ) → n ≡ suc n - 1

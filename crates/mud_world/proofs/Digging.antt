@@ -7,6 +7,7 @@ use Rattle.std.specs.List.{AllByRecursion}
 use Rattle.std.specs.Map.{remove_entry}
 use Rattle.std.proofs.lemmas.Bool.{or_parts, not-false, true≢false, ltb-false, eq-eqb, ne_eqb}
 use Rattle.std.proofs.lemmas.List.{append_assoc}
+use Rattle.mud_world.specs.declared.limits.TheConstants.{NUMBERS}
 use Rattle.mud_world.specs.declared.record.Record.{Record}
 use Rattle.mud_world.specs.declared.record.Kind.{Kind}
 use Rattle.mud_world.specs.declared.record.Kind.TheVariants.{Room, Exit, Thing, Player}
@@ -18,7 +19,7 @@ use Rattle.mud_world.specs.Kinds.{kind_place, is_room_kind, is_player_kind}
 use Rattle.mud_world.specs.State.{State, record_at, has, is_room, is_player, place_of}
 use Rattle.mud_world.specs.Sound.{IsSound, IsRising, IsPlacedWell}
 use Rattle.mud_world.specs.Legal.{with_new, numbered_from, new_record, new_exit, dug, refusal, refusals, fails}
-use Rattle.mud_world.specs.inner.Parts.{removed}
+use Rattle.mud_world.specs.inner.Parts.{without_object}
 use Rattle.mud_world.specs.inner.CanGo.{CanAdd, CanJoin}
 use Rattle.mud_world.proofs.Records.{record_cases, lookup-append_left, lookup-append_right}
 use Rattle.mud_world.proofs.Going.{nothing_fails}
@@ -32,7 +33,7 @@ has-grown w rs test n is =
     (λ r e. ap (λ v. option_map_or test v false) (lookup-append_left n r w.objects (numbered_from w.next rs) e)
     ∙ sym (ap (λ v. option_map_or test v false) e) ∙ is)
 
-pub CanAdd-exit : (w : State) (actor : ℕ) (names : List (List ℕ)) (a b : ℕ) → CanJoin w a b → w.next < 8192
+pub CanAdd-exit : (w : State) (actor : ℕ) (names : List (List ℕ)) (a b : ℕ) → CanJoin w a b → w.next < NUMBERS
     → CanAdd w (new_exit actor names a b)
 CanAdd-exit w actor names a b join room = record {
   room = room;
@@ -49,7 +50,7 @@ CanAdd-exit w actor names a b join room = record {
   };
 }
 
-pub CanAdd-room : (w : State) (actor : ℕ) (names : List (List ℕ)) → w.next < 8192
+pub CanAdd-room : (w : State) (actor : ℕ) (names : List (List ℕ)) → w.next < NUMBERS
     → CanAdd w (new_record actor names Room)
 CanAdd-room w actor names room = record {
   room = room;
@@ -105,9 +106,9 @@ module _ (w : State) (sound : IsSound w) (a : ℕ) (target : Target) (doors : Op
       stands (Thing p) e well = absurd (true≢false (sym e))
       stands (Player p) e well = well
 
-  pub enough : w.next + length (dug w a target doors) ≤ 8192
+  pub enough : w.next + length (dug w a target doors) ≤ NUMBERS
   enough = let small =
-      ltb-false 8192 (w.next + length (dug w a target doors)) none_holds.1.1.1.1.1.1.1.1.1.1.1.1.1.1.0 in
+      ltb-false NUMBERS (w.next + length (dug w a target doors)) none_holds.1.1.1.1.1.1.1.1.1.1.1.1.1.1.0 in
       omega (arith, small)
 
 pub CanJoin-dig_old : (w : State) → IsSound w → (a room : ℕ) (doors : Option Doors)
@@ -146,9 +147,9 @@ remove-last low high n r (e ∷ es) rises =
     ∙ ap (λ v. e ∷ v) (remove-last (e.0 + 1) high n r es rises.1)
 
 pub taken_back : (w : State) → IsSound w → (before : State) (r : Record) → w ≡ with_new before (r ∷ [])
-    → record (removed w (w.next - 1)) { next = w.next - 1 } ≡ before
+    → record (without_object w (w.next - 1)) { next = w.next - 1 } ≡ before
 taken_back w sound before r is =
-    ap (λ v. record (removed v (v.next - 1)) { next = v.next - 1 }) is
+    ap (λ v. record (without_object v (v.next - 1)) { next = v.next - 1 }) is
     ∙ (λ i. record {
       objects =
           (ap (λ n. remove_entry (nat_eq n) (before.objects ++ (before.next, r) ∷ [])) back

@@ -5,11 +5,11 @@ use Rattle.mud_world.specs.declared.record.Record.{Record}
 use Rattle.mud_world.specs.declared.record.Kind.{Kind}
 use Rattle.mud_world.specs.Kinds.{kind_place, kind_passage}
 use Rattle.mud_world.specs.State.{State, record_at}
-use Rattle.mud_world.specs.Legal.{changed}
+use Rattle.mud_world.specs.Legal.{with_record_changed}
 use Rattle.mud_world.specs.inner.Parts.{with_record}
 
 pub changed_by : (w : State) (n : ℕ) (f : Record → Record) (r : Record) → record_at w n ≡ Some r
-    → changed w n f ≡ with_record w n (f r)
+    → with_record_changed w n f ≡ with_record w n (f r)
 changed_by w n f r at = ap (λ v. option_map_or (λ r. with_record w n (f r)) v w) at
 
 -- the place and the ends of both are the same

@@ -6,7 +6,7 @@ use Rattle.std.proofs.lemmas.Bool.{eqb-true, eqb-false, eq-eqb}
 use Rattle.mud_world.specs.declared.record.Record.{Record}
 use Rattle.mud_world.specs.State.{State, record_at}
 use Rattle.mud_world.specs.Sound.{IsRising}
-use Rattle.mud_world.specs.inner.Parts.{removed}
+use Rattle.mud_world.specs.inner.Parts.{without_object}
 use Rattle.mud_world.specs.Numbers.{without}
 use Rattle.mud_world.proofs.Records.{bool_cases}
 use Rattle.mud_world.proofs.Numbering.{passing, passing_by, found_here, found_past, without-below, without-other}
@@ -57,7 +57,7 @@ passing-drop test n low high old (e ∷ es) rises at was =
 
 module _ (w : State) (rising : IsRising 0 w.objects w.next) (n : ℕ) (r : Record) (at : record_at w n ≡ Some r) where
   abbrev w' : State
-  w' = removed w n
+  w' = without_object w n
 
   pub shrunk : (test : Record → Bool)
       → cond (test r) (without n (passing test w.objects)) (passing test w.objects) ≡ passing test w'.objects

@@ -16,7 +16,7 @@ use Rattle.mud_world.specs.State.{State, record_at, exists, is_room, is_exit, is
 use Rattle.mud_world.specs.State.{destination_of, follow, comes_to, within}
 use Rattle.mud_world.specs.Sound.{IsSound, IsPlacedWell}
 use Rattle.mud_world.specs.Legal.{refusals, refusal, fails}
-use Rattle.mud_world.specs.inner.Parts.{with_record, moved}
+use Rattle.mud_world.specs.inner.Parts.{with_record, with_place}
 use Rattle.mud_world.specs.inner.CanGo.{CanGo}
 use Rattle.mud_world.proofs.Records.{record_cases, bool_cases, in_bounds}
 use Rattle.mud_world.proofs.Containing.{follow-past}
@@ -36,14 +36,14 @@ unfolding refusal
 nothing_fails w e legal = find_none (fails w e) refusals legal
 
 pub moved_by : (w : State) (t y : ℕ) (r : Record) → record_at w t ≡ Some r
-    → moved w t y ≡ with_record w t (record r { kind = kind_at y r.kind })
+    → with_place w t y ≡ with_record w t (record r { kind = kind_at y r.kind })
 moved_by w t y r at = ap (λ v. option_map_or (λ r. with_record w t (record r { kind = kind_at y r.kind })) v w) at
 
 -- what comes back to where it was is where it was
 same_record : (w : State) (t : ℕ) (r : Record) → record_at w t ≡ Some r → with_record w t r ≡ w
 same_record w t r at = ap (λ v. record w { objects = v }) (set_value_same (nat_eq t) w.objects r at)
 
-pub moved-same : (w : State) (t q : ℕ) → place_of w t ≡ Some q → moved w t q ≡ w
+pub moved-same : (w : State) (t q : ℕ) → place_of w t ≡ Some q → with_place w t q ≡ w
 moved-same w t q placed =
     record_cases (record_at w t)
     (λ e. ap (λ v. option_map_or (λ r. with_record w t (record r { kind = kind_at q r.kind })) v w) e)

@@ -5,16 +5,17 @@ use Rattle.mud_world.specs.State.{State}
 use Rattle.mud_world.specs.Opening.{opening_state}
 use Rattle.mud_world.specs.Legal.{refusal, after}
 use Rattle.mud_world.specs.History.{world_from, world_of}
-use Rattle.mud_world.specs.inner.Parts.{stepped}
+use Rattle.mud_world.specs.inner.Parts.{step_or_same}
 use Rattle.mud_world.specs.declared.change.Change.{Change}
 
 pub world_from-push : (w : State) (changes : List Change) (e : Change)
-    → world_from w (changes ++ e ∷ []) ≡ stepped (world_from w changes) e
+    → world_from w (changes ++ e ∷ []) ≡ step_or_same (world_from w changes) e
 world_from-push w [] e = refl
-world_from-push w (c ∷ changes) e = world_from-push (stepped w c) changes e
+world_from-push w (c ∷ changes) e = world_from-push (step_or_same w c) changes e
 
 -- one more change
-pub world_of-push : (changes : List Change) (e : Change) → world_of (changes ++ e ∷ []) ≡ stepped (world_of changes) e
+pub world_of-push : (changes : List Change) (e : Change)
+    → world_of (changes ++ e ∷ []) ≡ step_or_same (world_of changes) e
 world_of-push changes e = world_from-push opening_state changes e
 
 -- one more change that is legal

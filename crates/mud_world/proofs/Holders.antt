@@ -12,7 +12,7 @@ use Rattle.mud_world.specs.declared.record.Record.{Record}
 use Rattle.mud_world.specs.Kinds.{is_player_kind}
 use Rattle.mud_world.specs.State.{State, is_number, is_taken, shares, named_player}
 use Rattle.mud_world.specs.Sound.{IsRising, IsSound}
-use Rattle.mud_world.specs.inner.Edits.{called}
+use Rattle.mud_world.specs.inner.Edits.{names_to_find}
 use Rattle.mud_world.specs.Inside.{is_called, AreNames}
 use Rattle.mud_world.proofs.Records.{record_cases, bool_cases, in_bounds}
 use Rattle.mud_world.proofs.Owned.{among}
@@ -23,7 +23,7 @@ option_cases None f g = f refl
 option_cases (Some n) f g = g n refl
 
 -- being found is being a player with the name
-called-is : (r : Record) (t : List ℕ) → among t (called r) ≡ (is_player_kind r.kind && among t r.names)
+called-is : (r : Record) (t : List ℕ) → among t (names_to_find r) ≡ (is_player_kind r.kind && among t r.names)
 called-is r t = by_kind (is_player_kind r.kind)
   where
     by_kind : (b : Bool) → among t (cond b r.names []) ≡ (b && among t r.names)
@@ -34,7 +34,7 @@ called-is r t = by_kind (is_player_kind r.kind)
 
 none-found : (t : List ℕ) (es : List (ℕ × Record))
     → option_map (λ (e : ℕ × Record). e.0) (find (λ e. is_player_kind e.1.kind && among t e.1.names) es) ≡ None
-    → (n : ℕ) → option_map_or (λ r. among t (called r)) (lookup (nat_eq n) es) false ≡ false
+    → (n : ℕ) → option_map_or (λ r. among t (names_to_find r)) (lookup (nat_eq n) es) false ≡ false
 none-found t [] none n = refl
 none-found t (e ∷ es) none n =
     bool_cases test
@@ -43,10 +43,11 @@ none-found t (e ∷ es) none n =
     sym (ap (λ (b : Bool). option_map (λ (x : ℕ × Record). x.0) (cond b (Some e) rest)) yes) ∙ none in cc))
     (λ past.
     bool_cases (nat_eq n e.0)
-    (λ here. ap (λ b. option_map_or (λ r. among t (called r)) (cond b (Some e.1) (lookup (nat_eq n) es)) false) here
+    (λ here.
+    ap (λ b. option_map_or (λ r. among t (names_to_find r)) (cond b (Some e.1) (lookup (nat_eq n) es)) false) here
     ∙ called-is e.1 t ∙ past)
     (λ there.
-    ap (λ b. option_map_or (λ r. among t (called r)) (cond b (Some e.1) (lookup (nat_eq n) es)) false) there
+    ap (λ b. option_map_or (λ r. among t (names_to_find r)) (cond b (Some e.1) (lookup (nat_eq n) es)) false) there
     ∙ none-found t es
     (sym (ap (λ (b : Bool). option_map (λ (x : ℕ × Record). x.0) (cond b (Some e) rest)) past) ∙ none) n))
   where
@@ -68,7 +69,7 @@ owner-named w sound o names t =
     (λ n is.
     let f = found-in t n 0 w.next w.objects sound.rising is in
     let his : is_called w n t ≡ true =
-    ap (λ v. option_map_or (λ r. among t (called r)) v false) f.at ∙ called-is f.r t
+    ap (λ v. option_map_or (λ r. among t (names_to_find r)) v false) f.at ∙ called-is f.r t
     ∙ ap (λ b. b && among t f.r.names) f.player ∙ f.named in
     option_cases owner
     (λ e. absurd (true≢false (sym (names t n ∙ his) ∙ ap (is_number n) e)))
@@ -89,29 +90,31 @@ shares-one t others = either (among t others)
     either true = refl
     either false = refl
 
-taker-is : (n : ℕ) (t : List ℕ) (e : ℕ × Record) → taker n (t ∷ []) e ≡ (not (nat_eq n e.0) && among t (called e.1))
+taker-is : (n : ℕ) (t : List ℕ) (e : ℕ × Record)
+    → taker n (t ∷ []) e ≡ (not (nat_eq n e.0) && among t (names_to_find e.1))
 taker-is n t e =
     ap (λ b. not (nat_eq n e.0) && (is_player_kind e.1.kind && b)) (shares-one t e.1.names)
     ∙ ap (λ b. not (nat_eq n e.0) && b) (sym (called-is e.1 t))
 
 -- one other has it
 one-takes : (n m : ℕ) (t : List ℕ) (es : List (ℕ × Record)) → m ≢ n
-    → option_map_or (λ r. among t (called r)) (lookup (nat_eq m) es) false ≡ true
+    → option_map_or (λ r. among t (names_to_find r)) (lookup (nat_eq m) es) false ≡ true
     → list_any (taker n (t ∷ [])) es ≡ true
 one-takes n m t [] apart is = is
 one-takes n m t (e ∷ es) apart is =
     bool_cases (nat_eq m e.0)
     (λ here.
-    let his : among t (called e.1) ≡ true =
-    sym (ap (λ b. option_map_or (λ r. among t (called r)) (cond b (Some e.1) (lookup (nat_eq m) es)) false) here)
+    let his : among t (names_to_find e.1) ≡ true =
+    sym (ap (λ b. option_map_or (λ r. among t (names_to_find r)) (cond b (Some e.1) (lookup (nat_eq m) es)) false) here)
     ∙ is in
     let other : nat_eq n e.0 ≡ false = ne_eqb n e.0 (λ same. apart (eqb-true m e.0 here ∙ sym same)) in
     ap (λ b. b || list_any (taker n (t ∷ [])) es)
-    (taker-is n t e ∙ ap (λ b. not b && among t (called e.1)) other ∙ his))
+    (taker-is n t e ∙ ap (λ b. not b && among t (names_to_find e.1)) other ∙ his))
     (λ past.
     or_second (taker n (t ∷ []) e) (list_any (taker n (t ∷ [])) es)
     (one-takes n m t es apart
-    (sym (ap (λ b. option_map_or (λ r. among t (called r)) (cond b (Some e.1) (lookup (nat_eq m) es)) false) past)
+    (sym
+    (ap (λ b. option_map_or (λ r. among t (names_to_find r)) (cond b (Some e.1) (lookup (nat_eq m) es)) false) past)
     ∙ is)))
   where
     or_second : (a b : Bool) → b ≡ true → (a || b) ≡ true
@@ -120,30 +123,30 @@ one-takes n m t (e ∷ es) apart is =
 
 -- no other has it
 none-takes : (n : ℕ) (t : List ℕ) (low high : ℕ) (es : List (ℕ × Record)) → IsRising low es high
-    → ((m : ℕ) → m ≢ n → option_map_or (λ r. among t (called r)) (lookup (nat_eq m) es) false ≡ false)
+    → ((m : ℕ) → m ≢ n → option_map_or (λ r. among t (names_to_find r)) (lookup (nat_eq m) es) false ≡ false)
     → list_any (taker n (t ∷ [])) es ≡ false
 none-takes n t low high [] rises none = refl
 none-takes n t low high (e ∷ es) rises none =
     ap (λ b. b || list_any (taker n (t ∷ [])) es) (taker-is n t e ∙ first)
     ∙ none-takes n t (e.0 + 1) high es rises.1 rest
   where
-    first : (not (nat_eq n e.0) && among t (called e.1)) ≡ false
+    first : (not (nat_eq n e.0) && among t (names_to_find e.1)) ≡ false
     first =
         bool_cases (nat_eq n e.0)
-        (λ here. ap (λ b. not b && among t (called e.1)) here)
+        (λ here. ap (λ b. not b && among t (names_to_find e.1)) here)
         (λ past.
-        ap (λ b. not b && among t (called e.1)) past
-        ∙ ap (λ b. option_map_or (λ r. among t (called r)) (cond b (Some e.1) (lookup (nat_eq e.0) es)) false)
+        ap (λ b. not b && among t (names_to_find e.1)) past
+        ∙ ap (λ b. option_map_or (λ r. among t (names_to_find r)) (cond b (Some e.1) (lookup (nat_eq e.0) es)) false)
         (sym (eq-eqb e.0 e.0 refl))
         ∙ none e.0 (λ same. eqb-false n e.0 past (sym same)))
 
-    rest : (m : ℕ) → m ≢ n → option_map_or (λ r. among t (called r)) (lookup (nat_eq m) es) false ≡ false
+    rest : (m : ℕ) → m ≢ n → option_map_or (λ r. among t (names_to_find r)) (lookup (nat_eq m) es) false ≡ false
     rest m apart =
         record_cases (lookup (nat_eq m) es)
-        (λ f. ap (λ v. option_map_or (λ r. among t (called r)) v false) f)
+        (λ f. ap (λ v. option_map_or (λ r. among t (names_to_find r)) v false) f)
         (λ s f.
         let above = (in_bounds (e.0 + 1) high m s es rises.1 f).0 in
-        ap (λ b. option_map_or (λ r. among t (called r)) (cond b (Some e.1) (lookup (nat_eq m) es)) false)
+        ap (λ b. option_map_or (λ r. among t (names_to_find r)) (cond b (Some e.1) (lookup (nat_eq m) es)) false)
         (sym (ne_eqb m e.0 (λ same. omega (arith, above, same))))
         ∙ none m apart)
 

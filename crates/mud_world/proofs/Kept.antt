@@ -4,7 +4,7 @@ use Rattle.std.proofs.Common.{sym, ◌∙◌, ap, subst}
 use Rattle.std.specs.Prelude.{nat_eq}
 use Rattle.std.specs.Option.{option_map, option_map_or, option_and_then}
 use Rattle.std.specs.Map.{lookup, set_value, remove_entry}
-use Rattle.mud_lists.specs.Rising.{inserted, put, without}
+use Rattle.mud_lists.specs.Rising.{insert, put, without}
 use Rattle.mud_lists.specs.Lists.{list_at, AreChanged, AreSame}
 use Rattle.mud_lists.specs.Owners.{AreOwnersPassed}
 use Rattle.mud_lists.specs.inner.Views.{HaveSameOwners}
@@ -13,11 +13,11 @@ use Rattle.mud_world.specs.declared.world.World.TheInside.{Inside}
 use Rattle.mud_world.specs.Kinds.{kind_place, is_player_kind}
 use Rattle.mud_world.specs.State.{State, record_at, is_number}
 use Rattle.mud_world.specs.Sound.{IsRising, IsSound}
-use Rattle.mud_world.specs.Legal.{changed, with_new}
-use Rattle.mud_world.specs.inner.Parts.{with_record, removed, moved}
+use Rattle.mud_world.specs.Legal.{with_record_changed, with_new}
+use Rattle.mud_world.specs.inner.Parts.{with_record, without_object, with_place}
 use Rattle.mud_world.specs.inner.CanGo.{CanGo, CanAdd, CanName}
-use Rattle.mud_world.specs.inner.Edits.{edited, placed_at, with_key, with_names, asked_by, called, called_by, AreLinked}
-use Rattle.mud_world.specs.inner.Edits.{AreMoved, AreRekeyed, AreSameLinks, IsInNone}
+use Rattle.mud_world.specs.inner.Edits.{edit, placed_at, with_key, with_names, asked_by, names_to_find, called_by}
+use Rattle.mud_world.specs.inner.Edits.{AreLinked, AreMoved, AreRekeyed, AreSameLinks, IsInNone}
 use Rattle.mud_world.specs.Inside.{state_of, lies_in, leaves, arrives, asks_it, is_called, AreOf, AreNames, IsKept}
 use Rattle.mud_world.proofs.Records.{bool_cases, record_cases}
 use Rattle.mud_world.proofs.Numbering.{passing, passing-keep, passing-gain, passing-lose}
@@ -43,14 +43,14 @@ of-same test w w' l l' is of same = λ n. same n ∙ of n ∙ ap (λ v. passing 
 
 -- an object was added
 pub of-grown : (test : ℕ → Record → Bool) (w : State) → IsSound w → (r : Record) (l l' : List (ℕ × List ℕ))
-    → AreOf test l w → AreChanged (λ n. test n r) (inserted w.next) l l' → AreOf test l' (with_new w (r ∷ []))
-of-grown test w sound r l l' of is = λ n. is n ∙ ap (λ v. cond (test n r) (inserted w.next v) v) (of n)
+    → AreOf test l w → AreChanged (λ n. test n r) (insert w.next) l l' → AreOf test l' (with_new w (r ∷ []))
+of-grown test w sound r l l' of is = λ n. is n ∙ ap (λ v. cond (test n r) (insert w.next v) v) (of n)
     ∙ grown w sound r (test n)
 
 -- an object is gone
 pub of-removed : (test : ℕ → Record → Bool) (w : State) → IsRising 0 w.objects w.next → (o : ℕ) (r : Record)
     → record_at w o ≡ Some r → (l l' : List (ℕ × List ℕ)) → AreOf test l w
-    → AreChanged (λ n. test n r) (without o) l l' → AreOf test l' (removed w o)
+    → AreChanged (λ n. test n r) (without o) l l' → AreOf test l' (without_object w o)
 of-removed test w rising o r at l l' of is = λ n. is n ∙ ap (λ v. cond (test n r) (without o v) v) (of n)
     ∙ shrunk w rising o r at (test n)
 
@@ -95,7 +95,7 @@ of-rekeyed w rising o r at key l l' of is = λ n.
 
 -- ---- the world that the maps are seen as
 pub edited_by : (n : ℕ) (f : Record → Record) (es : List (ℕ × Record)) (r : Record) → lookup (nat_eq n) es ≡ Some r
-    → edited n f es ≡ set_value (nat_eq n) es (f r)
+    → edit n f es ≡ set_value (nat_eq n) es (f r)
 edited_by n f es r at = ap (λ v. option_map_or (λ r. set_value (nat_eq n) es (f r)) v es) at
 
 -- ---- what is not there yet
@@ -141,8 +141,8 @@ module _ (a a' : Inside) (kept : IsKept a) where
     pub state-grown : state_of a' ≡ with_new w (r ∷ [])
     state-grown = λ i. record { objects = records i; next = next i }
 
-    pub kept-grown : AreLinked r.kind (inserted a.next) a.links a'.links → AreSame a.askers a'.askers
-        → AreOwnersPassed [] (called r) a.next a.owners a'.owners → IsKept a'
+    pub kept-grown : AreLinked r.kind (insert a.next) a.links a'.links → AreSame a.askers a'.askers
+        → AreOwnersPassed [] (names_to_find r) a.next a.owners a'.owners → IsKept a'
     kept-grown linked askers passed =
         let of = λ (test : ℕ → Record → Bool) (l : List (ℕ × List ℕ)) (is : AreOf test l (with_new w (r ∷ []))). subst
         (λ (v : State). AreOf test l v) (sym state-grown) is in
@@ -161,7 +161,7 @@ module _ (a a' : Inside) (kept : IsKept a) where
               (of-grown asks_it w kept.sound r a.askers a'.askers kept.askers
               (λ m. askers m
               ∙ sym (ap
-              (λ k. cond (asked_by m k) (inserted a.next (list_at a.askers m)) (list_at a.askers m))
+              (λ k. cond (asked_by m k) (insert a.next (list_at a.askers m)) (list_at a.askers m))
               can.new.keyless)));
           names = subst (λ (v : State). AreNames a'.owners v) (sym state-grown)
               (names-grown w kept.sound r can a.owners a'.owners kept.names passed);
@@ -170,15 +170,15 @@ module _ (a a' : Inside) (kept : IsKept a) where
   -- an object is gone that is found by no name; the next number may be another
   module _ (n : ℕ) (r : Record) (at : record_at w n ≡ Some r)
       (records : a'.records.entries ≡ remove_entry (nat_eq n) a.records.entries) where
-    pub state-removed : state_of a' ≡ record (removed w n) { next = a'.next }
+    pub state-removed : state_of a' ≡ record (without_object w n) { next = a'.next }
     state-removed = λ i. record { objects = records i; next = a'.next }
 
     pub kept-removed : AreLinked r.kind (without n) a.links a'.links
-        → AreChanged (λ m. asked_by m r.key) (without n) a.askers a'.askers → called r ≡ []
+        → AreChanged (λ m. asked_by m r.key) (without n) a.askers a'.askers → names_to_find r ≡ []
         → HaveSameOwners a.owners a'.owners
-        → IsSound (record (removed w n) { next = a'.next }) → IsKept a'
+        → IsSound (record (without_object w n) { next = a'.next }) → IsKept a'
     kept-removed unlinked unasked nameless owners sound =
-        let of = λ (test : ℕ → Record → Bool) (l : List (ℕ × List ℕ)) (is : AreOf test l (removed w n)). subst
+        let of = λ (test : ℕ → Record → Bool) (l : List (ℕ × List ℕ)) (is : AreOf test l (without_object w n)). subst
         (λ (v : State). AreOf test l v) (sym state-removed) is in
         record {
           sound = subst IsSound (sym state-removed) sound;
@@ -202,8 +202,8 @@ module _ (a a' : Inside) (kept : IsKept a) where
 
   -- a record changed, and its place, its ends and its names did not
   module _ (n : ℕ) (f : Record → Record) (r : Record) (at : record_at w n ≡ Some r) (next : a'.next ≡ a.next)
-      (records : a'.records.entries ≡ edited n f a.records.entries) where
-    pub state-edited : state_of a' ≡ changed w n f
+      (records : a'.records.entries ≡ edit n f a.records.entries) where
+    pub state-edited : state_of a' ≡ with_record_changed w n f
     state-edited =
         (λ i. record { objects = (records ∙ edited_by n f a.records.entries r at) i; next = next i })
         ∙ sym (changed_by w n f r at)
@@ -215,14 +215,15 @@ module _ (a a' : Inside) (kept : IsKept a) where
         subst (λ (v : State). AreOf test l' v) (sym (state-edited ∙ changed_by w n f r at))
         (λ m. is m ∙ of-edited test w n r (f r) at same l of m)
 
-    edited_names : called (f r) ≡ called r → HaveSameOwners a.owners a'.owners → AreNames a'.owners (state_of a')
+    edited_names : names_to_find (f r) ≡ names_to_find r → HaveSameOwners a.owners a'.owners
+        → AreNames a'.owners (state_of a')
     edited_names same owners =
         subst (λ (v : State). AreNames a'.owners v) (sym (state-edited ∙ changed_by w n f r at))
         (names-edited w n r (f r) at same a.owners a'.owners kept.names owners)
 
     pub kept-edited : SameLinks (f r).kind r.kind → AreSameLinks a.links a'.links → (f r).key ≡ r.key
-        → AreSame a.askers a'.askers → called (f r) ≡ called r → HaveSameOwners a.owners a'.owners
-        → IsSound (changed w n f) → IsKept a'
+        → AreSame a.askers a'.askers → names_to_find (f r) ≡ names_to_find r → HaveSameOwners a.owners a'.owners
+        → IsSound (with_record_changed w n f) → IsKept a'
     kept-edited kind links key askers names owners sound = record {
       sound = subst IsSound (sym state-edited) sound;
       contents =
@@ -240,9 +241,9 @@ module _ (a a' : Inside) (kept : IsKept a) where
 
   -- an object got another key, or none
   module _ (n : ℕ) (key : Option (Tree ℕ)) (r : Record) (at : record_at w n ≡ Some r) (next : a'.next ≡ a.next)
-      (records : a'.records.entries ≡ edited n (with_key key) a.records.entries) where
+      (records : a'.records.entries ≡ edit n (with_key key) a.records.entries) where
     pub kept-keyed : AreSameLinks a.links a'.links → AreRekeyed n r.key key a.askers a'.askers
-        → HaveSameOwners a.owners a'.owners → IsSound (changed w n (with_key key)) → IsKept a'
+        → HaveSameOwners a.owners a'.owners → IsSound (with_record_changed w n (with_key key)) → IsKept a'
     kept-keyed links askers owners sound =
         let is = state-edited n (with_key key) r at next records in
         let by = changed_by w n (with_key key) r at in
@@ -264,10 +265,10 @@ module _ (a a' : Inside) (kept : IsKept a) where
 
   -- an object got other names
   module _ (n : ℕ) (names : List (List ℕ)) (r : Record) (at : record_at w n ≡ Some r) (next : a'.next ≡ a.next)
-      (records : a'.records.entries ≡ edited n (with_names names) a.records.entries) where
+      (records : a'.records.entries ≡ edit n (with_names names) a.records.entries) where
     pub kept-renamed : CanName w n names → AreSameLinks a.links a'.links → AreSame a.askers a'.askers
-        → AreOwnersPassed (called r) (called_by r.kind names) n a.owners a'.owners
-        → IsSound (changed w n (with_names names)) → IsKept a'
+        → AreOwnersPassed (names_to_find r) (called_by r.kind names) n a.owners a'.owners
+        → IsSound (with_record_changed w n (with_names names)) → IsKept a'
     kept-renamed can links askers passed sound =
         let is = state-edited n (with_names names) r at next records in
         let by = changed_by w n (with_names names) r at in
@@ -292,14 +293,14 @@ module _ (a a' : Inside) (kept : IsKept a) where
 
   -- an object got another place
   module _ (t q y : ℕ) (can : CanGo w t q y) (next : a'.next ≡ a.next)
-      (records : a'.records.entries ≡ edited t (placed_at y) a.records.entries) where
+      (records : a'.records.entries ≡ edit t (placed_at y) a.records.entries) where
     with_its_record : {P : Type 0} → ((r : Record) → record_at w t ≡ Some r → kind_place r.kind ≡ Some q → P) → P
     with_its_record f =
         record_cases (record_at w t)
         (λ e. let bad : None ≡ Some q = sym (ap (option_and_then (λ r. kind_place r.kind)) e) ∙ can.from in absurd (cc))
         (λ r e. f r e (sym (ap (option_and_then (λ r. kind_place r.kind)) e) ∙ can.from))
 
-    pub state-moved : state_of a' ≡ moved w t y
+    pub state-moved : state_of a' ≡ with_place w t y
     state-moved = with_its_record (λ r at from. state-edited t (placed_at y) r at next records)
 
     pub kept-moved : AreMoved t q y a.links.contents a'.links.contents → AreSame a.links.leaving a'.links.leaving
@@ -312,8 +313,8 @@ module _ (a a' : Inside) (kept : IsKept a) where
           contents = subst (λ (v : State). AreOf lies_in a'.links.contents v) (sym (state-moved ∙ moved_by w t y r at))
               (λ n.
               contents n
-              ∙ ap (λ v. cond (nat_eq n q) (without t (cond (nat_eq n y) (inserted t v) v))
-              (cond (nat_eq n y) (inserted t v) v)) (kept.contents n)
+              ∙ ap (λ v. cond (nat_eq n q) (without t (cond (nat_eq n y) (insert t v) v))
+              (cond (nat_eq n y) (insert t v) v)) (kept.contents n)
               ∙ sym (new_contents w t q y r kept.sound.rising at from can.apart n));
           leaving =
               edited_of t (placed_at y) r at next records leaves

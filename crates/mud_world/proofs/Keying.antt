@@ -7,13 +7,14 @@ use Rattle.std.specs.List.{list_all, list_any}
 use Rattle.std.specs.Map.{set_value}
 use Rattle.std.proofs.lemmas.Bool.{cases_eq, and_from, and_parts, or_parts, not-false, true≢false, ltb-false}
 use Rattle.mud_key.specs.Tree.{Tree, Has, Asks, Not, Join, IsKey, AllObjects, objects_of, nots_of, atoms_of}
+use Rattle.mud_key.specs.declared.limits.TheConstants.{LAST_NUMBER, MOST_OBJECTS, MOST_NOTS}
 use Rattle.mud_world.specs.declared.record.Record.{Record}
 use Rattle.mud_world.specs.declared.change.Deed.TheVariants.{Lock, Unlock}
 use Rattle.mud_world.specs.Kinds.{is_player_kind}
 use Rattle.mud_world.specs.State.{State, record_at, exists, key_of, nests, all_nest}
 use Rattle.mud_world.specs.Sound.{IsSound}
 use Rattle.mud_world.specs.Legal.{refusal}
-use Rattle.mud_world.specs.inner.Parts.{with_record, keyed, is_bad_key}
+use Rattle.mud_world.specs.inner.Parts.{with_record, with_key, is_bad_key}
 use Rattle.mud_world.specs.inner.CanGo.{CanKey}
 use Rattle.mud_world.proofs.Records.{record_cases, bool_cases, in_bounds, lookup-set_value_same, lookup-set_value_other}
 use Rattle.mud_world.proofs.Numbering.{set_here, set_past}
@@ -32,7 +33,8 @@ found w n there =
     (λ e. absurd (true≢false (sym there ∙ ap is_some e)))
     (λ r e. (r, e))
 
-pub sound-keyed : (w : State) → IsSound w → (n : ℕ) (key : Option (Tree ℕ)) → CanKey w n key → IsSound (keyed w n key)
+pub sound-keyed : (w : State) → IsSound w → (n : ℕ) (key : Option (Tree ℕ)) → CanKey w n key
+    → IsSound (with_key w n key)
 sound-keyed w sound n key can =
     let it = found w n can.there in
     let r = it.0 in
@@ -66,7 +68,7 @@ list_all-set p n r (e ∷ es) new all =
 
 -- without a key nothing nests deeper
 nesting-unlocked : (w : State) → IsSound w → (n : ℕ) (r : Record) → record_at w n ≡ Some r
-    → all_nest (keyed w n None) ≡ true
+    → all_nest (with_key w n None) ≡ true
 nesting-unlocked w sound n r at =
     let w' = with_record w n (with_this_key None r) in
     let fewer : Fewer w w' = λ o.
@@ -103,7 +105,7 @@ any-parts p (x ∷ xs) ys none =
     let rest = any-parts p xs ys parts.1 in
     (ap (λ b. b || list_any p xs) parts.0 ∙ rest.0, rest.1)
 
-number-below : (w : State) → IsSound w → (n : ℕ) → list_any (λ o. not (exists w o)) (n ∷ []) ≡ false → n ≤ 8191
+number-below : (w : State) → IsSound w → (n : ℕ) → list_any (λ o. not (exists w o)) (n ∷ []) ≡ false → n ≤ LAST_NUMBER
 number-below w sound n none =
     let it = found w n (not-false _ (or_parts (not (exists w n)) false none).0) in
     let within = in_bounds 0 w.next n it.0 w.objects sound.rising it.1 in
@@ -111,7 +113,7 @@ number-below w sound n none =
     omega (arith, within.1)
 
 numbers-below : (w : State) → IsSound w → (key : Tree ℕ) → list_any (λ o. not (exists w o)) (atoms_of key) ≡ false
-    → AllObjects (λ n. n ≤ 8191) key
+    → AllObjects (λ n. n ≤ LAST_NUMBER) key
 numbers-below w sound (Has n) none = number-below w sound n none
 numbers-below w sound (Asks n) none = number-below w sound n none
 numbers-below w sound (Not k) none = numbers-below w sound k none
@@ -122,9 +124,12 @@ numbers-below w sound (Join op a b) none =
 key-within : (w : State) → IsSound w → (key : Tree ℕ) → is_bad_key w key ≡ false → IsKey key
 key-within w sound key good =
     let parts = or_parts (list_any (λ o. not (exists w o)) (atoms_of key)) _ good in
-    let counts = or_parts (nat_lt 16 (objects_of key)) (nat_lt 64 (nots_of key)) parts.1 in
+    let counts = or_parts (nat_lt MOST_OBJECTS (objects_of key)) (nat_lt MOST_NOTS (nots_of key)) parts.1 in
     record {
-      limits = record { objects = ltb-false 16 (objects_of key) counts.0; nots = ltb-false 64 (nots_of key) counts.1 };
+      limits = record {
+        objects = ltb-false MOST_OBJECTS (objects_of key) counts.0;
+        nots = ltb-false MOST_NOTS (nots_of key) counts.1;
+      };
       numbers = numbers-below w sound key parts.0;
     }
 

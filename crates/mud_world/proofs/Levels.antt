@@ -8,7 +8,7 @@ use Rattle.std.specs.Map.{lookup}
 use Rattle.std.proofs.lemmas.Bool.{and_parts, true≢false}
 use Rattle.mud_key.specs.Tree.{Tree, Has, Asks, Not, Join, asks_of}
 use Rattle.mud_world.specs.declared.record.Record.{Record}
-use Rattle.mud_world.specs.Truth.{joined, key_true}
+use Rattle.mud_world.specs.Truth.{truth_of_join, key_true}
 use Rattle.mud_world.specs.State.{State, record_at, key_of, within, opens, nests, unlocked}
 use Rattle.mud_world.specs.Laws.{AreLevelsEnough}
 use Rattle.mud_world.proofs.Records.{record_cases, bool_cases}
@@ -31,8 +31,8 @@ same-truth held f g (Asks n) all = all.0
 same-truth held f g (Not k) all = ap not (same-truth held f g k all)
 same-truth held f g (Join op a b) all =
     let parts = All-parts (λ o. f o ≡ g o) (asks_of a) (asks_of b) all in
-    ap (λ v. joined op v (key_true held f b)) (same-truth held f g a parts.0)
-    ∙ ap (joined op (key_true held g a)) (same-truth held f g b parts.1)
+    ap (λ v. truth_of_join op v (key_true held f b)) (same-truth held f g a parts.0)
+    ∙ ap (truth_of_join op (key_true held g a)) (same-truth held f g b parts.1)
 
 -- the key that an option has is true with n levels and with one more
 by_key : (w : State) (held : ℕ → Bool) (n : ℕ)

@@ -9,10 +9,11 @@ use Rattle.std.proofs.lemmas.List.{get_or-set_other, length-set, get_or_past}
 use Rattle.std.proofs.lemmas.List.Folds.{list_any-append}
 use Rattle.std.proofs.lemmas.Grind.{get_or-set_at}
 use Rattle.mud_key.specs.Tree.{Tree}
+use Rattle.mud_world.specs.declared.limits.TheConstants.{NUMBERS}
 use Rattle.mud_world.specs.declared.record.Record.{Record}
 use Rattle.mud_world.specs.State.{State, contents_of, within, comes_to, unlocked, holds_for, has, record_at, IsHolding}
 use Rattle.mud_world.specs.Sound.{IsSound}
-use Rattle.mud_world.specs.inner.Marks.{marked}
+use Rattle.mud_world.specs.inner.Marks.{mark_all}
 use Rattle.mud_world.proofs.Records.{bool_cases}
 use Rattle.mud_world.proofs.Places.{follow_by}
 use Rattle.mud_world.proofs.Carrying.{Gathers, content-place, place-content, missing-above}
@@ -27,7 +28,7 @@ or-same false b c = refl
 
 -- ---- marks
 marked-at : (os : List ℕ) (ms : List Bool) (o : ℕ) → o < length ms
-    → get_or (marked os ms) o false ≡ (get_or ms o false || list_any (nat_eq o) os)
+    → get_or (mark_all os ms) o false ≡ (get_or ms o false || list_any (nat_eq o) os)
 marked-at [] ms o lt = sym (or-none (get_or ms o false))
 marked-at (p ∷ os) ms o lt =
     marked-at os (set ms p true) o (omega (arith, lt, length-set ms p true))
@@ -44,23 +45,23 @@ marked-at (p ∷ os) ms o lt =
         get_or-set_other ms p o true false (λ same. true≢false (sym (eq-eqb o p same) ∙ past))
         ∙ sym (ap (λ b. get_or ms o false || b) past ∙ or-none (get_or ms o false)))
 
-length-marked : (os : List ℕ) (ms : List Bool) → length (marked os ms) ≡ length ms
+length-marked : (os : List ℕ) (ms : List Bool) → length (mark_all os ms) ≡ length ms
 length-marked [] ms = refl
 length-marked (p ∷ os) ms = length-marked os (set ms p true) ∙ length-set ms p true
 
 -- the marks of a holding say what lies within, if each number that was given has a mark
 pub marks-within : (w : State) → IsSound w → (c : ℕ) (held : List ℕ) → IsHolding w c held → (ms : List Bool)
-    → length ms ≡ 8192 → ((o : ℕ) → o < 8192 → get_or ms o false ≡ false)
-    → (o : ℕ) → get_or (marked held ms) o false ≡ within w o c
+    → length ms ≡ NUMBERS → ((o : ℕ) → o < NUMBERS → get_or ms o false ≡ false)
+    → (o : ℕ) → get_or (mark_all held ms) o false ≡ within w o c
 marks-within w sound c held is ms long none o =
     let most = sound.limit in
     ⊎_elim
-    (λ (lt : o < 8192). marked-at held ms o (omega (arith, lt, long))
+    (λ (lt : o < NUMBERS). marked-at held ms o (omega (arith, lt, long))
     ∙ ap (λ b. b || list_any (nat_eq o) held) (none o lt) ∙ is o)
-    (λ (le : 8192 ≤ o).
-    get_or_past (marked held ms) o false (omega (arith, le, long, length-marked held ms))
+    (λ (le : NUMBERS ≤ o).
+    get_or_past (mark_all held ms) o false (omega (arith, le, long, length-marked held ms))
     ∙ sym (ap (λ v. is_some v && comes_to w w.next o c) (missing-above w sound o (omega (arith, le, most)))))
-    (cases_lt o 8192)
+    (cases_lt o NUMBERS)
 
 -- ---- gathering, where each number is pushed once
 get-front : (ks xs : List ℕ) (j : ℕ) → j < length ks → slice_get (ks ++ xs) j ≡ slice_get ks j

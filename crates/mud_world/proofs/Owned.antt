@@ -16,9 +16,9 @@ use Rattle.mud_world.specs.Kinds.{is_player_kind, kind_at}
 use Rattle.mud_world.specs.State.{State, record_at, is_number, is_taken, shares}
 use Rattle.mud_world.specs.Sound.{IsRising, IsSound}
 use Rattle.mud_world.specs.Legal.{with_new}
-use Rattle.mud_world.specs.inner.Parts.{with_record, removed}
+use Rattle.mud_world.specs.inner.Parts.{with_record, without_object}
 use Rattle.mud_world.specs.inner.CanGo.{CanAdd}
-use Rattle.mud_world.specs.inner.Edits.{called, called_by, with_names}
+use Rattle.mud_world.specs.inner.Edits.{names_to_find, called_by, with_names}
 use Rattle.mud_world.specs.Inside.{is_called, AreNames}
 use Rattle.mud_world.proofs.Records.{record_cases, bool_cases, lookup-append_left, lookup-append_right}
 use Rattle.mud_world.proofs.Records.{lookup-set_value_same, lookup-set_value_other}
@@ -51,18 +51,19 @@ kept-called : (w w' : State) (n : ℕ) → ((t : List ℕ) → is_called w' n t 
 kept-called w w' n here there m t =
     ⊎_elim
     (λ (e : m ≡ n). ap (λ v. is_called w' v t) e ∙ here t ∙ sym (ap (λ v. is_called w v t) e))
-    (λ apart. ap (λ v. option_map_or (λ r. among t (called r)) v false) (there m apart))
+    (λ apart. ap (λ v. option_map_or (λ r. among t (names_to_find r)) v false) (there m apart))
     (cases_eq m n)
 
 at_record : (w : State) (n : ℕ) (r : Record) → record_at w n ≡ Some r → (t : List ℕ)
-    → is_called w n t ≡ among t (called r)
-at_record w n r at t = ap (λ v. option_map_or (λ r. among t (called r)) v false) at
+    → is_called w n t ≡ among t (names_to_find r)
+at_record w n r at t = ap (λ v. option_map_or (λ r. among t (names_to_find r)) v false) at
 
 at_none : (w : State) (n : ℕ) → record_at w n ≡ None → (t : List ℕ) → is_called w n t ≡ false
-at_none w n at t = ap (λ v. option_map_or (λ r. among t (called r)) v false) at
+at_none w n at t = ap (λ v. option_map_or (λ r. among t (names_to_find r)) v false) at
 
-pub names-edited : (w : State) (n : ℕ) (r r' : Record) → record_at w n ≡ Some r → called r' ≡ called r → (o o' : Owners)
-    → AreNames o w → HaveSameOwners o o' → AreNames o' (with_record w n r')
+pub names-edited : (w : State) (n : ℕ) (r r' : Record) → record_at w n ≡ Some r
+    → names_to_find r' ≡ names_to_find r → (o o' : Owners) → AreNames o w → HaveSameOwners o o'
+    → AreNames o' (with_record w n r')
 names-edited w n r r' at same o o' names owners =
     names-same w (with_record w n r') o o' names
     (kept-called w (with_record w n r') n
@@ -72,11 +73,11 @@ names-edited w n r r' at same o o' names owners =
     owners
 
 pub names-removed : (w : State) → IsRising 0 w.objects w.next → (n : ℕ) (r : Record) → record_at w n ≡ Some r
-    → called r ≡ [] → (o o' : Owners) → AreNames o w → HaveSameOwners o o' → AreNames o' (removed w n)
+    → names_to_find r ≡ [] → (o o' : Owners) → AreNames o w → HaveSameOwners o o' → AreNames o' (without_object w n)
 names-removed w rising n r at nameless o o' names owners =
-    names-same w (removed w n) o o' names
-    (kept-called w (removed w n) n
-    (λ t. at_none (removed w n) n (lookup-remove_same n 0 w.next w.objects rising) t
+    names-same w (without_object w n) o o' names
+    (kept-called w (without_object w n) n
+    (λ t. at_none (without_object w n) n (lookup-remove_same n 0 w.next w.objects rising) t
     ∙ sym (at_record w n r at t ∙ ap (among t) nameless))
     (λ m apart. lookup-remove_other n m apart w.objects))
     owners
@@ -131,7 +132,8 @@ module _ (w w' : State) (n : ℕ) (olds news : List (List ℕ)) (o o' : Owners) 
       ∙ ⊎_elim
       (λ (e : m ≡ n). ap (λ v. is_number v (after_by (among t news) (among t olds) (before t))) e ∙ own t ∙ sym (is t)
       ∙ ap (λ v. is_called w' v t) (sym e))
-      (λ apart. other m t apart ∙ ap (λ v. option_map_or (λ r. among t (called r)) v false) (sym (there m apart)))
+      (λ apart. other m t apart
+      ∙ ap (λ v. option_map_or (λ r. among t (names_to_find r)) v false) (sym (there m apart)))
       (cases_eq m n)
 
 -- a name of one that has no name of the others is none of theirs
@@ -158,7 +160,7 @@ module _ (w : State) (n : ℕ) (k : Kind) (names : List (List ℕ))
       (λ past. absurd (true≢false (sym e ∙ ap (λ b. among t (cond b names [])) past)))
     where
       other : (s : Record) → record_at w m ≡ Some s → among t names ≡ true → is_player_kind k ≡ true
-          → among t (called s) ≡ false
+          → among t (names_to_find s) ≡ false
       other s f his player =
           bool_cases (is_player_kind s.kind)
           (λ p. ap (λ b. among t (cond b s.names [])) p
@@ -166,9 +168,9 @@ module _ (w : State) (n : ℕ) (k : Kind) (names : List (List ℕ))
           (λ p. ap (λ b. among t (cond b s.names [])) p)
 
 pub names-grown : (w : State) → IsSound w → (r : Record) → CanAdd w r → (o o' : Owners) → AreNames o w
-    → AreOwnersPassed [] (called r) w.next o o' → AreNames o' (with_new w (r ∷ []))
+    → AreOwnersPassed [] (names_to_find r) w.next o o' → AreNames o' (with_new w (r ∷ []))
 names-grown w sound r can o o' names passed =
-    names-anew w (with_new w (r ∷ [])) w.next [] (called r) o o' names (at_none w w.next missing)
+    names-anew w (with_new w (r ∷ [])) w.next [] (names_to_find r) o o' names (at_none w w.next missing)
     (at_record (with_new w (r ∷ [])) w.next r here) there (free-called w w.next r.kind r.names can.free) passed
   where
     missing : record_at w w.next ≡ None
@@ -187,9 +189,10 @@ names-grown w sound r can o o' names passed =
 
 pub names-renamed : (w : State) (n : ℕ) (r : Record) → record_at w n ≡ Some r → (names : List (List ℕ))
     → (is_player_kind r.kind ≡ true → is_taken w n names ≡ false) → (o o' : Owners) → AreNames o w
-    → AreOwnersPassed (called r) (called_by r.kind names) n o o' → AreNames o' (with_record w n (with_names names r))
+    → AreOwnersPassed (names_to_find r) (called_by r.kind names) n o o'
+    → AreNames o' (with_record w n (with_names names r))
 names-renamed w n r at names free o o' are passed =
-    names-anew w (with_record w n (with_names names r)) n (called r) (called_by r.kind names) o o' are
+    names-anew w (with_record w n (with_names names r)) n (names_to_find r) (called_by r.kind names) o o' are
     (at_record w n r at)
     (at_record (with_record w n (with_names names r)) n (with_names names r)
     (lookup-set_value_same n (with_names names r) r w.objects at))

@@ -18,8 +18,8 @@ use Rattle.mud_world.specs.declared.refusal.Refusal.TheVariants.{WrongKind}
 use Rattle.mud_world.specs.Kinds.{kind_at, kind_costing, is_player_kind}
 use Rattle.mud_world.specs.State.{State, record_at, is_player, destination_of, named_player}
 use Rattle.mud_world.specs.Sound.{IsRising, IsSound}
-use Rattle.mud_world.specs.Legal.{changed, dug, new_record, fails, refusal, after}
-use Rattle.mud_world.specs.inner.Parts.{with_record, removed, moved}
+use Rattle.mud_world.specs.Legal.{with_record_changed, dug, new_record, fails, refusal, after}
+use Rattle.mud_world.specs.inner.Parts.{with_record, without_object, with_place}
 use Rattle.mud_world.specs.Laws.{PlayersStay, NewPlayersArePlayers}
 use Rattle.mud_world.proofs.Records.{record_cases, bool_cases, lookup-set_value_same, lookup-set_value_other}
 use Rattle.mud_world.proofs.Records.{lookup-append_right, in_bounds}
@@ -34,7 +34,7 @@ is_one v = option_map_or (λ r. is_player_kind r.kind) v false
 -- a record that changes without becoming or ceasing to be a player's
 kept-changed : (w : State) (n : ℕ) (f : Record → Record)
     → ((r : Record) → is_player_kind (f r).kind ≡ is_player_kind r.kind) → (p : ℕ)
-    → is_player (changed w n f) p ≡ is_player w p
+    → is_player (with_record_changed w n f) p ≡ is_player w p
 kept-changed w n f same p =
     record_cases (record_at w n)
     (λ e. ap (λ (v : Option Record). is_player (option_map_or (λ r. with_record w n (f r)) v w) p) e)
@@ -62,7 +62,7 @@ costing_kind cost (Exit a) = refl
 costing_kind cost (Thing q) = refl
 costing_kind cost (PlayerIn q) = refl
 
-kept-moved : (w : State) (n y p : ℕ) → is_player (moved w n y) p ≡ is_player w p
+kept-moved : (w : State) (n y p : ℕ) → is_player (with_place w n y) p ≡ is_player w p
 kept-moved w n y p = kept-changed w n (λ r. record r { kind = kind_at y r.kind }) (λ r. moved_kind y r.kind) p
 
 -- what is recycled is no player
@@ -78,7 +78,8 @@ recycled-apart w a n legal =
     or_true true y e = refl
     or_true false y e = e
 
-kept-removed : (w : State) (n p : ℕ) → is_player w n ≡ false → is_player w p ≡ true → is_player (removed w n) p ≡ true
+kept-removed : (w : State) (n p : ℕ) → is_player w n ≡ false → is_player w p ≡ true
+    → is_player (without_object w n) p ≡ true
 kept-removed w n p gone is =
     ⊎_elim
     (λ (e : p ≡ n). absurd (true≢false (sym is ∙ ap (is_player w) e ∙ gone)))
@@ -88,7 +89,7 @@ kept-removed w n p gone is =
 pub players_stay : PlayersStay
 players_stay w e sound legal p is = go e.deed legal
   where
-    walked : (o : Option ℕ) → is_player (option_map_or (moved w e.actor) o w) p ≡ true
+    walked : (o : Option ℕ) → is_player (option_map_or (with_place w e.actor) o w) p ≡ true
     walked None = is
     walked (Some y) = kept-moved w e.actor y p ∙ is
 

@@ -6,6 +6,7 @@ use Rattle.std.specs.Option.{option_map_or, option_and_then}
 use Rattle.std.specs.List.{list_any}
 use Rattle.std.specs.Map.{lookup}
 use Rattle.std.proofs.lemmas.Bool.{or_parts, not-false, true≢false, eq-eqb, eqb-true, ltb-false}
+use Rattle.mud_world.specs.declared.limits.TheConstants.{NUMBERS, MOST_COST}
 use Rattle.mud_world.specs.declared.record.Record.{Record}
 use Rattle.mud_world.specs.declared.record.Kind.{Kind}
 use Rattle.mud_world.specs.declared.record.Kind.TheVariants.{Room, Exit, Thing, Player}
@@ -14,7 +15,7 @@ use Rattle.mud_world.specs.Kinds.{kind_needs, kind_costing, is_room_kind, is_exi
 use Rattle.mud_world.specs.State.{State, exists, nests, is_taken}
 use Rattle.mud_world.specs.Sound.{IsSound, IsPlacedWell}
 use Rattle.mud_world.specs.Legal.{new_record, refusal}
-use Rattle.mud_world.specs.inner.Parts.{with_record, costing, renamed}
+use Rattle.mud_world.specs.inner.Parts.{with_record, with_cost, with_names}
 use Rattle.mud_world.specs.inner.CanGo.{IsOff, CanRemove, CanName, CanAdd}
 use Rattle.mud_world.proofs.Records.{bool_cases, option_map_or-agree_keys, list_all-agree, list_all-set_value}
 use Rattle.mud_world.proofs.Going.{nothing_fails}
@@ -94,12 +95,12 @@ kind-player cost (Thing p) = refl
 kind-player cost (Player p) = refl
 
 pub sound-cost : (w : State) → IsSound w → (a n cost : ℕ) → refusal w (record { actor = a; deed = Cost n cost }) ≡ None
-    → IsSound (costing w n cost)
+    → IsSound (with_cost w n cost)
 sound-cost w sound a n cost legal =
     let none_holds = nothing_fails w (record { actor = a; deed = Cost n cost }) legal in
     let it = found w n (not-false _ (or_parts _ _ none_holds.0).1) in
     let r = it.0 in
-    let low = ltb-false 10000 cost none_holds.1.1.1.1.1.1.1.1.0 in
+    let low = ltb-false MOST_COST cost none_holds.1.1.1.1.1.1.1.1.0 in
     let r' = with_this_cost cost r in
     let like : IsLike w r r' = record {
       room = same-room cost r.kind;
@@ -117,7 +118,7 @@ sound-cost w sound a n cost legal =
     ∙ list_all-set_value (λ r. option_map_or (nests w 3) r.key true) n r' r w.objects it.1 refl
     ∙ sound.nesting) (named-same w n r r' sound.named it.1 (kind-player cost r.kind) refl))
   where
-    fits : (k : Kind) → cost ≤ 10000 → IsPlacedWell w k → IsPlacedWell w (kind_costing cost k)
+    fits : (k : Kind) → cost ≤ MOST_COST → IsPlacedWell w k → IsPlacedWell w (kind_costing cost k)
     fits Room low well = tt
     fits (Exit p) low well = (well.0, well.1, low)
     fits (Thing p) low well = well
@@ -128,7 +129,7 @@ abbrev pub with_these_names : List (List ℕ) → Record → Record
 with_these_names names r = record r { names = names }
 
 pub sound-renamed : (w : State) → IsSound w → (n : ℕ) (names : List (List ℕ)) → CanName w n names
-    → IsSound (renamed w n names)
+    → IsSound (with_names w n names)
 sound-renamed w sound n names can =
     let it = found w n can.there in
     let r = it.0 in
@@ -167,7 +168,7 @@ pub CanAdd-player : (w : State) → IsSound w → (a : ℕ) (name : List ℕ)
 CanAdd-player w sound a name legal =
     let none_holds = nothing_fails w (record { actor = a; deed = NewPlayer name }) legal in
     let is_next : a ≡ w.next = eqb-true a w.next (not-false _ none_holds.0) in
-    let small = ltb-false 8192 (w.next + 1) none_holds.1.1.1.1.1.1.1.1.1.1.1.1.1.1.0 in
+    let small = ltb-false NUMBERS (w.next + 1) none_holds.1.1.1.1.1.1.1.1.1.1.1.1.1.1.0 in
     record {
       room = omega (arith, small);
       free = λ _. ap (λ n. is_taken w n (name ∷ [])) (sym is_next) ∙ none_holds.1.1.1.1.1.0;

@@ -5,6 +5,7 @@ use Rattle.std.specs.Prelude.{nat_eq, unwrap_or}
 use Rattle.std.specs.Option.{option_map_or, option_and_then}
 use Rattle.std.specs.Map.{lookup}
 use Rattle.std.proofs.lemmas.Bool.{or_parts, not-false, cases_eq, true≢false}
+use Rattle.mud_world.specs.declared.limits.TheConstants.{NUMBERS}
 use Rattle.mud_world.specs.declared.record.Record.{Record}
 use Rattle.mud_world.specs.declared.record.Kind.{Kind}
 use Rattle.mud_world.specs.declared.record.Kind.TheVariants.{Room, Exit, Thing, Player as PlayerIn}
@@ -17,7 +18,7 @@ use Rattle.mud_world.specs.Kinds.{kind_place, is_player_kind}
 use Rattle.mud_world.specs.State.{State, record_at, is_player, place_of, destination_of}
 use Rattle.mud_world.specs.Sound.{IsSound}
 use Rattle.mud_world.specs.Legal.{with_new, numbered_from, new_record, new_exit, new_exits, refusal, deed_result}
-use Rattle.mud_world.specs.inner.Parts.{moved}
+use Rattle.mud_world.specs.inner.Parts.{with_place}
 use Rattle.mud_world.specs.inner.CanGo.{CanGo, CanAdd, CanJoin, IsNew}
 use Rattle.mud_world.specs.Laws.{StaysSound}
 use Rattle.mud_world.proofs.Records.{record_cases, bool_cases}
@@ -60,7 +61,7 @@ with_new-none w = λ i. record { objects = (append-nil w.objects) i; next = (sam
 sound-both : (w : State) → IsSound w → (a here there : ℕ) (out : List (List ℕ)) → CanJoin w here there
     → (names : Option (List (List ℕ))) →
     w.next + length (new_exit a out here there ∷ option_map_or (λ names. new_exit a names there here ∷ []) names [])
-    ≤ 8192 →
+    ≤ NUMBERS →
     IsSound (with_new w
     (new_exit a out here there ∷ option_map_or (λ names. new_exit a names there here ∷ []) names []))
 sound-both w sound a here there out join None few =
@@ -75,12 +76,12 @@ sound-both w sound a here there out join (Some names) few =
     (omega (arith, few))))
 
 sound-doors : (w : State) → IsSound w → (a here there : ℕ) (doors : Option Doors) → CanJoin w here there
-    → w.next + length (new_exits a here there doors) ≤ 8192 → IsSound (with_new w (new_exits a here there doors))
+    → w.next + length (new_exits a here there doors) ≤ NUMBERS → IsSound (with_new w (new_exits a here there doors))
 sound-doors w sound a here there None join room = subst IsSound (sym (with_new-none w)) sound
 sound-doors w sound a here there (Some d) join room = sound-both w sound a here there d.out join d.back room
 
 -- ---- another place
-sound-gone : (w : State) → IsSound w → (t q y : ℕ) → CanGo w t q y → IsSound (moved w t y)
+sound-gone : (w : State) → IsSound w → (t q y : ℕ) → CanGo w t q y → IsSound (with_place w t y)
 sound-gone w sound t q y can =
     record_cases (record_at w t)
     (λ e. let bad : None ≡ Some q = sym (ap (option_and_then (λ r. kind_place r.kind)) e) ∙ can.from in absurd (cc))
@@ -102,18 +103,18 @@ player-placed w a player none =
     placed (PlayerIn p) e f = let bad : Some p ≡ None = f in cc
 
 sound-walk : (w : State) → IsSound w → (a x : ℕ) → refusal w (record { actor = a; deed = Walk x }) ≡ None
-    → IsSound (option_map_or (moved w a) (destination_of w x) w)
+    → IsSound (option_map_or (with_place w a) (destination_of w x) w)
 sound-walk w sound a x legal =
     let player = not-false _ (or_parts _ _ (nothing_fails w (record { actor = a; deed = Walk x }) legal).1.0).0 in
     option_cases (destination_of w x)
-    (λ e. subst IsSound (sym (ap (λ v. option_map_or (moved w a) v w) e)) sound)
+    (λ e. subst IsSound (sym (ap (λ v. option_map_or (with_place w a) v w) e)) sound)
     (λ d e.
-    subst IsSound (sym (ap (λ v. option_map_or (moved w a) v w) e))
+    subst IsSound (sym (ap (λ v. option_map_or (with_place w a) v w) e))
     (option_cases (place_of w a)
     (λ none. absurd (player-placed w a player none))
     (λ q from.
     ⊎_elim
-    (λ (same : q ≡ d). subst IsSound (sym (ap (moved w a) (sym same) ∙ moved-same w a q from)) sound)
+    (λ (same : q ≡ d). subst IsSound (sym (ap (with_place w a) (sym same) ∙ moved-same w a q from)) sound)
     (λ apart. sound-gone w sound a q d (CanGo-walk w sound a x legal q d from e apart))
     (cases_eq q d))))
 

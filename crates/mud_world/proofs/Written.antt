@@ -11,18 +11,19 @@ use Rattle.mud_key.specs.Tree.{Tree}
 use Rattle.mud_world.specs.declared.record.Record.{Record}
 use Rattle.mud_world.specs.State.{State, has, record_at}
 use Rattle.mud_world.specs.Sound.{IsSound}
-use Rattle.mud_world.specs.inner.Answers.{IsPlain, written}
+use Rattle.mud_world.specs.inner.Answers.{IsPlain, answers_with}
 use Rattle.mud_world.proofs.Records.{bool_cases}
 use Rattle.mud_world.proofs.Carrying.{has-above, get_or-past}
 
-length-written : (new : ℕ → Bool) (os : List ℕ) (answers : List Bool) → length (written new os answers) ≡ length answers
+length-written : (new : ℕ → Bool) (os : List ℕ) (answers : List Bool)
+    → length (answers_with new os answers) ≡ length answers
 length-written new [] answers = refl
 length-written new (p ∷ os) answers = length-written new os (set answers p (new p)) ∙ length-set answers p (new p)
 
 -- what is written has its new answer, and so has what had it
 written-at : (new : ℕ → Bool) (os : List ℕ) (answers : List Bool) (o : ℕ) → o < length answers
     → (list_any (nat_eq o) os ≡ false → get_or answers o false ≡ new o)
-    → get_or (written new os answers) o false ≡ new o
+    → get_or (answers_with new os answers) o false ≡ new o
 written-at new [] answers o lt had = had refl
 written-at new (p ∷ os) answers o lt had =
     written-at new os (set answers p (new p)) o (omega (arith, lt, length-set answers p (new p)))
@@ -53,7 +54,7 @@ keyless-key (Some r) is = is
 
 pub written-anew : (w : State) → IsSound w → (answers : List Bool) (locked : List ℕ) → IsPlain w answers locked
     → (test : Tree ℕ → Bool) (o : ℕ)
-    → get_or (written (λ o. has w o (λ r. option_map_or test r.key true)) locked answers) o false
+    → get_or (answers_with (λ o. has w o (λ r. option_map_or test r.key true)) locked answers) o false
     ≡ has w o (λ r. option_map_or test r.key true)
 written-anew w sound answers locked is test o =
     let new = λ (o : ℕ). has w o (λ r. option_map_or test r.key true) in
@@ -61,6 +62,6 @@ written-anew w sound answers locked is test o =
     (λ (lt : o < length answers). written-at new locked answers o lt
     (λ none. is.plain o ∙ by_record test (record_at w o) (is.keyless o none)))
     (λ (le : length answers ≤ o).
-    get_or-past (written new locked answers) o (omega (arith, le, length-written new locked answers))
+    get_or-past (answers_with new locked answers) o (omega (arith, le, length-written new locked answers))
     ∙ sym (has-above w sound o (omega (arith, le, is.long)) (λ r. option_map_or test r.key true)))
     (cases_lt o (length answers))

@@ -9,7 +9,7 @@ use Rattle.mud_world.specs.declared.record.Record.{Record}
 use Rattle.mud_world.specs.declared.world.World.TheInside.{Inside}
 use Rattle.mud_world.specs.State.{State, has, is_number, kind_place, kind_passage, numbers_with}
 use Rattle.mud_world.specs.Sound.{IsSound}
-use Rattle.mud_world.specs.inner.Edits.{asked_by, called}
+use Rattle.mud_world.specs.inner.Edits.{asked_by, names_to_find}
 
 -- the records by number, without the lists beside them
 abbrev pub state_of : Inside → State
@@ -41,7 +41,7 @@ AreOf test lists w = (n : ℕ) → list_at lists n ≡ numbers_with (test n) w
 
 -- object n is found by this name
 abbrev pub is_called : State → ℕ → List ℕ → Bool
-is_called w n name = has w n (λ r. list_any (str_eq_ignore_ascii_case name) (called r))
+is_called w n name = has w n (λ r. list_any (str_eq_ignore_ascii_case name) (names_to_find r))
 
 -- the owner of each text in lower case is the object that is found by this name
 abbrev pub AreNames : List (List ℕ × ℕ) → State → Type 0

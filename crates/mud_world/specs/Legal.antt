@@ -2,6 +2,7 @@
 use Rattle.std.specs.Prelude.{ℕ, Bool, true, false, not, ◌&&◌, ◌||◌, nat_eq, nat_lt, List, [], ◌∷◌, length, find, ◌+◌}
 use Rattle.std.specs.Prelude.{Option, is_some}
 use Rattle.std.specs.Option.{option_map_or}
+use Rattle.mud_world.specs.declared.limits.TheConstants.{NUMBERS, MOST_COST}
 use Rattle.mud_world.specs.declared.change.Change.{Change}
 use Rattle.mud_world.specs.declared.change.Deed.{Deed}
 use Rattle.mud_world.specs.declared.change.Deed.TheVariants.{Dig, Make, Lock, Unlock, Move, Walk, Cost, Player, Rename}
@@ -15,13 +16,14 @@ pub use Rattle.mud_world.specs.Kinds.{kind_at, kind_costing, kind_needs}
 pub use Rattle.mud_world.specs.Reach.{InReach, arrives, in_reach}
 pub use Rattle.mud_world.specs.Conditions.{owns, shares_room, is_offered}
 pub use Rattle.mud_world.specs.Conditions.{of_old}
-pub use Rattle.mud_world.specs.Results.{changed, numbered_from, with_new}
+pub use Rattle.mud_world.specs.Results.{with_record_changed, numbered_from, with_new}
 pub use Rattle.mud_world.specs.Results.{new_record, new_exit, new_exits, dug, deed_result, after}
 use Rattle.mud_world.specs.State.{State, exists, is_room, is_exit, is_thing, is_player, place_of, is_number, within}
 use Rattle.mud_world.specs.State.{source_of}
 use Rattle.mud_world.specs.State.{destination_of, unlocked, all_nest, is_taken}
 use Rattle.std.specs.List.{list_any}
 use Rattle.mud_key.specs.Tree.{objects_of, nots_of, atoms_of}
+use Rattle.mud_key.specs.declared.limits.TheConstants.{MOST_OBJECTS, MOST_NOTS}
 
 -- what refuses the actor of each kind of change but Player: he is no player of the world
 abbrev pub actor_fails : State → ℕ → Refusal → Bool
@@ -33,16 +35,17 @@ actor_fails w actor f = false
 abbrev pub deed_fails : State → ℕ → Deed → Refusal → Bool
 deed_fails w actor (Dig target doors) NoSuch = of_old target (λ room. not (exists w room))
 deed_fails w actor (Dig target doors) WrongKind = of_old target (λ room. not (is_room w room) || not (is_some doors))
-deed_fails w actor (Dig target doors) WorldFull = nat_lt 8192 (w.next + length (dug w actor target doors))
-deed_fails w actor (Make names) WorldFull = nat_lt 8192 (w.next + 1)
+deed_fails w actor (Dig target doors) WorldFull = nat_lt NUMBERS (w.next + length (dug w actor target doors))
+deed_fails w actor (Make names) WorldFull = nat_lt NUMBERS (w.next + 1)
 deed_fails w actor (Player name) NoSuch = not (nat_eq actor w.next)
 deed_fails w actor (Player name) NameTaken = is_taken w actor (name ∷ [])
-deed_fails w actor (Player name) WorldFull = nat_lt 8192 (w.next + 1)
+deed_fails w actor (Player name) WorldFull = nat_lt NUMBERS (w.next + 1)
 deed_fails w actor (Lock object key) NoSuch = not (exists w object)
 deed_fails w actor (Lock object key) WrongKind = is_player w object
 deed_fails w actor (Lock object key) Denied = not (owns w actor object)
 deed_fails w actor (Lock object key) BadKey =
-    list_any (λ o. not (exists w o)) (atoms_of key) || (nat_lt 16 (objects_of key) || nat_lt 64 (nots_of key))
+    list_any (λ o. not (exists w o)) (atoms_of key)
+    || (nat_lt MOST_OBJECTS (objects_of key) || nat_lt MOST_NOTS (nots_of key))
 deed_fails w actor (Lock object key) KeyNesting = not (all_nest (deed_result w actor (Lock object key)))
 deed_fails w actor (Unlock object) NoSuch = not (exists w object)
 deed_fails w actor (Unlock object) WrongKind = is_player w object
@@ -63,7 +66,7 @@ deed_fails w actor (Walk exit) LockedRoom = not (option_map_or (unlocked w actor
 deed_fails w actor (Cost exit cost) NoSuch = not (exists w exit)
 deed_fails w actor (Cost exit cost) WrongKind = not (is_exit w exit)
 deed_fails w actor (Cost exit cost) Denied = not (owns w actor exit)
-deed_fails w actor (Cost exit cost) BadCost = nat_lt 10000 cost
+deed_fails w actor (Cost exit cost) BadCost = nat_lt MOST_COST cost
 deed_fails w actor (Rename object names) NoSuch = not (exists w object)
 deed_fails w actor (Rename object names) Denied = not (owns w actor object)
 deed_fails w actor (Rename object names) NameTaken = is_player w object && is_taken w object names

@@ -18,8 +18,9 @@ use Rattle.mud_world.specs.State.{State, record_at, place_of, destination_of}
 -- ---- edits of a world
 
 -- object n, where it exists, has its record changed by f
-abbrev pub changed : State → ℕ → (Record → Record) → State
-changed w n f = option_map_or (λ r. record w { objects = set_value (nat_eq n) w.objects (f r) }) (record_at w n) w
+abbrev pub with_record_changed : State → ℕ → (Record → Record) → State
+with_record_changed w n f =
+    option_map_or (λ r. record w { objects = set_value (nat_eq n) w.objects (f r) }) (record_at w n) w
 
 -- the records with the numbers n, n + 1, n + 2 and so on
 abbrev pub numbered_from : ℕ → List Record → List (ℕ × Record)
@@ -60,13 +61,14 @@ abbrev pub deed_result : State → ℕ → Deed → State
 deed_result w actor (Dig target doors) = with_new w (dug w actor target doors)
 deed_result w actor (Make names) = with_new w (new_record actor names (Thing actor) ∷ [])
 deed_result w actor (Player name) = with_new w (new_record actor (name ∷ []) (PlayerIn 0) ∷ [])
-deed_result w actor (Lock object key) = changed w object (λ r. record r { key = Some key })
-deed_result w actor (Unlock object) = changed w object (λ r. record r { key = None })
-deed_result w actor (Move thing to) = changed w thing (λ r. record r { kind = kind_at to r.kind })
+deed_result w actor (Lock object key) = with_record_changed w object (λ r. record r { key = Some key })
+deed_result w actor (Unlock object) = with_record_changed w object (λ r. record r { key = None })
+deed_result w actor (Move thing to) = with_record_changed w thing (λ r. record r { kind = kind_at to r.kind })
 deed_result w actor (Walk exit) =
-    option_map_or (λ room. changed w actor (λ r. record r { kind = kind_at room r.kind })) (destination_of w exit) w
-deed_result w actor (Cost exit cost) = changed w exit (λ r. record r { kind = kind_costing cost r.kind })
-deed_result w actor (Rename object names) = changed w object (λ r. record r { names = names })
+    option_map_or (λ room. with_record_changed w actor (λ r. record r { kind = kind_at room r.kind }))
+    (destination_of w exit) w
+deed_result w actor (Cost exit cost) = with_record_changed w exit (λ r. record r { kind = kind_costing cost r.kind })
+deed_result w actor (Rename object names) = with_record_changed w object (λ r. record r { names = names })
 deed_result w actor (Recycle object) = record w { objects = remove_entry (nat_eq object) w.objects }
 deed_result w actor (Say text) = w
 deed_result w actor (Emote text) = w

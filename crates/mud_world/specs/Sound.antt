@@ -2,6 +2,7 @@
 use Rattle.std.specs.Prelude.{◌≡◌, ◌≢◌, ℕ, ◌+◌, ◌≤◌, false, List, [], ◌∷◌, Some, None, IfSome, IsTrue}
 use Rattle.std.proofs.Common.{suc}
 use Rattle.mud_key.specs.Tree.{IsKey}
+use Rattle.mud_world.specs.declared.limits.TheConstants.{NUMBERS, MOST_COST}
 use Rattle.mud_world.specs.declared.record.Kind.{Kind}
 use Rattle.mud_world.specs.declared.record.Kind.TheVariants.{Room, Exit, Thing, Player}
 use Rattle.mud_world.specs.declared.record.Record.{Record}
@@ -15,14 +16,14 @@ IsRising low (e ∷ es) high = (low ≤ e.0) × IsRising (e.0 + 1) es high
 -- places and ends are of the kinds that are allowed
 abbrev pub IsPlacedWell : State → Kind → Type 0
 IsPlacedWell w Room = Unit {0}
-IsPlacedWell w (Exit p) = IsTrue (is_room w p.source) × IsTrue (is_room w p.destination) × (p.cost ≤ 10000)
+IsPlacedWell w (Exit p) = IsTrue (is_room w p.source) × IsTrue (is_room w p.destination) × (p.cost ≤ MOST_COST)
 IsPlacedWell w (Thing place) = IsTrue (exists w place) × (is_exit w place ≡ false)
 IsPlacedWell w (Player place) = IsTrue (is_room w place)
 
 -- what is true of every world, and stays true in every legal change
 pub record IsSound (w : State) : Type 0 where
   pub rising : IsRising 0 w.objects w.next
-  pub limit : w.next ≤ 8192
+  pub limit : w.next ≤ NUMBERS
   pub placed : (n : ℕ) (r : Record) → record_at w n ≡ Some r → IsPlacedWell w r.kind
   pub no_circle : (n k : ℕ) → follow w (suc k) n ≢ Some n
   pub keyless : (n : ℕ) (r : Record) → record_at w n ≡ Some r → (place : ℕ) → r.kind ≡ Player place → r.key ≡ None

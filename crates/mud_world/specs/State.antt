@@ -7,6 +7,7 @@ use Rattle.std.specs.List.{list_all, list_any}
 use Rattle.std.specs.Map.{lookup}
 use Rattle.std.specs.Str.{str_eq_ignore_ascii_case}
 use Rattle.mud_key.specs.Tree.{Tree, asks_of}
+use Rattle.mud_world.specs.declared.limits.TheConstants.{MOST_NESTING}
 use Rattle.mud_world.specs.declared.record.Passage.{Passage}
 use Rattle.mud_world.specs.declared.record.Record.{Record}
 use Rattle.mud_world.specs.Truth.{key_true}
@@ -123,7 +124,7 @@ holds_for w held k n = key_true held (opens w n held) k
 
 -- object o is unlocked for c. A reader need not look into this: `laws::levels` says what that is, without levels
 abbrev pub unlocked : State → ℕ → ℕ → Bool
-unlocked w c o = has w o (λ r. option_map_or (λ k. holds_for w (λ a. within w a c) k 3) r.key true)
+unlocked w c o = has w o (λ r. option_map_or (λ k. holds_for w (λ a. within w a c) k MOST_NESTING) r.key true)
 
 -- k nests at most n: it asks nothing, or n > 0 and each key of an object that it asks nests at most n - 1
 abbrev pub nests : State → ℕ → Tree ℕ → Bool
@@ -132,7 +133,7 @@ nests w (suc n) k = list_all (λ o. option_map_or (nests w n) (key_of w o) true)
 
 -- each key of the world nests at most 3
 abbrev pub all_nest : State → Bool
-all_nest w = list_all (λ e. option_map_or (nests w 3) e.1.key true) w.objects
+all_nest w = list_all (λ e. option_map_or (nests w MOST_NESTING) e.1.key true) w.objects
 
 -- ---- names
 

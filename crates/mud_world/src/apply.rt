@@ -3,7 +3,7 @@
 ghost use Rattle.std.specs.Prelude.{◌≡◌, None, OnOk, OnErr};
 ghost use Rattle.mud_world.specs.Sound.{IsSound};
 ghost use Rattle.mud_world.specs.Legal.{refusal, after};
-ghost use Rattle.mud_world.specs.inner.Parts.{moved, keyed, renamed};
+ghost use Rattle.mud_world.specs.inner.Parts.{with_place, with_key, with_names};
 ghost use Rattle.mud_world.specs.inner.CanGo.{CanGo, CanKey, CanName};
 
 use crate::maps::{forget, rekey, relocate_in, rename_in, set_cost, unkey};
@@ -16,7 +16,7 @@ impl World {
     // Gives an object another place.
     fn relocate(&mut self, object: u32, from: u32, to: u32) -> Result<(), AllocError>
         requires { CanGo self.old object from to }
-        ensures ok { OnOk result (self.new ≡ moved self.old object to) }
+        ensures ok { OnOk result (self.new ≡ with_place self.old object to) }
         ensures err { OnErr result (self.new ≡ self.old) }
     {
         relocate_in(
@@ -81,7 +81,7 @@ impl World {
     // Gives an object another key, or none.
     fn set_key(&mut self, object: u32, key: Option<Key>) -> Result<(), AllocError>
         requires { CanKey self.old object key }
-        ensures ok { OnOk result (self.new ≡ keyed self.old object key) }
+        ensures ok { OnOk result (self.new ≡ with_key self.old object key) }
         ensures err { OnErr result (self.new ≡ self.old) }
     {
         rekey(&mut self.records, &mut self.askers, object, key)
@@ -90,7 +90,7 @@ impl World {
     // Takes the key of an object away.
     fn drop_key(&mut self, object: u32)
         requires { CanKey self.old object None }
-        ensures { self.new ≡ keyed self.old object None }
+        ensures { self.new ≡ with_key self.old object None }
     {
         unkey(&mut self.records, &mut self.askers, object);
     }
@@ -146,7 +146,7 @@ impl World {
     // Gives an object other names.
     fn set_names(&mut self, object: u32, names: Names) -> Result<(), AllocError>
         requires { CanName self.old object names }
-        ensures ok { OnOk result (self.new ≡ renamed self.old object names) }
+        ensures ok { OnOk result (self.new ≡ with_names self.old object names) }
         ensures err { OnErr result (self.new ≡ self.old) }
     {
         rename_in(&mut self.records, &mut self.owners, object, names)

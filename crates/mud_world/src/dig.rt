@@ -1,6 +1,7 @@
 //! New objects, and the rooms and exits that are dug.
 
 ghost use Rattle.std.specs.Prelude.{◌≡◌, ◌+◌, ◌<◌, ◌≤◌, [], ◌∷◌, None, OnOk, OnErr, length};
+ghost use Rattle.mud_world.specs.declared.limits.TheConstants.{NUMBERS};
 ghost use Rattle.mud_world.specs.State.{State};
 ghost use Rattle.mud_world.specs.Legal.{refusal, after, with_new, new_record, new_exit, new_exits};
 ghost use Rattle.mud_world.specs.inner.CanGo.{CanAdd, CanJoin, IsGrown};
@@ -31,7 +32,7 @@ impl World {
 
     // A room, or nothing.
     fn add_room(&mut self, actor: u32, names: &Names) -> Result<(), AllocError>
-        requires { self.old.next < 8192 }
+        requires { self.old.next < NUMBERS }
         ensures ok { OnOk result (self.new ≡ with_new self.old (new_record actor names.now Kind.Room ∷ [])) }
         ensures err { OnErr result (self.new ≡ self.old) }
     {
@@ -53,7 +54,7 @@ impl World {
         destination: u32,
     ) -> Result<(), AllocError>
         requires join { CanJoin self.old source destination }
-        requires room { self.old.next < 8192 }
+        requires room { self.old.next < NUMBERS }
         ensures ok { OnOk result (self.new ≡ with_new self.old (new_exit actor names.now source destination ∷ [])) }
         ensures err { OnErr result (self.new ≡ self.old) }
     {
@@ -89,7 +90,7 @@ impl World {
         doors: &Option<Doors>,
     ) -> Result<(), AllocError>
         requires join { CanJoin self.old here there }
-        requires room { self.old.next + length (new_exits actor here there doors.now) ≤ 8192 }
+        requires room { self.old.next + length (new_exits actor here there doors.now) ≤ NUMBERS }
         ensures ok { OnOk result (self.new ≡ with_new self.old (new_exits actor here there doors.now)) }
         ensures err { OnErr result (self.new ≡ self.old) }
     {

@@ -3,6 +3,7 @@
 ghost use Rattle.std.specs.Prelude.{◌≡◌, ℕ, false, true, slice_index_or, slice_set, nat_eq, IfOk};
 ghost use Rattle.std.specs.Option.{option_map_or};
 ghost use Rattle.std.specs.List.{list_any};
+ghost use Rattle.mud_world.specs.declared.limits.TheConstants.{KEY_LEVELS};
 ghost use Rattle.mud_world.specs.Truth.{key_true};
 ghost use Rattle.mud_world.specs.State.{has, opens, unlocked, IsHolding};
 
@@ -80,7 +81,7 @@ impl World {
     // The answers of all four levels, each made from the one before.
     fn judge_levels(&self, alloc: Global, holding: &Holding) -> Result<Vec<bool>, AllocError>
         ensures { IfOk result (λ answers. (o : ℕ) → slice_index_or answers.items o false
-            ≡ opens self.now 4 (λ a. list_any (nat_eq a) holding.now) o) }
+            ≡ opens self.now KEY_LEVELS (λ a. list_any (nat_eq a) holding.now) o) }
     {
         let plain = self.judge_plain(alloc)?;
         let first = self.judge_more(alloc, holding, &plain, &plain.answers)?;

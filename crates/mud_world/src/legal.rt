@@ -10,9 +10,14 @@ ghost use Rattle.std.specs.List.{list_any};
 ghost use Rattle.mud_world.specs.Kinds.{kind_needs};
 ghost use Rattle.mud_world.specs.Inside.{leaves, arrives, arriving_of};
 
-use crate::limits::{LAST_NUMBER, MOST_COST};
+use crate::Refusal::{
+    BadCost, BadKey, BadName, Denied, InUse, KeyNesting, LockedExit, LockedRoom, LockedThing,
+    NameTaken, NoSuch, NotHere, RecursiveMove, WorldFull, WrongKind,
+};
+use crate::limits::MOST_COST;
 use crate::world::World;
 use crate::{Change, Deed, Doors, Refusal, Target};
+use mud_key::limits::LAST_NUMBER;
 use mud_key::{Key, Name, Names, Node, Operator};
 
 // What can refuse a deed, by rising number.
@@ -22,54 +27,23 @@ fn refusals_of(deed: &Deed) -> &'static [Refusal]
         ≡ refusal w (record { actor = actor; deed = deed.now }) }
 {
     match deed {
-        Deed::Dig(_, _) | Deed::Make(_) => {
-            &[Refusal::NoSuch, Refusal::WrongKind, Refusal::WorldFull]
-        }
-        Deed::Player(_) => &[Refusal::NoSuch, Refusal::NameTaken, Refusal::WorldFull],
-        Deed::Lock { .. } => &[
-            Refusal::NoSuch,
-            Refusal::WrongKind,
-            Refusal::Denied,
-            Refusal::BadKey,
-            Refusal::KeyNesting,
-        ],
-        Deed::Unlock { .. } => &[Refusal::NoSuch, Refusal::WrongKind, Refusal::Denied],
+        Deed::Dig(_, _) | Deed::Make(_) => &[NoSuch, WrongKind, WorldFull],
+        Deed::Player(_) => &[NoSuch, NameTaken, WorldFull],
+        Deed::Lock { .. } => &[NoSuch, WrongKind, Denied, BadKey, KeyNesting],
+        Deed::Unlock { .. } => &[NoSuch, WrongKind, Denied],
         Deed::Move { .. } => &[
-            Refusal::NoSuch,
-            Refusal::WrongKind,
-            Refusal::NotHere,
-            Refusal::RecursiveMove,
-            Refusal::LockedRoom,
-            Refusal::LockedThing,
+            NoSuch,
+            WrongKind,
+            NotHere,
+            RecursiveMove,
+            LockedRoom,
+            LockedThing,
         ],
-        Deed::Walk { .. } => &[
-            Refusal::NoSuch,
-            Refusal::WrongKind,
-            Refusal::NotHere,
-            Refusal::LockedExit,
-            Refusal::LockedRoom,
-        ],
-        Deed::Cost { .. } => &[
-            Refusal::NoSuch,
-            Refusal::WrongKind,
-            Refusal::Denied,
-            Refusal::BadCost,
-        ],
-        Deed::Rename { .. } => &[
-            Refusal::NoSuch,
-            Refusal::WrongKind,
-            Refusal::Denied,
-            Refusal::NameTaken,
-        ],
-        Deed::Recycle { .. } => &[
-            Refusal::NoSuch,
-            Refusal::WrongKind,
-            Refusal::Denied,
-            Refusal::InUse,
-        ],
-        Deed::Say(_) | Deed::Emote(_) => {
-            &[Refusal::NoSuch, Refusal::WrongKind, Refusal::BadName]
-        }
+        Deed::Walk { .. } => &[NoSuch, WrongKind, NotHere, LockedExit, LockedRoom],
+        Deed::Cost { .. } => &[NoSuch, WrongKind, Denied, BadCost],
+        Deed::Rename { .. } => &[NoSuch, WrongKind, Denied, NameTaken],
+        Deed::Recycle { .. } => &[NoSuch, WrongKind, Denied, InUse],
+        Deed::Say(_) | Deed::Emote(_) => &[NoSuch, WrongKind, BadName],
     }
 }
 
@@ -106,8 +80,8 @@ impl World {
         ensures { result ≡ actor_fails self.now actor fault }
     {
         match fault {
-            Refusal::NoSuch => !self.exists(actor),
-            Refusal::WrongKind => !self.is_player(actor),
+            NoSuch => !self.exists(actor),
+            WrongKind => !self.is_player(actor),
             _ => false,
         }
     }
@@ -117,11 +91,11 @@ impl World {
         ensures { result ≡ deed_fails self.now actor (Deed.Walk exit) fault }
     {
         match fault {
-            Refusal::NoSuch => !self.exists(exit),
-            Refusal::WrongKind => !self.is_exit(exit),
-            Refusal::NotHere => !self.leaves_from(actor, exit),
-            Refusal::LockedExit => !self.is_unlocked(actor, exit),
-            Refusal::LockedRoom => match self.passage(exit) {
+            NoSuch => !self.exists(exit),
+            WrongKind => !self.is_exit(exit),
+            NotHere => !self.leaves_from(actor, exit),
+            LockedExit => !self.is_unlocked(actor, exit),
+            LockedRoom => match self.passage(exit) {
                 Some(passage) => !self.is_unlocked(actor, passage.destination),
                 None => true,
             },
@@ -134,9 +108,9 @@ impl World {
         ensures { result ≡ deed_fails self.now actor (Deed.Dig target.now doors.now) fault }
     {
         match (fault, target) {
-            (Refusal::NoSuch, Target::Old(room)) => !self.exists(*room),
-            (Refusal::WrongKind, Target::Old(room)) => !self.is_room(*room) || doors.is_none(),
-            (Refusal::WorldFull, _) => self.is_full(Self::dug_count(target, doors)),
+            (NoSuch, Target::Old(room)) => !self.exists(*room),
+            (WrongKind, Target::Old(room)) => !self.is_room(*room) || doors.is_none(),
+            (WorldFull, _) => self.is_full(Self::dug_count(target, doors)),
             _ => false,
         }
     }
@@ -146,14 +120,14 @@ impl World {
         ensures { result ≡ deed_fails self.now actor (Deed.Move thing to) fault }
     {
         match fault {
-            Refusal::NoSuch => !self.exists(thing) || !self.exists(to),
-            Refusal::WrongKind => !self.is_thing(thing) || self.is_exit(to),
-            Refusal::NotHere => {
+            NoSuch => !self.exists(thing) || !self.exists(to),
+            WrongKind => !self.is_thing(thing) || self.is_exit(to),
+            NotHere => {
                 !self.in_reach(actor, thing) || self.is_in(thing, to) || !self.is_offered(actor, to)
             }
-            Refusal::RecursiveMove => self.holds(thing, to),
-            Refusal::LockedRoom => !self.is_unlocked(thing, to),
-            Refusal::LockedThing => !self.is_unlocked(to, thing),
+            RecursiveMove => self.holds(thing, to),
+            LockedRoom => !self.is_unlocked(thing, to),
+            LockedThing => !self.is_unlocked(to, thing),
             _ => false,
         }
     }
@@ -163,11 +137,11 @@ impl World {
         ensures { result ≡ deed_fails self.now actor (Deed.Lock object key.now) fault }
     {
         match fault {
-            Refusal::NoSuch => !self.exists(object),
-            Refusal::WrongKind => self.is_player(object),
-            Refusal::Denied => !self.owns(actor, object),
-            Refusal::BadKey => self.is_bad_key(key),
-            Refusal::KeyNesting => !self.all_nest_with(object, key),
+            NoSuch => !self.exists(object),
+            WrongKind => self.is_player(object),
+            Denied => !self.owns(actor, object),
+            BadKey => self.is_bad_key(key),
+            KeyNesting => !self.all_nest_with(object, key),
             _ => false,
         }
     }
@@ -177,9 +151,9 @@ impl World {
         ensures { result ≡ deed_fails self.now actor (Deed.Unlock object) fault }
     {
         match fault {
-            Refusal::NoSuch => !self.exists(object),
-            Refusal::WrongKind => self.is_player(object),
-            Refusal::Denied => !self.owns(actor, object),
+            NoSuch => !self.exists(object),
+            WrongKind => self.is_player(object),
+            Denied => !self.owns(actor, object),
             _ => false,
         }
     }
@@ -189,16 +163,16 @@ impl World {
         ensures { result ≡ deed_fails self.now actor (Deed.Cost exit cost) fault }
     {
         match fault {
-            Refusal::NoSuch => !self.exists(exit),
-            Refusal::WrongKind => !self.is_exit(exit),
-            Refusal::Denied => !self.owns(actor, exit),
-            Refusal::BadCost => cost > MOST_COST,
+            NoSuch => !self.exists(exit),
+            WrongKind => !self.is_exit(exit),
+            Denied => !self.owns(actor, exit),
+            BadCost => cost > MOST_COST,
             _ => false,
         }
     }
 
     // The exits that lead to it, by rising number.
-    fn arriving(&self, number: u32) -> &[u32]
+    fn exits_to(&self, number: u32) -> &[u32]
         ensures { result.now ≡ arriving_of self.now number }
     {
         self.links.arriving.get(number)
@@ -209,7 +183,7 @@ impl World {
         ensures { result ≡ (list_any (λ e. leaves number e.1) self.now.objects
             || list_any (λ e. arrives number e.1) self.now.objects) }
     {
-        !self.leaving(number).is_empty() || !self.arriving(number).is_empty()
+        !self.leaving(number).is_empty() || !self.exits_to(number).is_empty()
     }
 
     // Whether something lies in it, or has an end at it.
@@ -253,9 +227,9 @@ impl World {
         ensures { result ≡ deed_fails self.now actor (Deed.Player name.now) fault }
     {
         match fault {
-            Refusal::NoSuch => actor != self.next,
-            Refusal::NameTaken => self.is_held(actor, name.as_str()),
-            Refusal::WorldFull => self.is_full(1),
+            NoSuch => actor != self.next,
+            NameTaken => self.is_held(actor, name.as_str()),
+            WorldFull => self.is_full(1),
             _ => false,
         }
     }
@@ -265,9 +239,9 @@ impl World {
         ensures { result ≡ deed_fails self.now actor (Deed.Rename object names.now) fault }
     {
         match fault {
-            Refusal::NoSuch => !self.exists(object),
-            Refusal::Denied => !self.owns(actor, object),
-            Refusal::NameTaken => self.is_player(object) && self.is_taken(object, names),
+            NoSuch => !self.exists(object),
+            Denied => !self.owns(actor, object),
+            NameTaken => self.is_player(object) && self.is_taken(object, names),
             _ => false,
         }
     }
@@ -277,10 +251,10 @@ impl World {
         ensures { result ≡ deed_fails self.now actor (Deed.Recycle object) fault }
     {
         match fault {
-            Refusal::NoSuch => !self.exists(object),
-            Refusal::WrongKind => self.is_player(object),
-            Refusal::Denied => !self.owns(actor, object),
-            Refusal::InUse => self.in_use(object),
+            NoSuch => !self.exists(object),
+            WrongKind => self.is_player(object),
+            Denied => !self.owns(actor, object),
+            InUse => self.in_use(object),
             _ => false,
         }
     }
@@ -311,7 +285,7 @@ impl World {
         (!matches!(&change.deed, Deed::Player(_)) && self.actor_fails(actor, fault))
             || match &change.deed {
                 Deed::Dig(target, doors) => self.dig_fails(actor, target, doors, fault),
-                Deed::Make(_) => fault == Refusal::WorldFull && self.is_full(1),
+                Deed::Make(_) => fault == WorldFull && self.is_full(1),
                 Deed::Lock { object, key } => self.lock_fails(actor, *object, key, fault),
                 Deed::Unlock { object } => self.unlock_fails(actor, *object, fault),
                 Deed::Move { thing, to } => self.move_fails(actor, *thing, *to, fault),

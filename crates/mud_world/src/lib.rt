@@ -37,7 +37,7 @@ mod holding;
 mod judged;
 pub mod laws;
 mod legal;
-mod limits;
+pub mod limits;
 mod links;
 mod locks;
 mod maps;
@@ -52,7 +52,8 @@ mod world;
 
 pub use change::{Change, Deed, Doors, Target};
 pub use holding::Holding;
-pub use limits::{LAST_NUMBER, MOST_COST};
+pub use limits::MOST_COST;
+pub use mud_key::limits::LAST_NUMBER;
 pub use record::{Kind, Passage, Record};
 pub use refusal::{Refusal, lesser, refused_if};
 pub use speech::Speech;

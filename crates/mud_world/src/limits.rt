@@ -1,13 +1,20 @@
 //! The limits of a world.
 
-/// The highest number of an object (docs/WORLD.md, "Objects").
-pub const LAST_NUMBER: u32 = 8_191;
+/// How many numbers there are for objects: as many as there can be objects (docs/WORLD.md, "Objects").
+pub const NUMBERS: usize = 8_192;
 
 /// The highest cost of an exit (docs/WORLD.md, "Changes").
 pub const MOST_COST: u32 = 10_000;
 
 /// The longest text that is said at once, in bytes (docs/WORLD.md, "Changes").
-pub(crate) const MOST_SPEECH: usize = 900;
+pub const MOST_SPEECH: usize = 900;
 
-/// The levels of an object's own key: it begins at most three questions, one after the other (docs/KEYS.md).
-pub(crate) const KEY_LEVELS: u32 = 4;
+/// The most that a key of the world nests: so many questions, one after the other (docs/WORLD.md, "Keys").
+pub const MOST_NESTING: u32 = 3;
+
+/// The levels of an object's own key: it begins at most `MOST_NESTING` questions, one after the other (docs/KEYS.md).
+pub const KEY_LEVELS: u32 = MOST_NESTING + 1;
+
+/// How many players meet at most, and so how many members a search or a certificate has (docs/COMMANDS.md,
+/// "Questions").
+pub const MOST_PARTY: usize = 8;

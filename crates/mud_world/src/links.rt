@@ -1,7 +1,7 @@
 //! The lists that stand beside the records.
 
 ghost use Rattle.std.specs.Prelude.{◌≡◌, IfOk, OnOk, OnErr};
-ghost use Rattle.mud_lists.specs.Rising.{inserted, without};
+ghost use Rattle.mud_lists.specs.Rising.{insert, without};
 ghost use Rattle.mud_world.specs.inner.Edits.{AreLinked, AreSameLinks, AreNone, IsInNone};
 
 use crate::Kind;
@@ -30,7 +30,7 @@ impl Links {
     // Puts a new object of this kind into the lists that it belongs to, or changes none.
     pub(crate) fn link(&mut self, kind: Kind, number: u32) -> Result<(), AllocError>
         requires { IsInNone number self.old }
-        ensures ok { OnOk result (AreLinked kind (inserted number) self.old self.new) }
+        ensures ok { OnOk result (AreLinked kind (insert number) self.old self.new) }
         ensures err { OnErr result (AreSameLinks self.old self.new) }
     {
         match kind {

@@ -5,12 +5,12 @@ ghost use Rattle.std.specs.Prelude.{option_copied};
 ghost use Rattle.mud_world.specs.declared.record.Record.{Record};
 ghost use Rattle.std.specs.Map.{lookup, remove_entry};
 ghost use Rattle.std.specs.List.{list_any};
-ghost use Rattle.mud_lists.specs.Rising.{inserted, without};
+ghost use Rattle.mud_lists.specs.Rising.{insert, without};
 ghost use Rattle.mud_lists.specs.Lists.{list_at, AreChanged, AreSame};
 ghost use Rattle.mud_lists.specs.Owners.{AreOwnersPassed};
 ghost use Rattle.mud_lists.specs.inner.Views.{HaveSameOwners};
-ghost use Rattle.mud_world.specs.inner.Edits.{edited, placed_at, costing_at, with_names, with_key, asked_by};
-ghost use Rattle.mud_world.specs.inner.Edits.{called, called_by, AreLinked, AreMoved, AreRekeyed, AreSameLinks};
+ghost use Rattle.mud_world.specs.inner.Edits.{edit, placed_at, costing_at, with_names, with_key, asked_by};
+ghost use Rattle.mud_world.specs.inner.Edits.{names_to_find, called_by, AreLinked, AreMoved, AreRekeyed, AreSameLinks};
 ghost use Rattle.mud_world.specs.inner.Edits.{IsInNone, StandRising};
 
 use crate::askers::{exchange, leave};
@@ -54,7 +54,7 @@ fn drop_record(records: &mut IndexMap<u32, Record>, number: u32)
 }
 
 fn set_place(records: &mut IndexMap<u32, Record>, object: u32, place: u32)
-    ensures { records.new.entries ≡ edited object (placed_at place) records.old.entries }
+    ensures { records.new.entries ≡ edit object (placed_at place) records.old.entries }
 {
     if let Some(record) = records.get_mut(&object) {
         record.kind = record.kind.at(place);
@@ -62,15 +62,15 @@ fn set_place(records: &mut IndexMap<u32, Record>, object: u32, place: u32)
 }
 
 pub(crate) fn set_cost(records: &mut IndexMap<u32, Record>, exit: u32, cost: u32)
-    ensures { records.new.entries ≡ edited exit (costing_at cost) records.old.entries }
+    ensures { records.new.entries ≡ edit exit (costing_at cost) records.old.entries }
 {
     if let Some(record) = records.get_mut(&exit) {
-        record.kind = record.kind.costing(cost);
+        record.kind = record.kind.with_cost(cost);
     }
 }
 
 fn set_names(records: &mut IndexMap<u32, Record>, object: u32, names: Names)
-    ensures { records.new.entries ≡ edited object (with_names names) records.old.entries }
+    ensures { records.new.entries ≡ edit object (with_names names) records.old.entries }
 {
     if let Some(record) = records.get_mut(&object) {
         record.names = names;
@@ -78,7 +78,7 @@ fn set_names(records: &mut IndexMap<u32, Record>, object: u32, names: Names)
 }
 
 fn set_key(records: &mut IndexMap<u32, Record>, object: u32, key: Option<Key>)
-    ensures { records.new.entries ≡ edited object (with_key key) records.old.entries }
+    ensures { records.new.entries ≡ edit object (with_key key) records.old.entries }
 {
     if let Some(record) = records.get_mut(&object) {
         record.key = key;
@@ -86,7 +86,7 @@ fn set_key(records: &mut IndexMap<u32, Record>, object: u32, key: Option<Key>)
 }
 
 // The names by which an object of this kind is found: only players are.
-fn called(kind: Kind, names: &Names) -> &[String]
+fn names_to_find(kind: Kind, names: &Names) -> &[String]
     ensures { map string_bytes result.now ≡ called_by kind names.now }
 {
     if kind.is_player() { names.list() } else { &[] }
@@ -99,11 +99,11 @@ fn enroll(
     number: u32,
 ) -> Result<(), AllocError>
     ensures ok { (r : Record) → lookup (nat_eq number) records.now.entries ≡ Some r
-        → OnOk result (AreOwnersPassed [] (called r) number owners.old owners.new) }
+        → OnOk result (AreOwnersPassed [] (names_to_find r) number owners.old owners.new) }
     ensures err { OnErr result (HaveSameOwners owners.old owners.new) }
 {
     match record_of(records, number) {
-        Some(record) => owners.pass(&[], called(record.kind, &record.names), number),
+        Some(record) => owners.pass(&[], names_to_find(record.kind, &record.names), number),
         None => Ok(()),
     }
 }
@@ -118,9 +118,9 @@ fn introduce(
     number: u32,
 ) -> Result<(), AllocError>
     requires { IsInNone number links.old }
-    ensures ok_links { OnOk result (AreLinked kind (inserted number) links.old links.new) }
+    ensures ok_links { OnOk result (AreLinked kind (insert number) links.old links.new) }
     ensures ok_owners { (r : Record) → lookup (nat_eq number) records.now.entries ≡ Some r
-        → OnOk result (AreOwnersPassed [] (called r) number owners.old owners.new) }
+        → OnOk result (AreOwnersPassed [] (names_to_find r) number owners.old owners.new) }
     ensures err_links { OnErr result (AreSameLinks links.old links.new) }
     ensures err_owners { OnErr result (HaveSameOwners owners.old owners.new) }
 {
@@ -144,8 +144,8 @@ pub(crate) fn grow(
     requires new { lookup (nat_eq number) records.old.entries ≡ None }
     requires unlinked { IsInNone number links.old }
     ensures ok_records { OnOk result (records.new.entries ≡ records.old.entries ++ (number, object) ∷ []) }
-    ensures ok_links { OnOk result (AreLinked object.kind (inserted number) links.old links.new) }
-    ensures ok_owners { OnOk result (AreOwnersPassed [] (called object) number owners.old owners.new) }
+    ensures ok_links { OnOk result (AreLinked object.kind (insert number) links.old links.new) }
+    ensures ok_owners { OnOk result (AreOwnersPassed [] (names_to_find object) number owners.old owners.new) }
     ensures err_records { OnErr result (records.new.entries ≡ records.old.entries) }
     ensures err_links { OnErr result (AreSameLinks links.old links.new) }
     ensures err_owners { OnErr result (HaveSameOwners owners.old owners.new) }
@@ -185,16 +185,16 @@ pub(crate) fn rename_in(
     object: u32,
     names: Names,
 ) -> Result<(), AllocError>
-    ensures ok_records { OnOk result (records.new.entries ≡ edited object (with_names names) records.old.entries) }
+    ensures ok_records { OnOk result (records.new.entries ≡ edit object (with_names names) records.old.entries) }
     ensures ok_owners { (r : Record) → lookup (nat_eq object) records.old.entries ≡ Some r
-        → OnOk result (AreOwnersPassed (called r) (called_by r.kind names) object owners.old owners.new) }
+        → OnOk result (AreOwnersPassed (names_to_find r) (called_by r.kind names) object owners.old owners.new) }
     ensures err_records { OnErr result (records.new.entries ≡ records.old.entries) }
     ensures err_owners { OnErr result (HaveSameOwners owners.old owners.new) }
 {
     match record_of(records, object) {
         Some(record) => {
-            let old = called(record.kind, &record.names);
-            owners.pass(old, called(record.kind, &names), object)?;
+            let old = names_to_find(record.kind, &record.names);
+            owners.pass(old, names_to_find(record.kind, &names), object)?;
         }
         None => return Ok(()),
     }
@@ -211,7 +211,7 @@ pub(crate) fn rekey(
 ) -> Result<(), AllocError>
     requires { (r : Record) → lookup (nat_eq object) records.old.entries ≡ Some r
         → (n : ℕ) → list_any (nat_eq object) (list_at askers.old n) ≡ asked_by n r.key }
-    ensures ok_records { OnOk result (records.new.entries ≡ edited object (with_key key) records.old.entries) }
+    ensures ok_records { OnOk result (records.new.entries ≡ edit object (with_key key) records.old.entries) }
     ensures ok_askers { (r : Record) → lookup (nat_eq object) records.old.entries ≡ Some r
         → OnOk result (AreRekeyed object r.key key askers.old askers.new) }
     ensures err_records { OnErr result (records.new.entries ≡ records.old.entries) }
@@ -227,7 +227,7 @@ pub(crate) fn rekey(
 
 // An object loses its key, and asks nothing more.
 pub(crate) fn unkey(records: &mut IndexMap<u32, Record>, askers: &mut Lists, object: u32)
-    ensures records { records.new.entries ≡ edited object (with_key None) records.old.entries }
+    ensures records { records.new.entries ≡ edit object (with_key None) records.old.entries }
     ensures askers { (r : Record) → lookup (nat_eq object) records.old.entries ≡ Some r
         → AreRekeyed object r.key None askers.old askers.new }
 {
@@ -246,7 +246,7 @@ pub(crate) fn relocate_in(
     from: u32,
     to: u32,
 ) -> Result<(), AllocError>
-    ensures ok_records { OnOk result (records.new.entries ≡ edited object (placed_at to) records.old.entries) }
+    ensures ok_records { OnOk result (records.new.entries ≡ edit object (placed_at to) records.old.entries) }
     ensures ok_contents { OnOk result (AreMoved object from to contents.old contents.new) }
     ensures err_records { OnErr result (records.new.entries ≡ records.old.entries) }
     ensures err_contents { OnErr result (AreSame contents.old contents.new) }

@@ -2,9 +2,9 @@
 
 ghost use Rattle.std.specs.Prelude.{◌≡◌, true, false, IfSome, OnSome, ◌++◌, replicate, slice_set};
 ghost use Rattle.mud_world.specs.State.{IsHolding, unlocked};
-ghost use Rattle.mud_world.specs.inner.Marks.{marked};
+ghost use Rattle.mud_world.specs.inner.Marks.{mark_all};
 
-use crate::limits::KEY_LEVELS;
+use crate::limits::{KEY_LEVELS, NUMBERS};
 use crate::locks::Bearer;
 use crate::world::World;
 use arrayvec::ArrayVec;
@@ -19,10 +19,10 @@ fn put_mark(marks: &mut [bool], number: u32)
 }
 
 // A mark for each of the numbers.
-fn marks_of(numbers: &[u32]) -> [bool; 8192]
-    ensures { result ≡ marked numbers.now (replicate 8192 false) }
+fn marks_of(numbers: &[u32]) -> [bool; NUMBERS]
+    ensures { result ≡ mark_all numbers.now (replicate NUMBERS false) }
 {
-    let mut marks = [false; 8192];
+    let mut marks = [false; NUMBERS];
     for number in numbers {
         put_mark(&mut marks, *number);
     }
@@ -30,7 +30,7 @@ fn marks_of(numbers: &[u32]) -> [bool; 8192]
 }
 
 // Adds the numbers, or gives nothing where there is no room.
-fn push_all(found: &mut ArrayVec<u32, 8192>, numbers: &[u32]) -> Option<()>
+fn push_all(found: &mut ArrayVec<u32, NUMBERS>, numbers: &[u32]) -> Option<()>
     ensures { OnSome result (found.new.items ≡ found.old.items ++ numbers.now) }
 {
     found.try_extend_from_slice(numbers).ok()
@@ -39,7 +39,7 @@ fn push_all(found: &mut ArrayVec<u32, 8192>, numbers: &[u32]) -> Option<()>
 impl World {
     // The numbers of the object, if it exists, and of all that it contains at any depth. No world
     // has more than there is room for here, so that there is always an answer; no proof needs it.
-    fn gathered(&self, candidate: u32) -> Option<ArrayVec<u32, 8192>>
+    fn gather(&self, candidate: u32) -> Option<ArrayVec<u32, NUMBERS>>
         ensures { IfSome result (λ found. IsHolding self.now candidate found.items) }
     {
         // for the prover: the world is sound
@@ -48,7 +48,7 @@ impl World {
         if self.exists(candidate) {
             found.try_push(candidate).ok()?;
         }
-        for i in 0..8193 {
+        for i in 0..NUMBERS + 1 {
             match found.get(i) {
                 None => return Some(found),
                 Some(at) => {
@@ -75,7 +75,7 @@ impl World {
     fn is_let_in(&self, candidate: u32, object: u32) -> bool
         ensures { result ≡ unlocked self.now candidate object }
     {
-        match self.gathered(candidate) {
+        match self.gather(candidate) {
             Some(found) => self.is_unlocked_by_marks(candidate, found.as_slice(), object),
             None => self.opens(Bearer::Number(candidate), object, KEY_LEVELS),
         }

@@ -3,7 +3,7 @@
 ghost use Rattle.std.specs.Prelude.{true, ◌≡◌};
 ghost use Rattle.mud_world.specs.State.{nests, all_nest, key_of};
 ghost use Rattle.mud_key.specs.Node.{key_of as tree_of};
-ghost use Rattle.mud_world.specs.inner.Parts.{locked};
+ghost use Rattle.mud_world.specs.inner.Parts.{with_lock};
 ghost use Rattle.mud_world.specs.inner.Askers.{askers_of, climbs};
 ghost use Rattle.std.specs.Option.{option_map_or};
 
@@ -37,7 +37,7 @@ impl World {
     // followed downwards, and from the object the questions that lead to it upwards; the other keys
     // of the world are as they were.
     pub(crate) fn all_nest_with(&self, object: u32, key: &Key) -> bool
-        ensures { result ≡ all_nest (locked self.now object key.now) }
+        ensures { result ≡ all_nest (with_lock self.now object key.now) }
     {
         // for the prover: the world is sound
         self.is_sound();
@@ -63,7 +63,7 @@ impl World {
     // Whether a key nests at most so much, where `key` is the key of the object.
     #[cycle(nesting)]
     fn nests_with(&self, object: u32, key: &Key, node: &Node<u32>, levels: u32) -> bool
-        ensures { result ≡ nests (locked self.now object key.now) levels (tree_of node.now) }
+        ensures { result ≡ nests (with_lock self.now object key.now) levels (tree_of node.now) }
     {
         match node {
             Node::Has(_) => true,
@@ -81,8 +81,8 @@ impl World {
     // Whether the key of an object that is asked, if it has one, nests at most so much.
     #[cycle(nesting)]
     fn asked_nests_with(&self, object: u32, key: &Key, asked: u32, levels: u32) -> bool
-        ensures { result ≡ option_map_or (nests (locked self.now object key.now) levels)
-            (key_of (locked self.now object key.now) asked) true }
+        ensures { result ≡ option_map_or (nests (with_lock self.now object key.now) levels)
+            (key_of (with_lock self.now object key.now) asked) true }
     {
         match self.get(asked) {
             None => true,

@@ -55,7 +55,7 @@ impl Kind {
     }
 
     /// The same kind at this cost, where it has one.
-    pub fn costing(self, cost: u32) -> Kind
+    pub fn with_cost(self, cost: u32) -> Kind
         ensures { result ≡ kind_costing cost self }
     {
         match self {

@@ -7,6 +7,7 @@ ghost use Rattle.std.specs.Option.{option_map_or};
 ghost use Rattle.std.specs.Prelude.{nat_eq, false};
 
 use crate::limits::MOST_SPEECH;
+use mud_key::codes::{SPACE, TILDE};
 use std::alloc::{AllocError, Global};
 use std::marker::Model;
 
@@ -65,14 +66,14 @@ impl Speech {
 fn is_printable(text: &[u8]) -> bool
     ensures { result ≡ is_printable text.now }
 {
-    text.iter().all(|byte| b' ' <= *byte && *byte <= b'~')
+    text.iter().all(|byte| SPACE <= *byte && *byte <= TILDE)
 }
 
 fn is_space(byte: Option<&u8>) -> bool
-    ensures { result ≡ option_map_or (nat_eq 32) (option_copied byte.entry) false }
+    ensures { result ≡ option_map_or (nat_eq SPACE) (option_copied byte.entry) false }
 {
     match byte {
-        Some(byte) => b' ' == *byte,
+        Some(byte) => SPACE == *byte,
         None => false,
     }
 }

@@ -10,10 +10,10 @@ with_label None f = None
 with_label (Some l) f = f l
 
 -- the greatest of this cost and those of the members' labels of the room, where all have one
-abbrev pub gathered_from : ℕ → List Account → ℕ → Option ℕ
-gathered_from cost [] room = Some cost
-gathered_from cost (m ∷ ms) room = with_label (label_at m room) (λ l. gathered_from (max cost l.cost) ms room)
+abbrev pub greatest_from : ℕ → List Account → ℕ → Option ℕ
+greatest_from cost [] room = Some cost
+greatest_from cost (m ∷ ms) room = with_label (label_at m room) (λ l. greatest_from (max cost l.cost) ms room)
 
 -- the greatest cost of the members' labels of the room, where all have one
-abbrev pub gathered : List Account → ℕ → Option ℕ
-gathered ms room = gathered_from 0 ms room
+abbrev pub greatest_cost : List Account → ℕ → Option ℕ
+greatest_cost ms room = greatest_from 0 ms room

@@ -1,6 +1,7 @@
 -- Lines of a certificate one by one, as they are written and read.
 use Rattle.std.specs.Prelude.{ℕ, List, [], ◌∷◌, ◌++◌, codes, decimal}
 use Rattle.std.specs.List.{flat_map}
+use Rattle.mud_chron.specs.declared.codes.TheConstants.{LF}
 use Rattle.mud_roads.specs.declared.label.Label.{Label}
 use Rattle.mud_cert.specs.declared.cert.Form.{Form}
 use Rattle.mud_cert.specs.Certificate.{Account, IsNumber, IsAmount}
@@ -11,8 +12,8 @@ abbrev pub IsEntry : ℕ × Label → Type 0
 IsEntry e = IsNumber e.0 × IsAmount e.1.cost × IsAmount e.1.exits
 
 -- a line with the LF that ends it
-abbrev pub ended : List ℕ → List ℕ
-ended line = line ++ 10 ∷ []
+abbrev pub with_line_feed : List ℕ → List ℕ
+with_line_feed line = line ++ LF ∷ []
 
 -- an exit of a walk
 abbrev pub exit_text : ℕ → List ℕ

@@ -2,6 +2,7 @@
 use Rattle.std.specs.Prelude.{ℕ, ◌≤◌, List, length, All}
 use Rattle.mud_cert.specs.declared.cert.Form.{Form}
 use Rattle.mud_cert.specs.Certificate.{Account, IsAmount, IsAccount, CountsBy}
+use Rattle.mud_world.specs.declared.limits.TheConstants.{MOST_PARTY}
 
 -- of which world it speaks, how its labels count, and the members so far
 pub record Opening : Type 0 where
@@ -14,4 +15,4 @@ pub record IsOpening (p : Opening) : Type 0 where
   pub version : IsAmount p.version
   pub members : All IsAccount p.members
   pub counts : All (CountsBy p.form) p.members
-  pub few : length p.members ≤ 8
+  pub few : length p.members ≤ MOST_PARTY

@@ -2,7 +2,9 @@
 use Rattle.std.specs.Prelude.{ℕ, zero, suc, ◌+◌, ◌-◌, ◌*◌, ◌==◌, nat_lt, nat_le, Bool, true, ◌&&◌, if◌then◌else◌}
 use Rattle.std.specs.Prelude.{List, [], ◌∷◌, length, Option, None, Some, codes}
 use Rattle.std.specs.Str.{bytes_eq}
+use Rattle.mud_key.specs.declared.limits.TheConstants.{LAST_NUMBER}
 use Rattle.mud_roads.specs.declared.label.Label.{Label}
+use Rattle.mud_cert.specs.declared.limits.TheConstants.{AMOUNTS}
 use Rattle.mud_cert.specs.declared.cert.Form.{Form}
 use Rattle.mud_cert.specs.declared.cert.Form.TheVariants.{One, Two}
 use Rattle.mud_cert.specs.declared.cert.Conclusion.{Conclusion}
@@ -27,7 +29,7 @@ digits_on n (b ∷ bs) = if is_digit b then digits_on (n * 10 + (b - 48)) bs els
 
 -- the number, where it has at most nine digits
 abbrev pub small : ℕ × List ℕ → Option (ℕ × List ℕ)
-small p = if nat_lt p.0 1000000000 then Some p else None
+small p = if nat_lt p.0 AMOUNTS then Some p else None
 
 -- a number of at most nine digits, the first of which is 0 only in 0 itself
 unfoldable pub number_at : List ℕ → Option (ℕ × List ℕ)
@@ -38,7 +40,7 @@ number_at (b ∷ bs) = if b == 48 then Some (0, bs) else if is_digit b then smal
 unfoldable pub object_at : List ℕ → Option (ℕ × List ℕ)
 object_at bytes = do
   n ← number_at bytes
-  if nat_le n.0 8191 then Some n else None
+  if nat_le n.0 LAST_NUMBER then Some n else None
 
 -- ---- pieces
 

@@ -11,10 +11,11 @@ use Rattle.mud_cert.specs.inner.Opening.{Opening, IsOpening}
 use Rattle.mud_cert.specs.Text.{head_line, conclusion_line, cert_lines}
 use Rattle.mud_cert.specs.inner.Lines.{member_line, labels_line, opening_lines}
 use Rattle.mud_cert.specs.inner.Reading.{◌>>=◌, head_at, version_at, member_at, labels_at, walk_at, conclusion_at}
+use Rattle.mud_world.specs.declared.limits.TheConstants.{MOST_PARTY}
 
 -- the certificate of the members with that conclusion
-abbrev pub concluded : Opening → Conclusion → Certificate
-concluded p c = record { version = p.version; form = p.form; members = p.members; conclusion = c }
+abbrev pub certificate_with : Opening → Conclusion → Certificate
+certificate_with p c = record { version = p.version; form = p.form; members = p.members; conclusion = c }
 
 -- the lines that said it
 unfoldable pub lines_of : Stage → List (List ℕ)
@@ -32,25 +33,25 @@ unfoldable pub IsStage : Stage → Type 0
 IsStage Nothing = Unit {0}
 IsStage (Headed form) = Unit {0}
 IsStage (Open p) = IsOpening p
-IsStage (Placed p player from) = IsOpening p × (length p.members < 8) × IsNumber player × IsNumber from
-IsStage (Labelled p m) = IsOpening p × (length p.members < 8) × IsAccount m × CountsBy p.form m
+IsStage (Placed p player from) = IsOpening p × (length p.members < MOST_PARTY) × IsNumber player × IsNumber from
+IsStage (Labelled p m) = IsOpening p × (length p.members < MOST_PARTY) × IsAccount m × CountsBy p.form m
 IsStage (Concluded c) = IsCertificate c
 IsStage (Whole c) = IsCertificate c
 
 -- a route has one member, a meeting 2 to 8
 abbrev pub suits : ℕ → Conclusion → Bool
 suits count (Route to cost) = count == 1
-suits count (Meet meeting) = nat_le 2 count && nat_le count 8
+suits count (Meet meeting) = nat_le 2 count && nat_le count MOST_PARTY
 
 -- a line after the members that is no member's
 unfoldable pub conclude : Opening → Option Conclusion → Option Stage
 conclude p None = None
-conclude p (Some c) = if suits (length p.members) c then Some (Concluded (concluded p c)) else None
+conclude p (Some c) = if suits (length p.members) c then Some (Concluded (certificate_with p c)) else None
 
 -- a line after the members
 unfoldable pub join : Opening → Option (ℕ × ℕ) → List ℕ → Option Stage
 join p None line = conclude p (conclusion_at line)
-join p (Some m) line = if nat_lt (length p.members) 8 then Some (Placed p m.0 m.1) else None
+join p (Some m) line = if nat_lt (length p.members) MOST_PARTY then Some (Placed p m.0 m.1) else None
 
 -- what one line more says; nothing where no certificate goes on so
 unfoldable pub next : Stage → List ℕ → Option Stage

@@ -16,7 +16,7 @@ use Rattle.mud_cert.specs.declared.doubt.Doubt.TheVariants as doubts
 use Rattle.mud_cert.specs.Certificate.{Account, Certificate, hop_of}
 use Rattle.mud_cert.specs.Lookup.{label_at}
 use Rattle.mud_cert.specs.inner.Ways.{step_of, steps_of, end_of, arrival_of}
-use Rattle.mud_cert.specs.inner.Agreement.{gathered}
+use Rattle.mud_cert.specs.inner.Agreement.{greatest_cost}
 
 -- a lesser cost, or the same and no more exits
 abbrev pub is_at_most : Label → Label → Bool
@@ -32,14 +32,14 @@ abbrev pub leaves : State → ℕ → ℕ → Bool
 leaves w room x = is_number room (source_of w x)
 
 -- the place, counted from i, of the first exit that doesn't leave where the walk stands
-abbrev pub broken : State → ℕ → ℕ → List ℕ → Option ℕ
-broken w at i [] = None
-broken w at i (x ∷ xs) = if leaves w at x then broken w (step_of w x).to (i + 1) xs else Some i
+abbrev pub first_break : State → ℕ → ℕ → List ℕ → Option ℕ
+first_break w at i [] = None
+first_break w at i (x ∷ xs) = if leaves w at x then first_break w (step_of w x).to (i + 1) xs else Some i
 
 -- the place, counted from i, of the first exit that isn't open to p
-abbrev pub locked : State → ℕ → ℕ → List ℕ → Option ℕ
-locked w p i [] = None
-locked w p i (x ∷ xs) = if passable w p x then locked w p (i + 1) xs else Some i
+abbrev pub first_lock : State → ℕ → ℕ → List ℕ → Option ℕ
+first_lock w p i [] = None
+first_lock w p i (x ∷ xs) = if passable w p x then first_lock w p (i + 1) xs else Some i
 
 -- a walk ends at the room and costs so much
 abbrev pub is_there_at : ℕ → ℕ → Option (ℕ × ℕ) → Bool
@@ -77,9 +77,9 @@ concludes w ms (Meet (Some a)) =
     is_room w a.room
     && list_all (λ m. is_there_within a.room a.cost (arrival_of w m)) ms
     && list_any (λ m. is_there_at a.room a.cost (arrival_of w m)) ms
-    && list_all (λ (e : ℕ × Label). is_no_worse a.cost a.room e.0 (gathered ms e.0)) (first_labels ms)
+    && list_all (λ (e : ℕ × Label). is_no_worse a.cost a.room e.0 (greatest_cost ms e.0)) (first_labels ms)
 concludes w ms (Meet None) =
-    list_all stays ms && list_all (λ (e : ℕ × Label). is_none (gathered ms e.0)) (first_labels ms)
+    list_all stays ms && list_all (λ (e : ℕ × Label). is_none (greatest_cost ms e.0)) (first_labels ms)
 
 -- the first of two doubts, of which each may not hold
 infixr 5 ◌or◌
@@ -128,8 +128,8 @@ breaks w form m x =
 abbrev pub walk_doubt : State → Form → Account → List ℕ → Option Doubt
 walk_doubt w form m walk =
     let ss = steps_of w walk in
-    option_map (λ i. doubts.WalkBroken m.player i) (broken w m.from 1 walk)
-    or option_map (λ i. doubts.WalkLocked m.player i) (locked w m.player 1 walk)
+    option_map (λ i. doubts.WalkBroken m.player i) (first_break w m.from 1 walk)
+    or option_map (λ i. doubts.WalkLocked m.player i) (first_lock w m.player 1 walk)
     or unless (is_label (label_at m (end_of m.from ss)) (total (hop_of form) ss)) (doubts.WalkCost m.player)
 
 -- the same of a walk that may not be given

@@ -4,6 +4,9 @@ use Rattle.std.specs.Prelude.{◌≡◌, ◌≢◌, ℕ, ◌+◌, ◌-◌, ◌*�
 use Rattle.std.specs.Prelude.{[], ◌∷◌}
 use Rattle.std.specs.Prelude.{Option, None, Some, Result, Ok, Err}
 use Rattle.std.specs.List.{AllByRecursion}
+use Rattle.mud_key.specs.declared.codes.TheConstants.{SHARP, ZERO, NINE}
+use Rattle.mud_key.specs.declared.limits.TheConstants.{LAST_NUMBER}
+use Rattle.mud_chron.specs.declared.fields.TheConstants.{ROOM_FOR_A_DIGIT}
 use Rattle.mud_chron.specs.declared.fields.Unread.{Unread}
 use Rattle.mud_chron.specs.declared.fields.Unread.TheVariants.{OutOfMemory}
 
@@ -25,12 +28,12 @@ Lacks sign text = AllByRecursion (λ b. b ≢ sign) text
 
 -- a digit
 abbrev pub is_digit : ℕ → Bool
-is_digit b = nat_le 48 b && nat_le b 57
+is_digit b = nat_le ZERO b && nat_le b NINE
 
 -- the number that goes on with these digits, at most nine
 abbrev pub digits_on : ℕ → List ℕ → Option ℕ
 digits_on n [] = Some n
-digits_on n (b ∷ text) = if is_digit b && nat_lt n 100000000 then digits_on (n * 10 + (b - 48)) text else None
+digits_on n (b ∷ text) = if is_digit b && nat_lt n ROOM_FOR_A_DIGIT then digits_on (n * 10 + (b - ZERO)) text else None
 
 -- the number, where it is at most this
 abbrev pub up_to : ℕ → Option ℕ → Option ℕ
@@ -40,4 +43,4 @@ up_to most (Some n) = if nat_le n most then Some n else None
 -- the number of an object, up to 8,191, after a sharp
 abbrev pub object_in : List ℕ → Option ℕ
 object_in [] = None
-object_in (b ∷ digits) = if nat_eq b 35 then up_to 8191 (digits_on 0 digits) else None
+object_in (b ∷ digits) = if nat_eq b SHARP then up_to LAST_NUMBER (digits_on 0 digits) else None

@@ -5,6 +5,7 @@ use Rattle.std.specs.Option.{option_map, ok_or}
 use Rattle.std.specs.Str.{bytes_eq}
 use Rattle.mud_key.specs.declared.namer.Miss.{Miss}
 use Rattle.mud_key.specs.declared.namer.Miss.TheVariants.{NoSuch}
+use Rattle.mud_key.specs.declared.codes.TheConstants.{SPACE}
 use Rattle.mud_key.specs.Tree.{Tree}
 use Rattle.mud_key.specs.Namer.{resolved}
 use Rattle.mud_key.specs.Reading.{names_in, name_in, key_in}
@@ -17,6 +18,9 @@ use Rattle.mud_world.specs.declared.change.Deed.TheVariants as deed
 use Rattle.mud_chron.specs.declared.verb.Verb.{Verb}
 use Rattle.mud_chron.specs.declared.verb.Verb.TheVariants.{Dig, Make, Lock, Unlock, Move, Walk, Cost, Player, Rename}
 use Rattle.mud_chron.specs.declared.verb.Verb.TheVariants.{Recycle, Say, Emote}
+use Rattle.mud_world.specs.declared.limits.TheConstants.{MOST_COST}
+use Rattle.mud_chron.specs.declared.codes.TheConstants.{QUOTE}
+use Rattle.mud_chron.specs.declared.limits.TheConstants.{MOST_DESKS}
 use Rattle.mud_chron.specs.Entry.{Entry}
 use Rattle.mud_chron.specs.declared.fields.Unread.{Unread}
 use Rattle.mud_chron.specs.declared.fields.Unread.TheVariants.{OutOfMemory, NoEntry}
@@ -50,7 +54,7 @@ number_up_to most text = up_to most (digits_on 0 text)
 -- the number of an object up to a space, and what stands after it
 unfoldable pub object_before : List ℕ → Option (ℕ × List ℕ)
 object_before text = do
-  p ← cut 32 text
+  p ← cut SPACE text
   n ← object_in p.0
   Some (n, p.1)
 
@@ -76,21 +80,21 @@ number_key_in text = do
 -- the names up to a quote, and what stands after it
 unfoldable pub names_before : List ℕ → Option (List (List ℕ) × List ℕ)
 names_before text = do
-  p ← cut 34 text
+  p ← cut QUOTE text
   names ← names_in p.0
   Some (names, p.1)
 
 -- the names between the first two quotes, and what stands after them
 unfoldable pub quoted_in : List ℕ → Option (List (List ℕ) × List ℕ)
 quoted_in text = do
-  p ← cut 34 text
+  p ← cut QUOTE text
   names_before p.1
 
 -- the name between the first two quotes
 unfoldable pub quoted_name_in : List ℕ → Option (List ℕ)
 quoted_name_in text = do
-  p ← cut 34 text
-  q ← cut 34 p.1
+  p ← cut QUOTE text
+  q ← cut QUOTE p.1
   name_in q.0
 
 -- the names of the exit back; none where nothing is left
@@ -128,7 +132,7 @@ old_in text = do
 
 unfoldable pub dig_in : List ℕ → Option Deed
 dig_in text = do
-  p ← cut 32 text
+  p ← cut SPACE text
   if bytes_eq p.0 (codes "new") then new_in p.1 else old_in p.1
 
 unfoldable pub make_in : List ℕ → Option Deed
@@ -166,7 +170,7 @@ walk_in text = do
 unfoldable pub cost_in : List ℕ → Option Deed
 cost_in text = do
   exit ← object_before text
-  cost ← number_up_to 10000 exit.1
+  cost ← number_up_to MOST_COST exit.1
   Some (deed.Cost exit.0 cost)
 
 unfoldable pub rename_in : List ℕ → Option Deed
@@ -225,7 +229,7 @@ verb_in word =
 -- the change of a text
 unfoldable pub change_in : List ℕ → Option Change
 change_in text = do
-  word ← cut 32 text
+  word ← cut SPACE text
   verb ← verb_in word.0
   actor ← object_before word.1
   deed ← deed_in verb actor.1
@@ -234,14 +238,14 @@ change_in text = do
 -- a desk
 unfoldable pub desk_in : List ℕ → Option ℕ
 desk_in text = do
-  desk ← number_up_to 64 text
+  desk ← number_up_to MOST_DESKS text
   if nat_le 1 desk then Some desk else None
 
 -- the entry of a line, whatever version it makes
 unfoldable pub entry_in : List ℕ → Option Entry
 entry_in line = do
-  version ← cut 32 line
-  p ← cut 32 version.1
+  version ← cut SPACE line
+  p ← cut SPACE version.1
   desk ← desk_in p.0
   change ← change_in p.1
   Some (record { desk = desk; change = change })

@@ -7,16 +7,16 @@ use Rattle.mud_world.specs.declared.change.Doors.{Doors}
 use Rattle.mud_chron.specs.declared.format.Format.{Format}
 use Rattle.mud_chron.specs.declared.format.Format.TheVariants.{Two}
 use Rattle.mud_chron.specs.Entry.{Entry}
-use Rattle.mud_chron.specs.Text.{quoted, deed_text, entry_line, line_feed, journal_text, history_text, end_line}
+use Rattle.mud_chron.specs.Text.{in_quotes, deed_text, entry_line, line_feed, journal_text, history_text, end_line}
 use Rattle.mud_chron.specs.Faults.{IsNoEntryLine}
 
 -- the exit back of a dig, where there is one
 abbrev pub back_text : Option (List (List ℕ)) → List ℕ
-back_text back = option_map_or (λ names. codes " back " ++ quoted names) back []
+back_text back = option_map_or (λ names. codes " back " ++ in_quotes names) back []
 
 -- the exits of a dig, where there are any
 abbrev pub doors_text : Option Doors → List ℕ
-doors_text doors = option_map_or (λ d. codes " out " ++ quoted d.out ++ back_text d.back) doors []
+doors_text doors = option_map_or (λ d. codes " out " ++ in_quotes d.out ++ back_text d.back) doors []
 
 -- a change, without a line's end
 abbrev pub change_text : Change → List ℕ

@@ -3,13 +3,13 @@ use Rattle.std.specs.Prelude.{◌≡◌, ◌⊎◌, ℕ, List, [], ◌∷◌, �
 use Rattle.std.specs.Prelude.{Option, Some, None, slice_get, slice_set}
 use Rattle.std.specs.Fmt.{decimal}
 use Rattle.std.specs.List.Sorted.{IsPermutation}
-use Rattle.mud_words.specs.Parse.{parsed}
+use Rattle.mud_words.specs.Parse.{parse_of}
 use Rattle.mud_chron.specs.Entry.{Entry}
 use Rattle.mud_hall.specs.declared.fault.Fault.{Fault}
 use Rattle.mud_hall.specs.declared.fault.Fault.TheVariants.{OutOfMemory}
 use Rattle.mud_hall.specs.declared.fault.CloseFault.{CloseFault}
 use Rattle.mud_hall.specs.Desk.{View, TakesIn, IsNew, as_guest, with_told}
-use Rattle.mud_hall.specs.Settling.{IsSettled, IsCloseFault, HasNumber, made}
+use Rattle.mud_hall.specs.Settling.{IsSettled, IsCloseFault, HasNumber, entries_made}
 use Rattle.mud_hall.specs.Replies.{Reply, Acts}
 use Rattle.mud_hall.specs.Answers.{Answered, Answers}
 use Rattle.mud_explain.specs.declared.step.Turn.{Turn}
@@ -20,12 +20,12 @@ use Rattle.mud_explain.specs.inner.Told.{fault_line, reply_line, answer_lines, s
 -- an answer, or none where memory ran out
 abbrev pub TellsAnswer : View → List ℕ → List ℕ → Type 0
 TellsAnswer d line told =
-    ((a : Answered) × Answers d.state (parsed line) a × (told ≡ answer_lines a)) ⊎ (told ≡ fault_line OutOfMemory)
+    ((a : Answered) × Answers d.state (parse_of line) a × (told ≡ answer_lines a)) ⊎ (told ≡ fault_line OutOfMemory)
 
 -- what a desk does by itself in a hall of this capacity, and what is told of it
 abbrev pub Turns : ℕ → Turn → View → View → List ℕ → Type 0
 Turns capacity (Act line) old new told =
-    (reply : Reply) × Acts capacity old.state (parsed line.now) reply new.state × (told ≡ reply_line reply)
+    (reply : Reply) × Acts capacity old.state (parse_of line.now) reply new.state × (told ≡ reply_line reply)
 Turns capacity (Ask line) old new told = (new.state ≡ old.state) × TellsAnswer old line.now told
 Turns capacity See old new told =
     TakesIn old.state new.state × ((told ≡ seen_line (length new.state.seen)) ⊎ (told ≡ fault_line OutOfMemory))
@@ -70,7 +70,7 @@ pub record AreHanded (numbers : List ℕ) (desks handed rest : List View) : Type
 -- the hall ended with the history that the desks made
 abbrev pub Settles : {H : Type 0} → List Entry → List View → Option H → List ℕ → Type 0
 Settles loaded handed hall told = (history : List Entry) × IsSettled loaded handed history × (hall ≡ None)
-    × (told ≡ settled_lines (length (made loaded history)) (length loaded) history)
+    × (told ≡ settled_lines (length (entries_made loaded history)) (length loaded) history)
 
 -- the hall goes on with all its desks
 abbrev pub GoesOn : {H : Type 0} → List Entry → List View → List View → Option H → Option H → List View → List ℕ

@@ -44,12 +44,12 @@ is_lower exit None = true
 is_lower exit (Some a) = nat_lt exit a.step.exit
 
 -- the table after a step was seen
-abbrev pub noted : (ℕ → Option Label) → ℕ → Label → Step → List (Option Arrival) → List (Option Arrival)
-noted labels by l s table =
+abbrev pub note : (ℕ → Option Label) → ℕ → Label → Step → List (Option Arrival) → List (Option Arrival)
+note labels by l s table =
     if ends l s (labels s.to) && is_lower s.exit (slice_index_or table s.to None)
     then slice_set table s.to (Some (record { by = by; step = s }))
     else table
 
 abbrev pub noted_all : (ℕ → Option Label) → ℕ → Label → List Step → List (Option Arrival) → List (Option Arrival)
 noted_all labels by l [] table = table
-noted_all labels by l (s ∷ ss) table = noted_all labels by l ss (noted labels by l s table)
+noted_all labels by l (s ∷ ss) table = noted_all labels by l ss (note labels by l s table)

@@ -8,7 +8,7 @@ use Rattle.mud_roads.specs.declared.label.Label.{Label}
 use Rattle.mud_roads.specs.Open.{Knowledge}
 use Rattle.mud_cert.specs.Certificate.{Account, IsAccount}
 use Rattle.mud_guide.specs.declared.lister.Listing.{Listing}
-use Rattle.mud_guide.specs.Journeys.{Journey, IsJourney}
+use Rattle.mud_guide.specs.Legs.{Leg, IsJourney}
 use Rattle.mud_guide.specs.Ways.{exits_of}
 
 -- the labels of the numbers below `next`, by rising number
@@ -18,22 +18,22 @@ pub record AreEntries (labels : ℕ → Option Label) (next : ℕ) (entries : Li
   pub whole : (room : ℕ) (l : Label) → room < next → labels room ≡ Some l → Contains entries (room, l)
 
 -- the numbers of the journey are below `next`
-pub record IsInside (next : ℕ) (j : Journey) : Type 0 where
+pub record IsInside (next : ℕ) (j : Leg) : Type 0 where
   pub player : j.player < next
   pub from : j.from < next
   pub exits : IfSome j.way (All (λ s. s.exit < next))
 
 -- who goes on the journey, from where, all labels of numbers below `next`, and the exits of his way
-pub record IsListed (labels : ℕ → Option Label) (next : ℕ) (j : Journey) (a : Account) : Type 0 where
+pub record IsListed (labels : ℕ → Option Label) (next : ℕ) (j : Leg) (a : Account) : Type 0 where
   pub player : a.player ≡ j.player
   pub from : a.from ≡ j.from
   pub entries : AreEntries labels next a.labels
   pub walk : a.walk ≡ option_map exits_of j.way
 
 -- the same of each journey, with the labels of its member
-pub record AreListed (labels : ℕ → ℕ → Option Label) (next : ℕ) (js : List Journey) (es : List Account) : Type 0 where
+pub record AreListed (labels : ℕ → ℕ → Option Label) (next : ℕ) (js : List Leg) (es : List Account) : Type 0 where
   pub long : length es ≡ length js
-  pub each : (m : ℕ) (j : Journey) (a : Account) → m < length es
+  pub each : (m : ℕ) (j : Leg) (a : Account) → m < length es
       → IsListed (labels m) next (slice_index_or js m j) (slice_index_or es m a)
 
 -- the members of a party from a number on, how they go to the room, and what is claimed of them, within the limits

@@ -4,6 +4,7 @@ use Rattle.mud_world.specs.State.{State}
 use Rattle.mud_roads.specs.declared.label.Label.{Label}
 use Rattle.mud_roads.specs.Open.{Knowledge, IsTraveller}
 use Rattle.mud_search.specs.Least.{AreLeast}
+use Rattle.mud_world.specs.declared.limits.TheConstants.{MOST_PARTY}
 
 -- these are the travellers who are the players
 abbrev pub AreTravellers : State → List ℕ → List Knowledge → Type 0
@@ -13,4 +14,4 @@ AreTravellers w players ts = All (IsTraveller w) ts × (map (λ t. t.player) ts 
 pub record AreMembers (w : State) (labels : ℕ → ℕ → Option Label) (first : ℕ) (ts : List Knowledge) : Type 0 where
   pub travellers : All (IsTraveller w) ts
   pub least : AreLeast w ts (λ m. labels (first + m))
-  pub few : first + length ts ≤ 8
+  pub few : first + length ts ≤ MOST_PARTY

@@ -13,7 +13,7 @@ use Rattle.mud_cert.specs.Certificate.{Certificate}
 use Rattle.mud_cert.specs.Text.{cert_text}
 use Rattle.mud_hall.specs.Told.{world_after, notice_text, notices}
 use Rattle.mud_hall.specs.Desk.{DeskState}
-use Rattle.mud_hall.specs.Answers.{answered, Shows}
+use Rattle.mud_hall.specs.Answers.{answer_shown, Shows}
 use Rattle.mud_row.specs.Known.{Standing}
 
 -- the notice of change n, if its line is heard
@@ -51,4 +51,4 @@ abbrev pub IsResponse : State → ℕ → Option ℕ → Verdict → Option Answ
 IsResponse w v player verdict None = verdict ≡ Ask History
 IsResponse w v player verdict (Some a) =
     (a.version ≡ v)
-    × ((h : List Entry) → w ≡ world_after h → v ≡ length h → Shows h player verdict (answered a))
+    × ((h : List Entry) → w ≡ world_after h → v ≡ length h → Shows h player verdict (answer_shown a))

@@ -56,5 +56,5 @@ found_of (Some k) = Some (reading_of k)
 
 -- the key, where all is closed and whole
 abbrev pub outer_settled : List machine.Front → machine.Mode → Option (Tree (List ℕ))
-outer_settled [] m = machine.settled m
+outer_settled [] m = machine.chain_at_end m
 outer_settled (f ∷ outer) m = None

@@ -1,12 +1,13 @@
 -- Digits, texts of no key, and the fewest parentheses.
 use Rattle.std.specs.Prelude.{ℕ, ◌≤◌, List}
+use Rattle.mud_key.specs.declared.codes.TheConstants.{ZERO, NINE}
 use Rattle.mud_key.specs.Tree.{Tree}
 use Rattle.mud_key.specs.KeyText.{SpellsKey}
 use Rattle.mud_key.specs.Printed.{opens}
 
 -- a digit
 abbrev pub IsDigit : ℕ → Type 0
-IsDigit b = (48 ≤ b) × (b ≤ 57)
+IsDigit b = (ZERO ≤ b) × (b ≤ NINE)
 
 -- the text is a key text of no key
 abbrev pub IsNoKeyText : List ℕ → Type 0

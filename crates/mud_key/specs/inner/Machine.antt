@@ -3,6 +3,8 @@
 use Rattle.std.specs.Prelude.{ℕ, zero, suc, Bool, true, false, Option, Some, None, List, [], ◌∷◌, ◌++◌, length}
 use Rattle.std.specs.Prelude.{replicate}
 use Rattle.std.specs.Prelude.{nat_lt, if◌then◌else◌}
+use Rattle.mud_key.specs.declared.codes.TheConstants.{SPACE, SHARP}
+use Rattle.mud_key.specs.declared.limits.TheConstants.{MOST_DIGITS}
 use Rattle.mud_key.specs.inner.Class.{class_of}
 use Rattle.mud_key.specs.Tree.{Tree, Has, Asks, Not, Join}
 use Rattle.mud_key.specs.declared.operator.Operator.{Operator}
@@ -25,18 +27,18 @@ abbrev pub bare : Front
 bare = record { chain = None; nots = 0 }
 
 -- the unary after so many `!`
-abbrev pub negated : ℕ → Reading → Reading
-negated zero k = k
-negated (suc n) k = negated n (Not k)
+abbrev pub with_nots : ℕ → Reading → Reading
+with_nots zero k = k
+with_nots (suc n) k = with_nots n (Not k)
 
 -- the chain that a unary ends
-abbrev pub joined : Option (Reading × Operator) → Reading → Reading
-joined None k = k
-joined (Some c) k = Join c.1 c.0 k
+abbrev pub end_chain : Option (Reading × Operator) → Reading → Reading
+end_chain None k = k
+end_chain (Some c) k = Join c.1 c.0 k
 
 -- the chain that ends with this unary
-abbrev pub combined : Front → Reading → Reading
-combined f k = joined f.chain (negated f.nots k)
+abbrev pub extend_chain : Front → Reading → Reading
+extend_chain f k = end_chain f.chain (with_nots f.nots k)
 
 -- an object, or one after `?`
 abbrev pub atom : Bool → List ℕ → Reading
@@ -62,7 +64,7 @@ abbrev pub after_step : List Front → Reading → Class → Option State
 after_step outer k Space = Some (outer, After k)
 after_step outer k Ampersand = Some (outer, Half k And)
 after_step outer k Bar = Some (outer, Half k Or)
-after_step (f ∷ outer) k Close = Some (outer, After (combined f k))
+after_step (f ∷ outer) k Close = Some (outer, After (extend_chain f k))
 after_step outer k _ = None
 
 -- one byte further, after a chain and half an operator
@@ -92,17 +94,18 @@ asked_step outer f _ b = None
 
 -- one byte further, after a sharp and digits
 abbrev pub number_step : List Front → Front → Bool → List ℕ → Class → ℕ → Option State
-number_step outer f a ds Digit b = if nat_lt (length ds) 9 then Some (outer, Number f a (ds ++ b ∷ [])) else None
+number_step outer f a ds Digit b =
+    if nat_lt (length ds) MOST_DIGITS then Some (outer, Number f a (ds ++ b ∷ [])) else None
 number_step outer f a [] k b = None
-number_step outer f a (d ∷ ds) k b = after_step outer (combined f (atom a (35 ∷ d ∷ ds))) k
+number_step outer f a (d ∷ ds) k b = after_step outer (extend_chain f (atom a (SHARP ∷ d ∷ ds))) k
 
 -- one byte further, after a name
 abbrev pub named_step : List Front → Front → Bool → List ℕ → ℕ → Class → ℕ → Option State
 named_step outer f a text n Space b = Some (outer, Named f a text (suc n))
-named_step outer f a text n Digit b = Some (outer, Named f a (text ++ replicate n 32 ++ b ∷ []) 0)
-named_step outer f a text n Letter b = Some (outer, Named f a (text ++ replicate n 32 ++ b ∷ []) 0)
-named_step outer f a text n Sharp b = Some (outer, Named f a (text ++ replicate n 32 ++ b ∷ []) 0)
-named_step outer f a text n k b = after_step outer (combined f (atom a text)) k
+named_step outer f a text n Digit b = Some (outer, Named f a (text ++ replicate n SPACE ++ b ∷ []) 0)
+named_step outer f a text n Letter b = Some (outer, Named f a (text ++ replicate n SPACE ++ b ∷ []) 0)
+named_step outer f a text n Sharp b = Some (outer, Named f a (text ++ replicate n SPACE ++ b ∷ []) 0)
+named_step outer f a text n k b = after_step outer (extend_chain f (atom a text)) k
 
 -- one byte further, from anywhere
 abbrev pub step : List Front → Mode → Class → ℕ → Option State
@@ -128,11 +131,11 @@ abbrev pub start : Option State
 start = Some ([], Operand bare)
 
 -- the chain that stands, if the unary is whole
-abbrev pub settled : Mode → Option Reading
-settled (Operand f) = None
-settled (Asked f) = None
-settled (Number f a []) = None
-settled (Number f a (d ∷ ds)) = Some (combined f (atom a (35 ∷ d ∷ ds)))
-settled (Named f a text n) = Some (combined f (atom a text))
-settled (After t) = Some t
-settled (Half t op) = None
+abbrev pub chain_at_end : Mode → Option Reading
+chain_at_end (Operand f) = None
+chain_at_end (Asked f) = None
+chain_at_end (Number f a []) = None
+chain_at_end (Number f a (d ∷ ds)) = Some (extend_chain f (atom a (SHARP ∷ d ∷ ds)))
+chain_at_end (Named f a text n) = Some (extend_chain f (atom a text))
+chain_at_end (After t) = Some t
+chain_at_end (Half t op) = None

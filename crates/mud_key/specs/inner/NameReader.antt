@@ -1,8 +1,10 @@
 -- What the reader of names does at each byte. Clauses of private parts cite it, and `names_in` in Reading.antt
 -- computes by it; the law `laws::names` ties that to names texts.
-use Rattle.std.specs.Prelude.{ℕ, ◌+◌, List, [], ◌∷◌, ◌++◌, length, map, replicate, Option, Some, None, String, Vec}
+use Rattle.std.specs.Prelude.{ℕ, ◌+◌, ◌-◌, List, [], ◌∷◌, ◌++◌, length, map, replicate, Option, Some, None, String, Vec}
 use Rattle.std.specs.Prelude.{string_bytes, nat_eq, nat_lt, if◌then◌else◌}
 use Rattle.std.specs.declared.alloc.Global.{Global}
+use Rattle.mud_key.specs.declared.codes.TheConstants.{SPACE, SHARP, COMMA}
+use Rattle.mud_key.specs.declared.limits.TheConstants.{MOST_NAMES, MOST_NAME_BYTES}
 use Rattle.mud_key.specs.declared.class.Class.{Class}
 use Rattle.mud_key.specs.declared.class.Class.TheVariants.{Space, Digit, Letter, Sharp, Foreign}
 use Rattle.mud_key.specs.declared.name_reader.NameReader.{NameReader}
@@ -39,10 +41,10 @@ space_step s =
 abbrev pub letter_step : Stand → ℕ → Option Stand
 letter_step s b =
     if nat_eq (length s.text) 0 then
-    (if nat_eq b 35 then None else Some (record { list = s.list; text = b ∷ []; spaces = 0 }))
+    (if nat_eq b SHARP then None else Some (record { list = s.list; text = b ∷ []; spaces = 0 }))
     else if nat_lt s.spaces 2 then
-    (if nat_lt (length s.text + s.spaces) 60
-    then Some (record { list = s.list; text = s.text ++ replicate s.spaces 32 ++ b ∷ []; spaces = 0 })
+    (if nat_lt (length s.text + s.spaces) MOST_NAME_BYTES
+    then Some (record { list = s.list; text = s.text ++ replicate s.spaces SPACE ++ b ∷ []; spaces = 0 })
     else None)
     else None
 
@@ -50,7 +52,8 @@ letter_step s b =
 abbrev pub comma_step : Stand → Option Stand
 comma_step s =
     if nat_eq (length s.text) 0 then None
-    else if nat_lt (length s.list) 3 then Some (record { list = s.list ++ s.text ∷ []; text = []; spaces = 0 })
+    else if nat_lt (length s.list) (MOST_NAMES - 1)
+    then Some (record { list = s.list ++ s.text ∷ []; text = []; spaces = 0 })
     else None
 
 -- after a byte of this class
@@ -59,7 +62,7 @@ name_step s Space b = Some (space_step s)
 name_step s Sharp b = letter_step s b
 name_step s Digit b = letter_step s b
 name_step s Letter b = letter_step s b
-name_step s Foreign b = if nat_eq b 44 then comma_step s else None
+name_step s Foreign b = if nat_eq b COMMA then comma_step s else None
 name_step s _ b = None
 
 -- after one more byte, unless no names text went on so
@@ -77,5 +80,5 @@ abbrev pub name_start : Stand
 name_start = record { list = []; text = []; spaces = 0 }
 
 -- the names, where the text may end here
-abbrev pub settled : Stand → Option (List (List ℕ))
-settled s = if nat_eq (length s.text) 0 then None else Some (s.list ++ s.text ∷ [])
+abbrev pub names_at_end : Stand → Option (List (List ℕ))
+names_at_end s = if nat_eq (length s.text) 0 then None else Some (s.list ++ s.text ∷ [])

@@ -2,6 +2,8 @@
 use Rattle.std.specs.Prelude.{◌≡◌, Bool, false, ℕ, ◌≤◌, List, [], ◌∷◌, ◌++◌, length, replicate, codes, Result, Ok, Err}
 use Rattle.std.specs.Prelude.{reverse}
 use Rattle.std.specs.Str.{bytes_eq}
+use Rattle.mud_key.specs.declared.codes.TheConstants.{SPACE}
+use Rattle.mud_key.specs.declared.limits.TheConstants.{MOST_NAMES}
 use Rattle.mud_key.specs.declared.names.NamesFault.{NamesFault}
 use Rattle.mud_key.specs.declared.names.NamesFault.TheVariants.{OutOfMemory, BadName}
 use Rattle.mud_key.specs.Name.{IsName}
@@ -11,7 +13,7 @@ use Rattle.mud_key.specs.Parts.{without_leading_spaces}
 pub record SpellsName (text name : List ℕ) : Type 0 where
   pub before : ℕ
   pub behind : ℕ
-  pub spaces : text ≡ replicate before 32 ++ name ++ replicate behind 32
+  pub spaces : text ≡ replicate before SPACE ++ name ++ replicate behind SPACE
   pub is_name : IsName name
 
 -- the text is these names with a comma between each two
@@ -23,7 +25,7 @@ pub data SpellsNames : List ℕ → List (List ℕ) → Type 0 where
 -- the text is a names text, of these names, at most 4
 pub record IsNamesText (text : List ℕ) (names : List (List ℕ)) : Type 0 where
   pub spells : SpellsNames text names
-  pub few : length names ≤ 4
+  pub few : length names ≤ MOST_NAMES
 
 -- the text is a names text of no names
 abbrev pub IsNoNamesText : List ℕ → Type 0

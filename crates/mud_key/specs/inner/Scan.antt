@@ -2,25 +2,26 @@
 -- grammar of key texts.
 use Rattle.std.specs.Prelude.{ℕ, ◌+◌, ◌-◌, ◌≡◌, Option, Some, None, List, [], ◌∷◌, length, nat_lt, nat_eq}
 use Rattle.std.specs.Prelude.{if◌then◌else◌, Bool, true, false, ◌&&◌}
+use Rattle.mud_key.specs.declared.limits.TheConstants.{MOST_DIGITS}
 use Rattle.mud_key.specs.declared.operator.Operator.{Operator}
 use Rattle.mud_key.specs.declared.operator.Operator.TheVariants.{And, Or}
 use Rattle.mud_key.specs.declared.class.Class.{Class}
 use Rattle.mud_key.specs.declared.class.Class.TheVariants.{Space, Digit, Letter, Sharp, Bang, Question, Open, Close}
 use Rattle.mud_key.specs.declared.class.Class.TheVariants.{Ampersand, Bar}
-use Rattle.mud_key.specs.declared.place.Place.{Place}
-use Rattle.mud_key.specs.declared.place.Place.TheVariants as place
+use Rattle.mud_key.specs.declared.stage.Stage.{Stage}
+use Rattle.mud_key.specs.declared.stage.Stage.TheVariants as stage
 use Rattle.mud_key.specs.declared.scan.Scan.{Scan}
 use Rattle.mud_key.specs.Tree.{objects_of, nots_of}
 use Rattle.mud_key.specs.inner.Machine.{Reading, Front, Mode, Operand, Asked, Number, Named, After, Half}
 
 -- where the machine stands, without what it has read
-abbrev pub place_of : Mode → Place
-place_of (Operand f) = place.Operand
-place_of (Asked f) = place.Asked
-place_of (Number f a ds) = place.Number (length ds)
-place_of (Named f a text n) = place.Named
-place_of (After t) = place.After
-place_of (Half t op) = place.Half op
+abbrev pub place_of : Mode → Stage
+place_of (Operand f) = stage.Operand
+place_of (Asked f) = stage.Asked
+place_of (Number f a ds) = stage.Number (length ds)
+place_of (Named f a text n) = stage.Named
+place_of (After t) = stage.After
+place_of (Half t op) = stage.Half op
 
 -- the objects of a chain that stands in front
 abbrev pub chain_objects : Option (Reading × Operator) → ℕ
@@ -75,71 +76,71 @@ scan_of outer m = record {
 
 -- one byte further, after a chain
 abbrev pub after_next : Scan → Class → Option Scan
-after_next s Space = Some (record s { place = place.After })
-after_next s Ampersand = Some (record s { place = place.Half And })
-after_next s Bar = Some (record s { place = place.Half Or })
-after_next s Close = if nat_lt 0 s.depth then Some (record s { depth = s.depth - 1; place = place.After }) else None
+after_next s Space = Some (record s { place = stage.After })
+after_next s Ampersand = Some (record s { place = stage.Half And })
+after_next s Bar = Some (record s { place = stage.Half Or })
+after_next s Close = if nat_lt 0 s.depth then Some (record s { depth = s.depth - 1; place = stage.After }) else None
 after_next s _ = None
 
 -- one byte further, from where a unary comes
 abbrev pub operand_next : Scan → Class → Option Scan
-operand_next s Space = Some (record s { place = place.Operand })
-operand_next s Bang = Some (record s { place = place.Operand; nots = s.nots + 1 })
-operand_next s Question = Some (record s { place = place.Asked })
-operand_next s Open = Some (record s { depth = s.depth + 1; place = place.Operand })
-operand_next s Sharp = Some (record s { place = place.Number 0; objects = s.objects + 1 })
-operand_next s Digit = Some (record s { place = place.Named; objects = s.objects + 1 })
-operand_next s Letter = Some (record s { place = place.Named; objects = s.objects + 1 })
+operand_next s Space = Some (record s { place = stage.Operand })
+operand_next s Bang = Some (record s { place = stage.Operand; nots = s.nots + 1 })
+operand_next s Question = Some (record s { place = stage.Asked })
+operand_next s Open = Some (record s { depth = s.depth + 1; place = stage.Operand })
+operand_next s Sharp = Some (record s { place = stage.Number 0; objects = s.objects + 1 })
+operand_next s Digit = Some (record s { place = stage.Named; objects = s.objects + 1 })
+operand_next s Letter = Some (record s { place = stage.Named; objects = s.objects + 1 })
 operand_next s _ = None
 
 -- one byte further, from where an object comes
 abbrev pub asked_next : Scan → Class → Option Scan
-asked_next s Space = Some (record s { place = place.Asked })
-asked_next s Sharp = Some (record s { place = place.Number 0; objects = s.objects + 1 })
-asked_next s Digit = Some (record s { place = place.Named; objects = s.objects + 1 })
-asked_next s Letter = Some (record s { place = place.Named; objects = s.objects + 1 })
+asked_next s Space = Some (record s { place = stage.Asked })
+asked_next s Sharp = Some (record s { place = stage.Number 0; objects = s.objects + 1 })
+asked_next s Digit = Some (record s { place = stage.Named; objects = s.objects + 1 })
+asked_next s Letter = Some (record s { place = stage.Named; objects = s.objects + 1 })
 asked_next s _ = None
 
 -- one byte further, after a sharp and n digits
 abbrev pub number_next : Scan → ℕ → Class → Option Scan
-number_next s n Digit = if nat_lt n 9 then Some (record s { place = place.Number (n + 1) }) else None
+number_next s n Digit = if nat_lt n MOST_DIGITS then Some (record s { place = stage.Number (n + 1) }) else None
 number_next s n k = if nat_lt 0 n then after_next s k else None
 
 -- one byte further, after a name
 abbrev pub named_next : Scan → Class → Option Scan
-named_next s Space = Some (record s { place = place.Named })
-named_next s Digit = Some (record s { place = place.Named })
-named_next s Letter = Some (record s { place = place.Named })
-named_next s Sharp = Some (record s { place = place.Named })
+named_next s Space = Some (record s { place = stage.Named })
+named_next s Digit = Some (record s { place = stage.Named })
+named_next s Letter = Some (record s { place = stage.Named })
+named_next s Sharp = Some (record s { place = stage.Named })
 named_next s k = after_next s k
 
 -- one byte further, after a chain and half an operator
 abbrev pub half_next : Scan → Operator → Class → Option Scan
-half_next s And Ampersand = Some (record s { place = place.Operand })
-half_next s Or Bar = Some (record s { place = place.Operand })
+half_next s And Ampersand = Some (record s { place = stage.Operand })
+half_next s Or Bar = Some (record s { place = stage.Operand })
 half_next s op k = None
 
 -- one byte further, from a place
-abbrev pub place_next : Scan → Place → Class → Option Scan
-place_next s place.Operand k = operand_next s k
-place_next s place.Asked k = asked_next s k
-place_next s (place.Number n) k = number_next s n k
-place_next s place.Named k = named_next s k
-place_next s place.After k = after_next s k
-place_next s (place.Half op) k = half_next s op k
+abbrev pub place_next : Scan → Stage → Class → Option Scan
+place_next s stage.Operand k = operand_next s k
+place_next s stage.Asked k = asked_next s k
+place_next s (stage.Number n) k = number_next s n k
+place_next s stage.Named k = named_next s k
+place_next s stage.After k = after_next s k
+place_next s (stage.Half op) k = half_next s op k
 
 -- one byte further, from anywhere
 abbrev pub scan_next : Scan → Class → Option Scan
 scan_next s k = place_next s s.place k
 
 -- whether a chain may end here
-abbrev pub is_whole_place : Place → Bool
-is_whole_place place.Operand = false
-is_whole_place place.Asked = false
-is_whole_place (place.Number n) = nat_lt 0 n
-is_whole_place place.Named = true
-is_whole_place place.After = true
-is_whole_place (place.Half op) = false
+abbrev pub is_whole_place : Stage → Bool
+is_whole_place stage.Operand = false
+is_whole_place stage.Asked = false
+is_whole_place (stage.Number n) = nat_lt 0 n
+is_whole_place stage.Named = true
+is_whole_place stage.After = true
+is_whole_place (stage.Half op) = false
 
 -- whether a key text may end here
 abbrev pub is_whole : Scan → Bool

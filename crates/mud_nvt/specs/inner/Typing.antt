@@ -1,7 +1,7 @@
 -- Characters that are typed one after the other.
 use Rattle.std.specs.Prelude.{ℕ, List, ◌++◌, ◌+◌, ◌≡◌, ◌<◌, ◌≤◌, length, take, false, All}
 use Rattle.mud_nvt.specs.declared.TheConstants.{MOST}
-use Rattle.mud_nvt.specs.declared.telnet.Place.TheVariants.{Between}
+use Rattle.mud_nvt.specs.declared.telnet.Position.TheVariants.{Between}
 use Rattle.mud_nvt.specs.Lines.{IsPrintable}
 use Rattle.mud_nvt.specs.Machine.{Held}
 

@@ -58,13 +58,13 @@ abbrev pub dig_exits : State → ℕ → List ℕ → List ℕ → Verdict
 dig_exits w p doors target = dig_between w p (doors_in doors) (target_in target)
 
 -- the player who has that name, else a new one
-abbrev pub connecting : State → List ℕ → Verdict
-connecting w name =
+abbrev pub connect_named : State → List ℕ → Verdict
+connect_named w name =
     option_map_or Become (named_player w name) (outcome w None (record { actor = w.next; deed = Player name }))
 
 -- connect NAME
 abbrev pub connect : State → List ℕ → Verdict
-connect w text = option_map_or (connecting w) (name_in text) (Refused BadName)
+connect w text = option_map_or (connect_named w) (name_in text) (Refused BadName)
 
 abbrev pub has_bar : List ℕ → Bool
 has_bar text = nat_lt (position_or_len is_bar text) (length text)

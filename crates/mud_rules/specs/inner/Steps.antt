@@ -23,7 +23,7 @@ use Rattle.mud_rules.specs.declared.verb.Verb.{Verb}
 use Rattle.mud_rules.specs.declared.verb.Verb.TheVariants as verb
 use Rattle.mud_rules.specs.Matching.{is_empty, is_like, sole, object_number}
 use Rattle.mud_rules.specs.Party.{is_party}
-use Rattle.mud_rules.specs.Listing.{listed}
+use Rattle.mud_rules.specs.Listing.{object_list}
 
 -- ---- matching
 
@@ -111,4 +111,4 @@ asks other = false
 -- a list after what stands before its first object, where there is one
 abbrev pub listed_after : List ℕ → State → List ℕ → List ℕ
 listed_after lead w [] = []
-listed_after lead w (n ∷ ns) = lead ++ listed w (n ∷ ns)
+listed_after lead w (n ∷ ns) = lead ++ object_list w (n ∷ ns)

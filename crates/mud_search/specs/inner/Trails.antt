@@ -10,9 +10,9 @@ use Rattle.mud_search.specs.declared.slot.Slot.TheVariants.{Finished}
 use Rattle.mud_search.specs.Slots.{labels_of}
 
 -- the rooms that a walk visits, read from its end
-abbrev pub visited : ℕ → List Step → List ℕ
-visited from [] = from ∷ []
-visited from (s ∷ ss) = s.to ∷ visited from ss
+abbrev pub rooms_of_walk : ℕ → List Step → List ℕ
+rooms_of_walk from [] = from ∷ []
+rooms_of_walk from (s ∷ ss) = s.to ∷ rooms_of_walk from ss
 
 -- the room is among them
 abbrev pub is_in : ℕ → List ℕ → Bool
@@ -22,7 +22,7 @@ is_in q rs = list_any (nat_eq q) rs
 abbrev pub Trail : Roads → (ℕ → Option Label) → ℕ → List Step → ℕ → Type 0
 Trail roads labels from [] to = from ≡ to
 Trail roads labels from (s ∷ ss) to =
-    (s.to ≡ to) × (is_in s.to (visited from ss) ≡ false) × Reaches labels s.to (total 1 (s ∷ ss))
+    (s.to ≡ to) × (is_in s.to (rooms_of_walk from ss) ≡ false) × Reaches labels s.to (total 1 (s ∷ ss))
     × ((by : ℕ) × Contains (roads by) s × Trail roads labels from ss by)
 
 -- the label is that of such a walk

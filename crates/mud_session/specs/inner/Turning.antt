@@ -6,22 +6,22 @@ use Rattle.mud_nvt.specs.Units.{Given}
 use Rattle.mud_hall.specs.declared.fault.Fault.TheVariants.{DesksFull}
 use Rattle.mud_hall.specs.Desk.{DeskState, HandsOut}
 use Rattle.mud_hall.specs.Replies.{Reply, Question, Failed}
-use Rattle.mud_session.specs.State.{State, DoorState}
-use Rattle.mud_session.specs.Session.{TakingIn, Turn, Does, unit_of, answer_to, is_last, reply_line, sent}
+use Rattle.mud_session.specs.State.{SessionState, DoorState}
+use Rattle.mud_session.specs.Session.{TakingIn, Turn, Does, unit_of, answer_to, is_last, reply_line, wire_text}
 
 -- the session with more to be sent
-abbrev pub sends : State → List ℕ → State
+abbrev pub sends : SessionState → List ℕ → SessionState
 sends s text = record { terminal = s.terminal; has_ended = s.has_ended; out = s.out ++ text }
 
 -- some of what the desk was told is to be sent
-pub record Told (old new : State) (old_desk new_desk : DeskState) : Type 0 where
+pub record Told (old new : SessionState) (old_desk new_desk : DeskState) : Type 0 where
   pub lines : List (List ℕ)
   pub tells : HandsOut old_desk lines new_desk
-  pub is : new ≡ sends old (flat_map sent lines)
+  pub is : new ≡ sends old (flat_map wire_text lines)
 
 -- what is sent for a reply to a line that acts, also where memory is refused
 abbrev pub sent_for : Reply → List ℕ
-sent_for reply = option_map_or sent (reply_line reply) (sent (codes "(out of memory)"))
+sent_for reply = option_map_or wire_text (reply_line reply) (wire_text (codes "(out of memory)"))
 
 -- the reply is one to a line that acts
 abbrev pub IsSaid : Reply → Type 0
@@ -30,11 +30,11 @@ IsSaid (Failed DesksFull) = ⊥
 IsSaid other = Unit {0}
 
 -- a unit has its turn, and what is sent in it is to be taken out
-pub record HasTurn (takes_in : TakingIn) (unit : Given) (old new : State) (old_door new_door : DoorState)
+pub record HasTurn (takes_in : TakingIn) (unit : Given) (old new : SessionState) (old_door new_door : DoorState)
     : Type 0 where
   pub turn : Turn
   pub of : unit_of turn.case ≡ Some unit
   pub does : Does takes_in old_door.capacity old_door.desk turn.case turn.notices new_door.desk
   pub ended : new.has_ended ≡ is_last turn.case
   pub terminal : new.terminal ≡ old.terminal
-  pub out : new.out ≡ old.out ++ (flat_map sent turn.notices ++ answer_to turn.case)
+  pub out : new.out ≡ old.out ++ (flat_map wire_text turn.notices ++ answer_to turn.case)

@@ -16,6 +16,6 @@ rest_words None ps = texts_of (slice_split is_gap ps)
 rest_words (Some word) ps = goes_on word (slice_split is_gap ps)
 
 -- the word that is open, and the empty one where none is
-abbrev pub begun : Option (List ℕ) → List ℕ
-begun None = []
-begun (Some word) = word
+abbrev pub open_word : Option (List ℕ) → List ℕ
+open_word None = []
+open_word (Some word) = word

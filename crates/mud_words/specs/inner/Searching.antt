@@ -1,8 +1,9 @@
 -- What the code's own values are seen as, cited by private clauses alone.
 use Rattle.std.specs.Prelude.{ℕ, ◌+◌, List, map, length, string_bytes}
 use Rattle.std.specs.Borrow.{Bor}
-use Rattle.mud_words.specs.Prepositions.{Phrase, Found, counted}
+use Rattle.mud_words.specs.Prepositions.{Phrase, Found, preposition_of}
 use Rattle.mud_words.specs.Line.{Line}
+use Rattle.mud_words.specs.declared.codes.TheConstants.{SPACE}
 use Rattle.mud_words.specs.declared.Prep.{Prep}
 use Rattle.mud_words.specs.declared.split.Objects.{Objects}
 use Rattle.mud_words.specs.declared.prepositions.Spot.{Spot}
@@ -22,8 +23,8 @@ abbrev pub texts : List (Bor (List ℕ)) → List (List ℕ)
 texts phrase = map (λ t. t.now) phrase
 
 -- a row of the code's table
-abbrev pub shown : Prep × Bor (List (Bor (List ℕ))) → Phrase
-shown p = record { prep = p.0; words = texts p.1.now }
+abbrev pub row_shown : Prep × Bor (List (Bor (List ℕ))) → Phrase
+row_shown p = record { prep = p.0; words = texts p.1.now }
 
 -- a line with these objects
 abbrev pub line_with : List ℕ → List (List ℕ) → List ℕ → Objects → Line
@@ -38,8 +39,8 @@ line_with verb args rest o = record {
 
 -- the arguments parted at the preposition that counts
 abbrev pub split : List ℕ → List (List ℕ) → List ℕ → Line
-split verb args rest = round verb args rest (counted args)
+split verb args rest = round verb args rest (preposition_of args)
 
 -- the words, joined by one space
-abbrev pub joined : List (List ℕ) → List ℕ
-joined ws = join_with_byte 32 ws
+abbrev pub join_words : List (List ℕ) → List ℕ
+join_words ws = join_with_byte SPACE ws

@@ -11,6 +11,6 @@ pub record IsPlain (w : State) (answers : List Bool) (locked : List ℕ) : Type 
   pub keyless : (o : ℕ) → list_any (nat_eq o) locked ≡ false → is_none (key_of w o) ≡ true
 
 -- the answers after those of these objects are written anew
-abbrev pub written : (ℕ → Bool) → List ℕ → List Bool → List Bool
-written new [] answers = answers
-written new (o ∷ os) answers = written new os (slice_set answers o (new o))
+abbrev pub answers_with : (ℕ → Bool) → List ℕ → List Bool → List Bool
+answers_with new [] answers = answers
+answers_with new (o ∷ os) answers = answers_with new os (slice_set answers o (new o))

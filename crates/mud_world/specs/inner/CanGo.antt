@@ -2,6 +2,7 @@
 -- here.
 use Rattle.std.specs.Prelude.{◌≡◌, ◌≢◌, ℕ, List, false, ◌<◌, [], ◌∷◌, Option, Some, None, IfSome, IsTrue}
 use Rattle.mud_key.specs.Tree.{Tree, IsKey}
+use Rattle.mud_world.specs.declared.limits.TheConstants.{NUMBERS}
 use Rattle.mud_world.specs.declared.record.Record.{Record}
 use Rattle.mud_world.specs.declared.record.Kind.{Kind}
 use Rattle.mud_world.specs.declared.record.Kind.TheVariants.{Room, Exit, Thing, Player}
@@ -9,7 +10,7 @@ use Rattle.mud_world.specs.Kinds.{kind_at, kind_place, is_player_kind}
 use Rattle.mud_world.specs.State.{State, record_at, place_of, follow, exists, is_room, is_player, all_nest, is_taken}
 use Rattle.mud_world.specs.Sound.{IsPlacedWell, IsSound}
 use Rattle.mud_world.specs.Legal.{with_new}
-use Rattle.mud_world.specs.inner.Parts.{keyed}
+use Rattle.mud_world.specs.inner.Parts.{with_key}
 
 -- object t can go from place q to another place y: y is fit for it, and y isn't within t
 pub record CanGo (w : State) (t q y : ℕ) : Type 0 where
@@ -26,7 +27,7 @@ pub record IsNew (w w' : State) (r : Record) : Type 0 where
 
 -- the record can be added under the next number
 pub record CanAdd (w : State) (r : Record) : Type 0 where
-  pub room : w.next < 8192
+  pub room : w.next < NUMBERS
   pub free : IsTrue (is_player_kind r.kind) → is_taken w w.next r.names ≡ false
   pub new : IsNew w (with_new w (r ∷ [])) r
 
@@ -40,7 +41,7 @@ pub record CanKey (w : State) (n : ℕ) (key : Option (Tree ℕ)) : Type 0 where
   pub there : IsTrue (exists w n)
   pub no_player : is_player w n ≡ false
   pub limits : IfSome key IsKey
-  pub nesting : IsTrue (all_nest (keyed w n key))
+  pub nesting : IsTrue (all_nest (with_key w n key))
 
 -- object n can have these names
 pub record CanName (w : State) (n : ℕ) (names : List (List ℕ)) : Type 0 where

@@ -6,7 +6,7 @@ use Rattle.std.specs.Map.{lookup, set_value}
 use Rattle.mud_key.specs.Tree.{Tree, asks_of}
 use Rattle.mud_lists.specs.Lists.{list_at, AreChanged, AreSame}
 use Rattle.mud_lists.specs.inner.Views.{AreEmpty}
-use Rattle.mud_lists.specs.Rising.{inserted, put, without}
+use Rattle.mud_lists.specs.Rising.{insert, put, without}
 use Rattle.mud_world.specs.declared.record.Record.{Record}
 use Rattle.mud_world.specs.declared.record.Kind.{Kind}
 use Rattle.mud_world.specs.declared.links.Links.{Links}
@@ -19,8 +19,8 @@ abbrev pub StandRising : List (ℕ × Record) → Type 0
 StandRising es = (high : ℕ) × IsRising 0 es high
 
 -- with f done at the record of n, where it is
-abbrev pub edited : ℕ → (Record → Record) → List (ℕ × Record) → List (ℕ × Record)
-edited n f es = option_map_or (λ r. set_value (nat_eq n) es (f r)) (lookup (nat_eq n) es) es
+abbrev pub edit : ℕ → (Record → Record) → List (ℕ × Record) → List (ℕ × Record)
+edit n f es = option_map_or (λ r. set_value (nat_eq n) es (f r)) (lookup (nat_eq n) es) es
 
 -- with another place
 abbrev pub placed_at : ℕ → Record → Record
@@ -43,8 +43,8 @@ abbrev pub called_by : Kind → List (List ℕ) → List (List ℕ)
 called_by k names = if is_player_kind k then names else []
 
 -- the names by which the object of the record is found
-abbrev pub called : Record → List (List ℕ)
-called r = called_by r.kind r.names
+abbrev pub names_to_find : Record → List (List ℕ)
+names_to_find r = called_by r.kind r.names
 
 -- all lists are empty
 pub record AreNone (links : Links) : Type 0 where
@@ -76,7 +76,7 @@ pub record AreLinked (k : Kind) (f : List ℕ → List ℕ) (old new : Links) : 
 abbrev pub AreMoved : ℕ → ℕ → ℕ → List (ℕ × List ℕ) → List (ℕ × List ℕ) → Type 0
 AreMoved t q y old new =
     (n : ℕ) → list_at new n
-    ≡ (let more = if nat_eq n y then inserted t (list_at old n) else list_at old n in
+    ≡ (let more = if nat_eq n y then insert t (list_at old n) else list_at old n in
     if nat_eq n q then without t more else more)
 
 -- the key, if there is one, asks object n

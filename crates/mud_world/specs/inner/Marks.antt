@@ -2,6 +2,6 @@
 use Rattle.std.specs.Prelude.{ℕ, Bool, true, List, [], ◌∷◌, slice_set}
 
 -- the marks after these numbers were marked
-abbrev pub marked : List ℕ → List Bool → List Bool
-marked [] marks = marks
-marked (o ∷ os) marks = marked os (slice_set marks o true)
+abbrev pub mark_all : List ℕ → List Bool → List Bool
+mark_all [] marks = marks
+mark_all (o ∷ os) marks = mark_all os (slice_set marks o true)

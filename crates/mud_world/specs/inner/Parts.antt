@@ -6,13 +6,16 @@ use Rattle.std.specs.List.{list_any, list_all}
 use Rattle.std.specs.Map.{set_value, remove_entry}
 use Rattle.mud_key.specs.Tree.{Tree, IsKey, objects_of, nots_of, atoms_of}
 use Rattle.mud_key.specs.Names.{AreNames}
+use Rattle.mud_key.specs.declared.codes.TheConstants.{SPACE, TILDE}
+use Rattle.mud_key.specs.declared.limits.TheConstants.{MOST_OBJECTS, MOST_NOTS}
+use Rattle.mud_world.specs.declared.limits.TheConstants.{NUMBERS}
 use Rattle.mud_world.specs.declared.record.Kind.TheVariants.{Player}
 use Rattle.mud_world.specs.declared.record.Record.{Record}
 use Rattle.mud_world.specs.declared.change.Change.{Change}
 use Rattle.mud_world.specs.declared.change.Doors.{Doors}
 use Rattle.mud_world.specs.Kinds.{kind_at, kind_costing, kind_needs, is_player_kind}
 use Rattle.mud_world.specs.State.{State, record_at, exists, place_of, is_number, source_of, shares}
-use Rattle.mud_world.specs.Results.{changed}
+use Rattle.mud_world.specs.Results.{with_record_changed}
 use Rattle.mud_world.specs.Legal.{refusal, after}
 
 -- object n, where it exists, has record r
@@ -20,28 +23,28 @@ abbrev pub with_record : State → ℕ → Record → State
 with_record w n r = record w { objects = set_value (nat_eq n) w.objects r }
 
 -- object n is gone
-abbrev pub removed : State → ℕ → State
-removed w n = record w { objects = remove_entry (nat_eq n) w.objects }
+abbrev pub without_object : State → ℕ → State
+without_object w n = record w { objects = remove_entry (nat_eq n) w.objects }
 
 -- object n has this place
-abbrev pub moved : State → ℕ → ℕ → State
-moved w n place = changed w n (λ r. record r { kind = kind_at place r.kind })
+abbrev pub with_place : State → ℕ → ℕ → State
+with_place w n place = with_record_changed w n (λ r. record r { kind = kind_at place r.kind })
 
 -- object n has this key, or none
-abbrev pub keyed : State → ℕ → Option (Tree ℕ) → State
-keyed w n key = changed w n (λ r. record r { key = key })
+abbrev pub with_key : State → ℕ → Option (Tree ℕ) → State
+with_key w n key = with_record_changed w n (λ r. record r { key = key })
 
 -- object n has this key
-abbrev pub locked : State → ℕ → Tree ℕ → State
-locked w n key = keyed w n (Some key)
+abbrev pub with_lock : State → ℕ → Tree ℕ → State
+with_lock w n key = with_key w n (Some key)
 
 -- object n, an exit, costs so much
-abbrev pub costing : State → ℕ → ℕ → State
-costing w n cost = changed w n (λ r. record r { kind = kind_costing cost r.kind })
+abbrev pub with_cost : State → ℕ → ℕ → State
+with_cost w n cost = with_record_changed w n (λ r. record r { kind = kind_costing cost r.kind })
 
 -- object n has these names
-abbrev pub renamed : State → ℕ → List (List ℕ) → State
-renamed w n names = changed w n (λ r. record r { names = names })
+abbrev pub with_names : State → ℕ → List (List ℕ) → State
+with_names w n names = with_record_changed w n (λ r. record r { names = names })
 
 -- it is the hall, #0, or something lies in it, or an exit has an end at it
 abbrev pub in_use : State → ℕ → Bool
@@ -49,12 +52,13 @@ in_use w n = nat_eq n 0 || list_any (λ e. kind_needs n e.1.kind) w.objects
 
 -- so many new objects would have a number above 8,191
 abbrev pub is_full : State → ℕ → Bool
-is_full w count = nat_lt 8192 (w.next + count)
+is_full w count = nat_lt NUMBERS (w.next + count)
 
 -- an object of the key is missing, or the key has more than 16 objects or 64 `!`
 abbrev pub is_bad_key : State → Tree ℕ → Bool
 is_bad_key w key =
-    list_any (λ o. not (exists w o)) (atoms_of key) || (nat_lt 16 (objects_of key) || nat_lt 64 (nots_of key))
+    list_any (λ o. not (exists w o)) (atoms_of key)
+    || (nat_lt MOST_OBJECTS (objects_of key) || nat_lt MOST_NOTS (nots_of key))
 
 -- the exit leaves the actor's room
 abbrev pub leaves_from : State → ℕ → ℕ → Bool
@@ -83,9 +87,9 @@ abbrev pub AreDoors : Option Doors → Type 0
 AreDoors doors = IfSome doors (λ d. AreNames d.out × AreBackNames d.back)
 
 -- the world after a change, which changes nothing where it is not legal
-abbrev pub stepped : State → Change → State
-stepped w e = if is_none (refusal w e) then after w e else w
+abbrev pub step_or_same : State → Change → State
+step_or_same w e = if is_none (refusal w e) then after w e else w
 
 -- each byte is one from 32 to 126
 abbrev pub is_printable : List ℕ → Bool
-is_printable text = list_all (λ b. not (nat_lt b 32) && not (nat_lt 126 b)) text
+is_printable text = list_all (λ b. not (nat_lt b SPACE) && not (nat_lt TILDE b)) text

@@ -2,6 +2,7 @@
 use Rattle.std.proofs.Common.{◌≡◌, ◌<◌, ◌+◌, ◌∷◌, length, None, Some, ap, arith, length-append, ◌∙◌}
 use Rattle.std.proofs.lemmas.Grind.{common_steps}
 use Rattle.std.proofs.lemmas.List.{nil_from_length}
+use Rattle.mud_chron.specs.declared.codes.TheConstants.{LF}
 use Rattle.mud_cert.specs.declared.stage.Stage.TheVariants.{Whole}
 use Rattle.mud_cert.specs.inner.Stages.{next}
 use Rattle.mud_cert.proofs.Progress.{reads-start, reads-more, reads-few, line-some, reads-refused, reads-unended}
@@ -29,8 +30,8 @@ pub overflow_add-number : goal.overflow_add-number
 overflow_add-number c =
     let few = reads-few c.args.bytes.now c.loop-line.rest.now c.loop-line.number
     c.loop-line.stage c.loop-line.invariant in
-    let rest : length c.loop-line.rest.now ≡ length c.in-Some.line.now + length (10 ∷ c.in-Some.behind.now) =
-    ap length c.in-Some.ensures.found.1 ∙ length-append c.in-Some.line.now (10 ∷ c.in-Some.behind.now) in
+    let rest : length c.loop-line.rest.now ≡ length c.in-Some.line.now + length (LF ∷ c.in-Some.behind.now) =
+    ap length c.in-Some.ensures.found.1 ∙ length-append c.in-Some.line.now (LF ∷ c.in-Some.behind.now) in
     let e : next c.loop-line.stage c.in-Some.line.now ≡ Some c.in-Some-2.next = grind (arith, common_steps) in
     omega (arith, line-some c.loop-line.stage c.in-Some-2.next c.in-Some.line.now e)
 

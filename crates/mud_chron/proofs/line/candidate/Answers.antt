@@ -5,7 +5,8 @@ use Rattle.mud_chron.proofs.line.candidate.Goals as goal
 
 pub returns-in-Ok : goal.returns-in-Ok
 returns-in-Ok c = λ version e fits is same.
-    entry-found c.guess.result c.in-Ok.text.now version e c.guess.ensures (omega arith) is (c.in-Ok.ensures.cases.0 ∙ same)
+    entry-found c.guess.result c.in-Ok.text.now version e c.guess.ensures (omega arith) is
+    (c.in-Ok.ensures.cases.0 ∙ same)
 
 pub returns-in-Err : goal.returns-in-Err
 returns-in-Err c =

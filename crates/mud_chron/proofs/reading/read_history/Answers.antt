@@ -1,6 +1,7 @@
 use Rattle.std.proofs.Common.{◌<◌, length, sym, subst, arith}
 use Rattle.mud_chron.specs.Faults.{Begins}
 use Rattle.mud_chron.specs.inner.Lines.{IsLine}
+use Rattle.mud_chron.specs.declared.limits.TheConstants.{MOST_ENTRIES}
 use Rattle.mud_chron.specs.declared.line.Line.TheVariants as lines
 use Rattle.mud_chron.proofs.Begun.{next_entry, too_long}
 use Rattle.mud_chron.proofs.reading.read_history.Goals as goal
@@ -17,7 +18,7 @@ pub loop-line-preserved : goal.loop-line-preserved
 loop-line-preserved c =
     let is : IsLine c.in-Some.found.0 c.len.result c.in-Some-cut_line.line.now (lines.Entry c.in-Entry.entry) =
     subst (IsLine c.in-Some.found.0 c.len.result c.in-Some-cut_line.line.now) c.in-Entry.is c.in_ok-entry.ensures in
-    let few : length c.loop-line.entries.items < 65536 = omega (arith, c.loop-line.invariant.allowed.few) in
+    let few : length c.loop-line.entries.items < MOST_ENTRIES = omega (arith, c.loop-line.invariant.allowed.few) in
     subst (λ items. Begins c.in-Some.found.0 items c.args.bytes.now c.in-Some-cut_line.more.now)
     (sym c.in_ok-push-in-Entry.ensures.items)
     (next_entry c.in-Some.found.0 c.loop-line.entries.items c.args.bytes.now c.loop-line.rest.now

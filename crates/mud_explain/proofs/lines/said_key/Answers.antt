@@ -1,16 +1,16 @@
 use Rattle.std.proofs.Common.{◌≡◌, ◌++◌, codes, string_bytes, decimal, ap, ◌∙◌}
 use Rattle.std.proofs.lemmas.Result.{IfOk-weaker}
 use Rattle.mud_key.specs.Node.{reading_of}
-use Rattle.mud_explain.specs.Key.{grouped, SaysKey, a_key, no_key, too_many}
+use Rattle.mud_explain.specs.Key.{group_text, SaysKey, a_key, no_key, too_many}
 use Rattle.mud_explain.proofs.lines.said_key.Goals as goal
 
 pub returns-in_ok-push_grouped-in-Ok : goal.returns-in_ok-push_grouped-in-Ok
 returns-in_ok-push_grouped-in-Ok c =
     let text : string_bytes c.push_grouped.new.out ≡ string_bytes c.new-answer.result
-    ++ grouped (reading_of c.node.result.now) = c.in_ok-push_grouped-in-Ok.ensures in
+    ++ group_text (reading_of c.node.result.now) = c.in_ok-push_grouped-in-Ok.ensures in
     a_key c.in-Ok.key c.in-Ok.ensures.reads.0 c.in-Ok.ensures.reads.1
-    (text ∙ ap (λ t. t ++ grouped (reading_of c.node.result.now)) c.new-answer.ensures.bytes
-    ∙ ap grouped c.node.ensures.node)
+    (text ∙ ap (λ t. t ++ group_text (reading_of c.node.result.now)) c.new-answer.ensures.bytes
+    ∙ ap group_text c.node.ensures.node)
 
 pub returns-in-Err-BadKey : goal.returns-in-Err-BadKey
 returns-in-Err-BadKey c =

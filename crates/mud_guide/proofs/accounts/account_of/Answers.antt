@@ -2,16 +2,16 @@ use Rattle.std.proofs.Common.{◌∙◌, ap, sym, subst, arith}
 use Rattle.std.specs.Option.{option_map}
 use Rattle.mud_guide.proofs.Entries.{entries-limits, exits-limits}
 use Rattle.mud_guide.specs.inner.Listings.{IsListed}
-use Rattle.mud_guide.specs.Journeys.{Journey}
+use Rattle.mud_guide.specs.Legs.{Leg}
 use Rattle.mud_guide.specs.Ways.{exits_of}
 use Rattle.mud_search.specs.Least.{label_in}
 use Rattle.mud_guide.proofs.accounts.account_of.Goals as goal
 
 pub new-requires : goal.new-requires
 new-requires c =
-    let player = ap (λ (j : Journey). j.player) c.journey.view_is in
-    let from = ap (λ (j : Journey). j.from) c.journey.view_is in
-    let way = ap (λ (j : Journey). option_map exits_of j.way) c.journey.view_is in
+    let player = ap (λ (j : Leg). j.player) c.journey.view_is in
+    let from = ap (λ (j : Leg). j.from) c.journey.view_is in
+    let way = ap (λ (j : Leg). option_map exits_of j.way) c.journey.view_is in
     record {
       player = omega (arith, player, c.requires.inside.player, c.requires.few);
       from = omega (arith, from, c.requires.inside.from, c.requires.few);
@@ -27,8 +27,8 @@ pub returns-clause-account : goal.returns-clause-account
 returns-clause-account c =
     subst (IsListed (label_in c.args.labels.now c.args.member) c.args.next c.args.journey.now) (sym c.new.ensures)
     (record {
-      player = ap (λ (j : Journey). j.player) c.journey.view_is;
-      from = ap (λ (j : Journey). j.from) c.journey.view_is;
+      player = ap (λ (j : Leg). j.player) c.journey.view_is;
+      from = ap (λ (j : Leg). j.from) c.journey.view_is;
       entries = c.in_ok-entries.ensures;
-      walk = c.in_ok-walk.ensures ∙ ap (λ (j : Journey). option_map exits_of j.way) c.journey.view_is;
+      walk = c.in_ok-walk.ensures ∙ ap (λ (j : Leg). option_map exits_of j.way) c.journey.view_is;
     })

@@ -5,7 +5,7 @@ use Rattle.std.proofs.lemmas.List.Elements.{All-push}
 use Rattle.mud_cert.specs.Certificate.{Account, IsAccount}
 use Rattle.mud_roads.specs.declared.label.Label.{Label}
 use Rattle.mud_search.specs.Least.{label_in}
-use Rattle.mud_guide.specs.Journeys.{Journey}
+use Rattle.mud_guide.specs.Legs.{Leg}
 use Rattle.mud_guide.specs.inner.Listings.{IsListed}
 use Rattle.mud_guide.proofs.Backs.{read-at}
 use Rattle.mud_guide.proofs.Entries.{listed-push}
@@ -20,13 +20,13 @@ loop-member-preserved c =
     let e = c.in_ok-account_of.field-0 in
     let old = c.loop-member.invariant in
     let items = c.in_ok-push.ensures.items in
-    let P : List Account → Type 0 = λ xs. (n : ℕ) (j : Journey) (a : Account) → n < length xs
+    let P : List Account → Type 0 = λ xs. (n : ℕ) (j : Leg) (a : Account) → n < length xs
     → IsListed (labels n) c.args.next (get_or js n j) (get_or xs n a) in
     record {
       long = ap length items ∙ length_push es e ∙ ap (λ (n : ℕ). n + 1) old.long;
       each = subst P (sym items)
           (listed-push labels c.args.next js es m e old.long old.each (λ j.
-          let Q : Journey → Type 0 = λ x. IsListed (labels m) c.args.next x e in
+          let Q : Leg → Type 0 = λ x. IsListed (labels m) c.args.next x e in
           subst Q (sym
           (read-at js m c.index-journeys-member.result j c.loop-member-test.true c.index-journeys-member.is))
           c.in_ok-account_of.ensures.account));

@@ -3,7 +3,7 @@ use Rattle.std.specs.List.{AllZip}
 use Rattle.mud_cert.specs.Certificate.{Account, Certificate}
 use Rattle.mud_roads.specs.Open.{Knowledge, roads_of}
 use Rattle.mud_roads.specs.Walks.{Least}
-use Rattle.mud_guide.specs.Journeys.{Journey, IsJourney}
+use Rattle.mud_guide.specs.Legs.{Leg, IsJourney}
 use Rattle.mud_guide.specs.inner.Listings.{AreListed}
 use Rattle.mud_guide.proofs.Listings.{listed-first}
 use Rattle.mud_guide.specs.Texts.{meet_text}
@@ -16,7 +16,7 @@ pub certificate-cert-requires-clause-conclusion : goal.certificate-cert-requires
 certificate-cert-requires-clause-conclusion g c =
     let w = c.args.world.now in
     let listed = c.in_ok-listing.ensures in
-    let R : Knowledge → Journey → Type 0 = λ t j. IsJourney w c.room_of.result t.player j in
+    let R : Knowledge → Leg → Type 0 = λ t j. IsJourney w c.room_of.result t.player j in
     let long : length c.in_ok-listing.listing.accounts.items ≡ length c.args.party.now =
     listed.accounts.long ∙ allzip-length R c.args.party.now c.in_ok-listing.listing.journeys.items listed.journeys in
     let found = c.meeting_place-place.ensures in (

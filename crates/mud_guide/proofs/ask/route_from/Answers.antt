@@ -4,7 +4,7 @@ use Rattle.mud_cert.specs.Certificate.{Account, Certificate, IsAmount}
 use Rattle.mud_cert.specs.declared.cert.Conclusion.{Conclusion}
 use Rattle.mud_cert.specs.declared.cert.Conclusion.TheVariants.{Route}
 use Rattle.std.specs.Option.{option_map}
-use Rattle.mud_guide.specs.Journeys.{Journey}
+use Rattle.mud_guide.specs.Legs.{Leg}
 use Rattle.mud_guide.specs.Ways.{cost_of}
 use Rattle.mud_guide.specs.inner.Listings.{IsInside, AreListed}
 use Rattle.mud_guide.proofs.Listings.{listed-first}
@@ -22,7 +22,7 @@ accounts_of-requires-clause-inside c =
     let sound = c.next_number-next.ensures.sound in
     let j = c.in_ok-journey.journey in
     let N : ℕ → Type 0 = λ n. All (IsInside n) c.from_ref.result.now in
-    let P : List Journey → Type 0 = λ js. All (IsInside w.next) js in
+    let P : List Leg → Type 0 = λ js. All (IsInside w.next) js in
     subst N (sym c.next_number-next.ensures.next)
     (subst P (sym c.from_ref.ensures.value)
     (all-one (IsInside w.next) j
@@ -35,7 +35,7 @@ certificate-cert-requires-clause-conclusion c =
     let P : Option ℕ → Type 0 = λ o. IfSome o IsAmount in (
       c.in_ok-accounts.ensures.accounts.long ∙ c.from_ref.ensures.len,
       number-is w c.next_number-next.ensures.sound c.args.room c.requires.room,
-      subst P (sym (c.cost_of.ensures ∙ ap (λ (j : Journey). option_map cost_of j.way) c.journey.view_is))
+      subst P (sym (c.cost_of.ensures ∙ ap (λ (j : Leg). option_map cost_of j.way) c.journey.view_is))
           (cost-limits w c.args.traveller.now c.in_ok-journey.journey c.args.room (label_in c.args.labels.now)
           c.requires.traveller c.in_ok-journey.ensures c.requires.least c.requires.bounded),
     )
@@ -50,7 +50,7 @@ returns c =
     let labels = label_in c.args.labels.now in
     let M : List Account → Type 0 = λ xs. AreListed labels w.next (j ∷ []) xs in
     let N : ℕ → Type 0 = λ n. AreListed labels n (j ∷ []) es in
-    let J : List Journey → Type 0 = λ xs. AreListed labels c.next_number-next.result xs es in
+    let J : List Leg → Type 0 = λ xs. AreListed labels c.next_number-next.result xs es in
     let says : Option ℕ → Conclusion = λ o. Route c.args.room o in
     route-answer w c.next_number-next.ensures.sound c.args.version c.args.traveller.now
     labels c.args.room j cert _
@@ -62,7 +62,7 @@ returns c =
           (subst N c.next_number-next.ensures.next (subst J c.from_ref.ensures.value
           (listed-first labels c.next_number-next.result c.from_ref.result.now es c.in_ok-accounts.ensures.accounts)));
       conclusion = ap (λ (x : Certificate). x.conclusion) made.is
-          ∙ ap says (c.cost_of.ensures ∙ ap (λ (x : Journey). option_map cost_of x.way) c.journey.view_is);
+          ∙ ap says (c.cost_of.ensures ∙ ap (λ (x : Leg). option_map cost_of x.way) c.journey.view_is);
       limits = made.limits;
     })
     refl c.in_ok-text.ensures refl

@@ -14,9 +14,9 @@ pub returns-clause-named : goal.returns-clause-named
 returns-clause-named g c =
     all_named c.args.desks.now c.args.first c.args.new.now (λ v h. c.in_default-mismatch.ensures.least v (inr h))
 
-pub returns-in-Some-missing-clause-fault : goal.returns-in-Some-missing-clause-fault
-returns-in-Some-missing-clause-fault g c =
-    (all_apart c.args.desks.now c.in_default.ensures, c.in-Some-missing.ensures.some)
+pub returns-in-Some-first_missing-clause-fault : goal.returns-in-Some-first_missing-clause-fault
+returns-in-Some-first_missing-clause-fault g c =
+    (all_apart c.args.desks.now c.in_default.ensures, c.in-Some-first_missing.ensures.some)
 
 pub returns-in-Some-mismatch-clause-fault : goal.returns-in-Some-mismatch-clause-fault
 returns-in-Some-mismatch-clause-fault g c =

@@ -14,8 +14,8 @@ returns-clause-least g c =
     let Q : Option ℕ → Type 0 = λ a. IsLeast (IsAtOdds ds first es) a in
     let P : ℕ → Type 0 = Differs ds first es in
     let N : ℕ → Type 0 = IsUnnamed ds first es in
-    let none : IsLeast N c.unnamed.result =
-    subst (λ (l : List Entry). IsLeast (IsUnnamed ds first l) c.unnamed.result) c.differing.ensures.same
-    c.unnamed.ensures.least in
+    let none : IsLeast N c.first_unnamed.result =
+    subst (λ (l : List Entry). IsLeast (IsUnnamed ds first l) c.first_unnamed.result) c.first_difference.ensures.same
+    c.first_unnamed.ensures.least in
     subst Q (sym c.lesser.ensures)
-    (least_either P N c.differing.result c.unnamed.result c.differing.ensures.least none)
+    (least_either P N c.first_difference.result c.first_unnamed.result c.first_difference.ensures.least none)

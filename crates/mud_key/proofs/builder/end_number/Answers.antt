@@ -3,7 +3,7 @@ use Rattle.std.specs.Bool.{◌==◌}
 use Rattle.std.specs.String.{string_len}
 use Rattle.std.proofs.lemmas.Result.{IfOk-weaker}
 use Rattle.std.proofs.lemmas.Bool.Decides.{nat_tests}
-use Rattle.mud_key.specs.inner.Machine.{combined, atom, after_step}
+use Rattle.mud_key.specs.inner.Machine.{extend_chain, atom, after_step}
 use Rattle.mud_key.specs.inner.Builder.{front_of, outer_of}
 use Rattle.mud_key.proofs.Building.{number_behind}
 use Rattle.mud_key.proofs.builder.end_number.Goals as goal
@@ -21,7 +21,7 @@ returns c =
     e
     ∙ ap (λ x.
     after_step (outer_of c.args.outer.items)
-    (combined (front_of c.args.lead.front) (atom c.args.lead.asked x)) c.args.class) c.in_ok-text.ensures
+    (extend_chain (front_of c.args.lead.front) (atom c.args.lead.asked x)) c.args.class) c.in_ok-text.ensures
     ∙ sym (number_behind (outer_of c.args.outer.items) (front_of c.args.lead.front) c.args.lead.asked
     (string_bytes c.args.digits) c.args.class byte c.requires positive))
     c.finish.ensures

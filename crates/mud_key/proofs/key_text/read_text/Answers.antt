@@ -3,7 +3,7 @@ use Rattle.std.specs.declared.alloc.Global.{Global}
 use Rattle.mud_key.specs.declared.node.Node.{Node}
 use Rattle.mud_key.specs.KeyText.{SpellsKey}
 use Rattle.mud_key.specs.Node.{reading_of}
-use Rattle.mud_key.proofs.Limits.{within_limits}
+use Rattle.mud_key.proofs.WithinLimits.{within_limits}
 use Rattle.mud_key.proofs.key_text.read_text.Goals as goal
 
 pub invariant_of-result : goal.invariant_of-result

@@ -1,8 +1,8 @@
 use Rattle.std.proofs.Common.{◌≡◌, ℕ, ◌<◌, ◌≤◌, List, length, get_or, leb, leb-true, leb-false, subst, arith, rules}
-use Rattle.std.specs.List.{insert}
+use Rattle.std.specs.List.{insert as insert_at}
 use Rattle.std.specs.List.Sorted.{IsNonDecreasing}
 use Rattle.std.proofs.lemmas.List.Sorted.{IsPartitionPoint-from_clause, IsPartitionedBy-leb, IsNonDecreasingBy-insert}
-use Rattle.mud_lists.specs.Rising.{inserted}
+use Rattle.mud_lists.specs.Rising.{insert}
 use Rattle.mud_lists.proofs.Places.{placed}
 use Rattle.mud_lists.proofs.numbers.place_for.Goals as goal
 
@@ -18,7 +18,7 @@ returns c =
     → get_or xs k d ≤ n = λ k d before. leb-true _ _ (point.0 k d (omega arith) before) in
     let high : (k : ℕ) (d : ℕ) → i ≤ k → k < length xs
     → n < get_or xs k d = λ k d behind within. leb-false _ _ (point.1 k d behind within) in
-    let place : insert xs i n ≡ inserted n xs =
+    let place : insert_at xs i n ≡ insert n xs =
     placed n xs i c.partition_point.ensures.bound (λ k. low k 0) (λ k. high k 0) in
     record {
       within = c.partition_point.ensures.bound;

@@ -1,6 +1,7 @@
 use Rattle.std.proofs.Common.{◌≡◌, ◌++◌, ◌∷◌, [], List, ℕ, Result, Ok, Err, ap, sym, ◌∙◌}
 use Rattle.std.specs.Prelude.{OnOk, is_ok, if◌then◌else◌}
 use Rattle.std.specs.List.{flat_map}
+use Rattle.mud_nvt.specs.declared.codes.TheConstants.{LF, CR}
 use Rattle.mud_chron.proofs.Lined.{cut-at, line-whole}
 use Rattle.mud_session.specs.inner.Parts.{on_wire}
 use Rattle.mud_session.proofs.Widening.{line-more, line-wide}
@@ -19,9 +20,9 @@ loop-at-preserved c =
     let cut =
     cut-at c.loop-at.rest.now line ended c.in-Some.at c.in-Some.ensures c.split_at.ensures.front
     c.split_at.ensures.back in
-    let out : c.extend_from_slice-in-Some.new.self.items ≡ (c.loop-at.out.items ++ line) ++ 13 ∷ 10 ∷ [] =
+    let out : c.extend_from_slice-in-Some.new.self.items ≡ (c.loop-at.out.items ++ line) ++ CR ∷ LF ∷ [] =
     c.in_ok-extend_from_slice-2.ensures.items
-    ∙ ap (λ (x : List ℕ). x ++ 13 ∷ 10 ∷ []) c.in_ok-extend_from_slice.ensures.items in
+    ∙ ap (λ (x : List ℕ). x ++ CR ∷ LF ∷ []) c.in_ok-extend_from_slice.ensures.items in
     rw out (line-more c.loop-at.rest.now line ended c.loop-at.out.items cut.0 cut.1) ∙ c.loop-at.invariant
 
 pub returns : goal.returns

@@ -1,10 +1,10 @@
 use Rattle.std.proofs.Common.{◌≡◌, map, drop, string_bytes}
 use Rattle.std.specs.List.{find}
 use Rattle.mud_words.specs.Prepositions.{begins}
-use Rattle.mud_words.specs.inner.Searching.{shown}
+use Rattle.mud_words.specs.inner.Searching.{row_shown}
 use Rattle.mud_words.proofs.prepositions.first_said.Given as goal
 
 abbrev pub invariant-loop-prep : goal.invariant-loop-prep
 invariant-loop-prep l =
-    find (λ p. begins (map string_bytes l.words) p.words) (map shown (drop l.prep-index l.phrases))
-    ≡ find (λ p. begins (map string_bytes l.words) p.words) (map shown l.phrases)
+    find (λ p. begins (map string_bytes l.words) p.words) (map row_shown (drop l.prep-index l.phrases))
+    ≡ find (λ p. begins (map string_bytes l.words) p.words) (map row_shown l.phrases)

@@ -1,5 +1,5 @@
 use Rattle.std.proofs.Common.{string_bytes, map, ap, ◌∙◌, option_map, arith}
-use Rattle.mud_words.specs.inner.Searching.{shown, phrase_len}
+use Rattle.mud_words.specs.inner.Searching.{row_shown, phrase_len}
 use Rattle.mud_words.proofs.PrepositionLemmas.{nothing_begun, empty_begun, letter_begun}
 use Rattle.mud_words.proofs.prepositions.phrase_at.Goals as goal
 
@@ -18,6 +18,6 @@ returns-clause-value c =
     c.first_said.ensures.value
     ∙ ap (option_map phrase_len)
     (letter_begun string_bytes c.args.words.now c.word-item.result c.as_bytes.result.now c.to_ascii_lowercase.result
-    (map shown c.phrases_with.result.now)
+    (map row_shown c.phrases_with.result.now)
     (omega arith) c.word-item.is c.as_bytes.ensures.value (omega arith) c.to_ascii_lowercase.ensures.value
     c.phrases_with.ensures)

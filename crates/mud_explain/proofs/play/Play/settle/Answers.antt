@@ -1,6 +1,6 @@
 use Rattle.std.proofs.Common.{inl, inr, refl, rules, ◌≡◌, ◌++◌, ◌⊎◌, ℕ, List, length, string_bytes, Some}
 use Rattle.std.proofs.lemmas.Result.{on_ok_weaker}
-use Rattle.mud_hall.specs.Settling.{IsCloseFault, IsSettled, made}
+use Rattle.mud_hall.specs.Settling.{IsCloseFault, IsSettled, entries_made}
 use Rattle.mud_explain.specs.inner.Played.{Settles, GoesOn}
 use Rattle.mud_explain.specs.inner.Told.{settled_lines, unsettled_line}
 use Rattle.mud_explain.proofs.play.Play.settle.Goals as goal
@@ -8,11 +8,11 @@ use Rattle.mud_explain.proofs.play.Play.settle.Goals as goal
 pub returns-in-Ok : goal.returns-in-Ok
 returns-in-Ok g c =
     let settled : IsSettled g.J.HallName.loaded c.args.handed.items c.in-Ok.settled.history = search rules in
-    let accepted : c.in-Ok.settled.accepted ≡ length (made g.J.HallName.loaded c.in-Ok.settled.history)
+    let accepted : c.in-Ok.settled.accepted ≡ length (entries_made g.J.HallName.loaded c.in-Ok.settled.history)
     = search rules in
     let loaded : c.in-Ok.settled.loaded ≡ length g.J.HallName.loaded = search rules in
     let told : settled_lines c.in-Ok.settled.accepted c.in-Ok.settled.loaded c.in-Ok.settled.history
-    ≡ settled_lines (length (made g.J.HallName.loaded c.in-Ok.settled.history))
+    ≡ settled_lines (length (entries_made g.J.HallName.loaded c.in-Ok.settled.history))
     (length g.J.HallName.loaded) c.in-Ok.settled.history
     = rw accepted (rw loaded refl) in
     on_ok_weaker {Q = (told : List ℕ) × (string_bytes c.push_settled.new.out ≡ string_bytes c.args.out.now ++ told)

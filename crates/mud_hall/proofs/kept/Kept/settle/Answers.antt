@@ -6,7 +6,7 @@ use Rattle.mud_chron.specs.Entry.{Entry}
 use Rattle.mud_row.specs.Known.{Known}
 use Rattle.mud_hall.specs.declared.fault.CloseFault.{CloseFault}
 use Rattle.mud_hall.specs.Desk.{View}
-use Rattle.mud_hall.specs.Settling.{HasNumber, AreApart, IsSettled, versions_by, made}
+use Rattle.mud_hall.specs.Settling.{HasNumber, AreApart, IsSettled, versions_by, entries_made}
 use Rattle.mud_hall.specs.inner.Checking.{IsCheckFault}
 use Rattle.mud_hall.proofs.Checks.{fault_of}
 use Rattle.mud_hall.proofs.kept.Kept.settle.Goals as goal
@@ -16,17 +16,18 @@ not_longer : (n : ℕ) (loaded h : List Entry) → n ≡ length loaded → IsPre
 not_longer n loaded h count (more, is) = omega (arith, count, ap length is, length-append loaded more)
 
 -- as many were made as the whole is longer
-made_count : (n : ℕ) (loaded h : List Entry) → n ≡ length loaded → length h - n ≡ length (made loaded h)
+made_count : (n : ℕ) (loaded h : List Entry) → n ≡ length loaded → length h - n ≡ length (entries_made loaded h)
 made_count n loaded h count = omega (arith, count, length-drop (length loaded) h)
 
 -- what is checked is what was made, of the desks as they were handed in
 carried : (P : List View → ℕ → List Entry → Type 0) (loaded h new : List Entry) (n : ℕ) (ds was : List View)
-    → new ≡ drop n h → n ≡ length loaded → ds ≡ was → P ds (n + 1) new → P was (length loaded + 1) (made loaded h)
+    → new ≡ drop n h → n ≡ length loaded → ds ≡ was → P ds (n + 1) new
+    → P was (length loaded + 1) (entries_made loaded h)
 carried P loaded h new n ds was is count desks p =
-    let one : new ≡ made loaded h = is ∙ ap (λ (m : ℕ). drop m h) count in
+    let one : new ≡ entries_made loaded h = is ∙ ap (λ (m : ℕ). drop m h) count in
     let at_desks : P was (n + 1) new = subst (λ (xs : List View). P xs (n + 1) new) desks p in
-    let at_new : P was (n + 1) (made loaded h) = subst (λ (es : List Entry). P was (n + 1) es) one at_desks in
-    subst (λ (m : ℕ). P was (m + 1) (made loaded h)) count at_new
+    let at_new : P was (n + 1) (entries_made loaded h) = subst (λ (es : List Entry). P was (n + 1) es) one at_desks in
+    subst (λ (m : ℕ). P was (m + 1) (entries_made loaded h)) count at_new
 
 pub overflow_sub-accepted : goal.overflow_sub-accepted
 overflow_sub-accepted g c =
@@ -69,7 +70,7 @@ returns-clause-settled g c =
     let loaded : List Entry = g.J.HallName.loaded in
     let h : List Entry = c.in_ok-whole.whole.list in
     let ds : List View = c.args.desks.now.items in
-    let desks : c.deref.result.now ≡ ds = c.deref.ensures.value ∙ c.gathered.ensures.same in
+    let desks : c.deref.result.now ≡ ds = c.deref.ensures.value ∙ c.gather.ensures.same in
     let is : c.new-new.result ≡ drop c.args.loaded h =
     c.new-new.ensures ∙ ap (λ (k : Known). drop c.args.loaded k.list) c.in_ok-again.ensures.copy in
     let C : List View → ℕ → List Entry → Type 0 =
@@ -91,14 +92,14 @@ returns-clause-accepted g c =
     let whole : Known = c.in_ok-whole.whole in
     ap (λ (n : ℕ). n - c.args.loaded) c.known.ensures.known
     ∙ made_count c.args.loaded loaded whole.list c.requires.loaded
-    ∙ ap (λ (k : Known). length (made loaded k.list)) (sym c.again.ensures.same)
+    ∙ ap (λ (k : Known). length (entries_made loaded k.list)) (sym c.again.ensures.same)
 
 pub returns-in-Err-clause-fault : goal.returns-in-Err-clause-fault
 returns-in-Err-clause-fault g c =
     let loaded : List Entry = g.J.HallName.loaded in
     let h : List Entry = c.in_ok-whole.whole.list in
     let ds : List View = c.args.desks.now.items in
-    let desks : c.deref.result.now ≡ ds = c.deref.ensures.value ∙ c.gathered.ensures.same in
+    let desks : c.deref.result.now ≡ ds = c.deref.ensures.value ∙ c.gather.ensures.same in
     let is : c.new-new.result ≡ drop c.args.loaded h =
     c.new-new.ensures ∙ ap (λ (k : Known). drop c.args.loaded k.list) c.in_ok-again.ensures.copy in
     let f : CloseFault = c.in-Err.fault in

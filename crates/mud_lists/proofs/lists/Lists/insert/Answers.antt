@@ -3,7 +3,7 @@ use Rattle.std.specs.Prelude.{nat_eq}
 use Rattle.std.specs.Option.{unwrap_or}
 use Rattle.std.specs.Map.{lookup}
 use Rattle.std.proofs.lemmas.Result.{on_ok_weaker, on_err_weaker}
-use Rattle.mud_lists.specs.Rising.{inserted}
+use Rattle.mud_lists.specs.Rising.{insert}
 use Rattle.mud_lists.specs.Lists.{AreSame, AreChanged}
 use Rattle.mud_lists.proofs.Seen.{changed_seen, same_seen}
 use Rattle.mud_lists.proofs.lists.Lists.insert.Goals as goal
@@ -20,11 +20,11 @@ returns-in-Some-clause-ok c =
     let there = subst (λ (o : Option (List ℕ)). IsSome o) c.in-Some.ensures.value refl in
     on_ok_weaker c.insert.result
     (λ is.
-    subst (λ (v : List (ℕ × List ℕ)). AreChanged (λ n. nat_eq n c.args.holder) (inserted c.args.number) v es)
+    subst (λ (v : List (ℕ × List ℕ)). AreChanged (λ n. nat_eq n c.args.holder) (insert c.args.number) v es)
     c.self.view_is
-    (changed_seen c.self.inside.lists.entries es c.args.holder (inserted c.args.number) (Some new)
+    (changed_seen c.self.inside.lists.entries es c.args.holder (insert c.args.number) (Some new)
     ((c.get_mut.follows.holds new).3 there).0
-    (is ∙ ap (inserted c.args.number) (ap (λ o. unwrap_or o []) c.in-Some.ensures.value))))
+    (is ∙ ap (insert c.args.number) (ap (λ o. unwrap_or o []) c.in-Some.ensures.value))))
     c.insert.ensures.ok
 
 pub returns-in-Some-clause-err : goal.returns-in-Some-clause-err

@@ -1,5 +1,5 @@
 use Rattle.std.proofs.Common.{arith, sym, ◌∙◌, ap, ◌≡◌, ◌+◌, Some, slice_get, length}
-use Rattle.mud_world.specs.inner.Parts.{stepped}
+use Rattle.mud_world.specs.inner.Parts.{step_or_same}
 use Rattle.mud_row.proofs.Worlds.{world_at-next}
 use Rattle.mud_row.proofs.replica.Replica.step.Goals as goal
 
@@ -12,7 +12,7 @@ invariant_of-self-in-Some c =
     rw (list, at) (sym c.in-Some.ensures.entry) in (
       omega (arith, ap length list, at, c.in-Some.ensures.place),
       c.in_ok-take_in-in-Some.ensures.ok
-          ∙ (ap (λ w. stepped w c.in-Some.entry.now.change) c.self.invariant.1
+          ∙ (ap (λ w. step_or_same w c.in-Some.entry.now.change) c.self.invariant.1
           ∙ sym (world_at-next c.self.inside.pass.list c.self.inside.at c.in-Some.entry.now here)),
     )
 

@@ -1,4 +1,4 @@
--- The open rooms stay in order, and the counts stay right, where one slot gets another.
+-- The waiting rooms stay in order, and the counts stay right, where one slot gets another.
 use Rattle.std.proofs.Common.{◌≡◌, ℕ, ◌+◌, ◌-◌, ◌<◌, ◌≤◌, Bool, true, false, cond, List, Option, None, length, get_or}
 use Rattle.std.proofs.Common.{set, inl, inr, refl, sym, ◌∙◌, ap, arith, get_or-set_same, get_or-set_other, length-set}
 use Rattle.std.specs.Prelude.{count_by}
@@ -8,8 +8,8 @@ use Rattle.std.proofs.lemmas.List.Sums.{sum_by-set, get_or-le-sum_by}
 use Rattle.mud_roads.specs.declared.label.Label.{Label}
 use Rattle.mud_search.specs.declared.slot.Slot.{Slot}
 use Rattle.mud_search.specs.declared.slot.Slot.TheVariants.{Unknown}
-use Rattle.mud_search.specs.Slots.{is_open, is_held}
-use Rattle.mud_search.specs.Boards.{slot_at, open_label}
+use Rattle.mud_search.specs.Slots.{is_waiting, is_held}
+use Rattle.mud_search.specs.Boards.{slot_at, waiting_label}
 use Rattle.mud_search.proofs.board.Board.mark.Goals as goal
 use mir.Val.{bool_byte}
 
@@ -40,25 +40,25 @@ counted p slots room old v n before then within is count was now =
     omega arith
 
 in-order : (slots : List Slot) (order : List (Option Label)) (room : ℕ) (v : Slot) → room < length slots
-    → length order ≡ length slots → ((r : ℕ) → get_or order r None ≡ open_label (slot_at slots r))
-    → (r : ℕ) → get_or (set order room (open_label v)) r None ≡ open_label (slot_at (set slots room v) r)
+    → length order ≡ length slots → ((r : ℕ) → get_or order r None ≡ waiting_label (slot_at slots r))
+    → (r : ℕ) → get_or (set order room (waiting_label v)) r None ≡ waiting_label (slot_at (set slots room v) r)
 in-order slots order room v within whole before r =
     elim (cases_eq r room) [
       | inl same ↦
-          rw same (get_or-set_same order room (open_label v) None (omega arith)
-          ∙ ap open_label (sym (get_or-set_same slots room v Unknown within)))
+          rw same (get_or-set_same order room (waiting_label v) None (omega arith)
+          ∙ ap waiting_label (sym (get_or-set_same slots room v Unknown within)))
       | inr other ↦
-          get_or-set_other order room r (open_label v) None other ∙ before r
-          ∙ ap open_label (sym (get_or-set_other slots room r v Unknown other))
+          get_or-set_other order room r (waiting_label v) None other ∙ before r
+          ∙ ap waiting_label (sym (get_or-set_other slots room r v Unknown other))
     ]
 
 pub overflow_sub-self : goal.overflow_sub-self
 overflow_sub-self c =
     let slots = c.self.inside.slots.items in
     let within : c.args.room < length slots = omega (arith, ap length c.self.view_is) in
-    one-counted is_open slots c.args.room c.index.result.now c.self.inside.opened c.from.result within
-    (get_or_read slots c.args.room c.index.result.now within c.index.ensures Unknown) c.self.invariant.open_count
-    (c.from.ensures ∙ ap bool_byte c.is_open.ensures)
+    one-counted is_waiting slots c.args.room c.index.result.now c.self.inside.waiting c.from.result within
+    (get_or_read slots c.args.room c.index.result.now within c.index.ensures Unknown) c.self.invariant.waiting_count
+    (c.from.ensures ∙ ap bool_byte c.is_waiting.ensures)
 
 pub overflow_sub-self-2 : goal.overflow_sub-self-2
 overflow_sub-self-2 c =
@@ -77,18 +77,20 @@ invariant_of-self c =
     let within : c.args.room < length slots = omega (arith, ap length c.self.view_is) in
     let old : c.index.result.now ≡ slot_at slots c.args.room =
     get_or_read slots c.args.room c.index.result.now within c.index.ensures Unknown in
-    let order : c.set.new.self ≡ set c.self.inside.order c.args.room (open_label c.args.slot) =
-    c.set.ensures ∙ ap (λ o. set c.self.inside.order c.args.room o) c.open_label.ensures in
+    let order : c.set.new.self ≡ set c.self.inside.order c.args.room (waiting_label c.args.slot) =
+    c.set.ensures ∙ ap (λ o. set c.self.inside.order c.args.room o) c.waiting_label.ensures in
     let same : length (set slots c.args.room c.args.slot) ≡ length slots = length-set slots c.args.room c.args.slot in
     let whole = c.self.invariant.whole in
     record {
       few = rw same c.self.invariant.few;
-      whole = ap length order ∙ length-set c.self.inside.order c.args.room (open_label c.args.slot) ∙ whole ∙ sym same;
+      whole = ap length order ∙ length-set c.self.inside.order c.args.room (waiting_label c.args.slot) ∙ whole
+          ∙ sym same;
       ordered = λ r. ap (λ (o : List (Option Label)). get_or o r None) order
           ∙ in-order slots c.self.inside.order c.args.room c.args.slot within whole c.self.invariant.ordered r;
-      open_count = counted is_open slots c.args.room c.index.result.now c.args.slot c.self.inside.opened c.from.result
-          c.from-3.result within old c.self.invariant.open_count (c.from.ensures ∙ ap bool_byte c.is_open.ensures)
-          (c.from-3.ensures ∙ ap bool_byte c.is_open-2.ensures);
+      waiting_count = counted is_waiting slots c.args.room c.index.result.now c.args.slot c.self.inside.waiting
+          c.from.result c.from-3.result within old c.self.invariant.waiting_count
+          (c.from.ensures ∙ ap bool_byte c.is_waiting.ensures)
+          (c.from-3.ensures ∙ ap bool_byte c.is_waiting-2.ensures);
       held_count = counted is_held slots c.args.room c.index.result.now c.args.slot c.self.inside.held c.from-2.result
           c.from-4.result within old c.self.invariant.held_count (c.from-2.ensures ∙ ap bool_byte c.is_held.ensures)
           (c.from-4.ensures ∙ ap bool_byte c.is_held-2.ensures);

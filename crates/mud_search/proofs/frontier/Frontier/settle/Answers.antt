@@ -1,9 +1,10 @@
 use Rattle.std.proofs.Common.{◌≡◌, ◌<◌, ◌≤◌, List, [], length, set, sym, ◌∙◌, ap, subst, arith}
 use Rattle.std.proofs.lemmas.List.{get_or_read}
 use Rattle.std.specs.Prelude.{All}
+use Rattle.mud_world.specs.declared.limits.TheConstants.{MOST_COST}
 use Rattle.mud_roads.specs.declared.label.Step.{Step}
 use Rattle.mud_search.specs.declared.slot.Slot.{Slot}
-use Rattle.mud_search.specs.Boards.{label_at, settled, IsKept, board_of, slot_of, potential}
+use Rattle.mud_search.specs.Boards.{label_at, settle, IsKept, board_of, slot_of, potential}
 use Rattle.mud_search.specs.Tasks.{IsDone}
 use Rattle.mud_search.proofs.Frontiers.{put-bound, put-steps, put-kept, put-lighter, put-done}
 use Rattle.mud_search.proofs.frontier.Frontier.settle.Goals as goal
@@ -26,7 +27,7 @@ settle-requires-clause-steps g c =
     let h : m < length boards = omega (arith, c.self.inside.boards.ok.0) in
     let is : c.index_mut.result.now ≡ board_of boards m =
     get_or_read boards m c.index_mut.result.now h c.index_mut.ensures.value [] in
-    let P : List Slot → Type 0 = λ b. All (λ (s : Step). (s.to < length b) × (s.cost ≤ 10000)) c.args.steps.now in
+    let P : List Slot → Type 0 = λ b. All (λ (s : Step). (s.to < length b) × (s.cost ≤ MOST_COST)) c.args.steps.now in
     subst P (sym is)
     (put-steps g.J.Job.world g.J.Job.travellers boards c.self.invariant m c.args.task.now.room h
     c.args.steps.now c.requires.steps)
@@ -40,7 +41,7 @@ invariant_of-self g c =
     get_or_read boards m c.index_mut.result.now h c.index_mut.ensures.value [] in
     let P : List Slot → Type 0 = λ b. IsKept g.J.Job.world g.J.Job.travellers (set boards m b) in
     subst P (sym
-    (c.if-settle.ensures.done.1 ∙ ap (settled c.args.task.now.room c.args.task.now.label c.args.steps.now) is))
+    (c.if-settle.ensures.done.1 ∙ ap (settle c.args.task.now.room c.args.task.now.label c.args.steps.now) is))
     (put-kept g.J.Job.world g.J.Job.travellers boards c.self.invariant m c.args.task.now.room h c.args.steps.now
     c.requires.steps c.args.task.now.label
     (sym (ap (λ b. label_at b c.args.task.now.room) is) ∙ c.if-settle.ensures.done.0))
@@ -56,7 +57,7 @@ returns-then-settle-clause-less g c =
     rw (← c.self.view_is)
     (λ e. subst P
     (sym (c.if-settle.ensures.done.1
-    ∙ ap (settled c.args.task.now.room c.args.task.now.label c.args.steps.now) is))
+    ∙ ap (settle c.args.task.now.room c.args.task.now.label c.args.steps.now) is))
     (put-lighter g.J.Job.world g.J.Job.travellers boards c.self.invariant m c.args.task.now.room h c.args.steps.now
     c.requires.steps c.args.task.now.label e))
 
@@ -71,7 +72,7 @@ returns-then-settle-clause-done g c e =
     λ b. IsDone (slot_of boards) (slot_of (set boards m b)) c.args.task.now c.args.steps.now in
     rw (← c.self.view_is)
     (subst P (sym
-    (c.if-settle.ensures.done.1 ∙ ap (settled c.args.task.now.room c.args.task.now.label c.args.steps.now) is))
+    (c.if-settle.ensures.done.1 ∙ ap (settle c.args.task.now.room c.args.task.now.label c.args.steps.now) is))
     (put-done g.J.Job.world g.J.Job.travellers boards c.self.invariant m c.args.task.now.room h c.args.steps.now
     c.requires.steps c.args.task.now.label
     (sym (ap (λ b. label_at b c.args.task.now.room) is) ∙ c.if-settle.ensures.done.0)))

@@ -1,7 +1,7 @@
 use Rattle.std.proofs.Common.{List, ℕ, refl, sym, ap, subst, ◌∙◌, Global}
 use Rattle.mud_nvt.specs.declared.Unit.{Unit as CodeUnit}
 use Rattle.mud_nvt.specs.Units.{TooLong, Ayt, Answer}
-use Rattle.mud_nvt.specs.Shown.{shown}
+use Rattle.mud_nvt.specs.Shown.{unit_shown}
 use Rattle.mud_session.specs.inner.Turning.{sends, HasTurn}
 use Rattle.mud_session.proofs.Answering.{on_ok, rested}
 use Rattle.mud_session.proofs.session.Session.answer.Goals as goal
@@ -11,7 +11,7 @@ returns-in-TooLong-clause-turn g c =
     let s = c.args.self.now in
     let d = g.D.Door.state c.args.door.now in
     let new = c.send.new.self in
-    let P : CodeUnit Global → Type 0 = λ u. HasTurn g.D.Door.takes_in (shown u) s new d d in
+    let P : CodeUnit Global → Type 0 = λ u. HasTurn g.D.Door.takes_in (unit_shown u) s new d d in
     on_ok c.send.result (λ is goes. subst P (sym c.in-TooLong.is)
     (rested g.D.Door.takes_in TooLong s new d d goes refl is refl)) c.send.ensures
 
@@ -20,7 +20,7 @@ returns-in-Ayt-clause-turn g c =
     let s = c.args.self.now in
     let d = g.D.Door.state c.args.door.now in
     let new = c.send-in-Ayt.new.self in
-    let P : CodeUnit Global → Type 0 = λ u. HasTurn g.D.Door.takes_in (shown u) s new d d in
+    let P : CodeUnit Global → Type 0 = λ u. HasTurn g.D.Door.takes_in (unit_shown u) s new d d in
     on_ok c.send-in-Ayt.result (λ is goes. subst P (sym c.in-Ayt.is)
     (rested g.D.Door.takes_in Ayt s new d d goes refl is refl)) c.send-in-Ayt.ensures
 
@@ -29,7 +29,7 @@ returns-in-Answer-clause-turn g c =
     let s = c.args.self.now in
     let d = g.D.Door.state c.args.door.now in
     let new = c.send_bytes.new.self in
-    let P : CodeUnit Global → Type 0 = λ u. HasTurn g.D.Door.takes_in (shown u) s new d d in
+    let P : CodeUnit Global → Type 0 = λ u. HasTurn g.D.Door.takes_in (unit_shown u) s new d d in
     on_ok c.send_bytes.result (λ is goes. subst P (sym c.in-Answer.is)
     (rested g.D.Door.takes_in (Answer c.in-Answer.bytes) s new d d goes refl
     (is ∙ ap (λ (l : List ℕ). sends s l) c.as_slice.ensures) refl)) c.send_bytes.ensures

@@ -2,13 +2,13 @@ use Rattle.std.proofs.Common.{◌++◌, arith, sym, ap, subst, ◌∙◌}
 use Rattle.std.proofs.lemmas.List.{take_all}
 use Rattle.mud_nvt.specs.Shown.{all_shown}
 use Rattle.mud_nvt.specs.History.{StandsAfter}
-use Rattle.mud_session.specs.State.{State}
+use Rattle.mud_session.specs.State.{SessionState}
 use Rattle.mud_session.proofs.Taking.{SoFar-none, SoFar-more, Feeds-from}
 use Rattle.mud_session.proofs.session.Session.take_in.Goals as goal
 
 pub loop-unit-init : goal.loop-unit-init
 loop-unit-init g c =
-    SoFar-none g.D.Door.takes_in _ _ (ap (λ (s : State). s.has_ended) c.self.view_is ∙ c.requires)
+    SoFar-none g.D.Door.takes_in _ _ (ap (λ (s : SessionState). s.has_ended) c.self.view_is ∙ c.requires)
 
 pub loop-unit-preserved : goal.loop-unit-preserved
 loop-unit-preserved g c =
@@ -19,7 +19,7 @@ loop-unit-preserved g c =
 pub returns-clause-feeds : goal.returns-clause-feeds
 returns-clause-feeds g c = λ earlier stands.
     let took = c.in-Ok.ensures.ok in
-    let begun = subst (λ (s : State). StandsAfter s.terminal earlier) (sym c.self.view_is) stands in
+    let begun = subst (λ (s : SessionState). StandsAfter s.terminal earlier) (sym c.self.view_is) stands in
     let grows = took.grows earlier begun in
     Feeds-from g.D.Door.takes_in earlier c.args.bytes.now c.args.self.now
     (record { terminal = c.feed.new.self; has_ended = c.self.inside.has_ended; out = c.self.inside.out.items })
@@ -29,4 +29,4 @@ returns-clause-feeds g c = λ earlier stands.
     ∙ c.deref-unit-items.ensures.value) ∙ grows.1
     ∙ ap (λ l. all_shown l ++ grows.0) c.new-units.ensures.items)
     c.requires
-    (ap (λ (s : State). s.out) c.self.view_is) c.loop-unit.invariant
+    (ap (λ (s : SessionState). s.out) c.self.view_is) c.loop-unit.invariant

@@ -4,8 +4,8 @@ use Rattle.mud_session.specs.Laws.{NamesSeen}
 use Rattle.mud_talk.proofs.Naming.{fed}
 use Rattle.mud_talk.proofs.telnet_talk.TelnetTalk.feed.Goals as goal
 
-pub told-requires : goal.told-requires
-told-requires g c =
+pub step_done-requires : goal.step_done-requires
+step_done-requires g c =
     let session = c.args.self.session in
     let names =
     subst (λ d. ∥ (session.has_ended ≡ false → NamesSeen session d) ∥₁)

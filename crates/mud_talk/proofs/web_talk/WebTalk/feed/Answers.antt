@@ -4,8 +4,8 @@ use Rattle.mud_session.specs.State.{DoorState}
 use Rattle.mud_talk.proofs.Leaving.{Sits, fed}
 use Rattle.mud_talk.proofs.web_talk.WebTalk.feed.Goals as goal
 
-pub told-requires-clause-sits : goal.told-requires-clause-sits
-told-requires-clause-sits g c =
+pub step_done-requires-clause-sits : goal.step_done-requires-clause-sits
+step_done-requires-clause-sits g c =
     let names =
     subst (Sits c.args.self.web) (sym (ap (λ (s : DoorState). s.desk) c.new-seat.ensures)) c.args.self.sits in
     let going = sym c.ended.ensures ∙ c.if-ended.false in
@@ -15,8 +15,8 @@ told-requires-clause-sits g c =
     c.new-out.result.items c.answer.new.out.items names going c.new-out.ensures.items c.in-Ok.ensures.ok in
     ∥∥₁_map done (λ d. d.0)
 
-pub told-requires-clause-leaves : goal.told-requires-clause-leaves
-told-requires-clause-leaves g c =
+pub step_done-requires-clause-leaves : goal.step_done-requires-clause-leaves
+step_done-requires-clause-leaves g c =
     let names =
     subst (Sits c.args.self.web) (sym (ap (λ (s : DoorState). s.desk) c.new-seat.ensures)) c.args.self.sits in
     let going = sym c.ended.ensures ∙ c.if-ended.false in

@@ -1,6 +1,6 @@
 use Rattle.std.proofs.Common.{◌∙◌, arith, ap, sym, refl, is_some, not}
 use Rattle.mud_world.specs.State.{nests}
-use Rattle.mud_world.specs.inner.Parts.{locked}
+use Rattle.mud_world.specs.inner.Parts.{with_lock}
 use Rattle.mud_world.proofs.Records.{record_cases}
 use Rattle.std.proofs.lemmas.Bool.{true≢false}
 use Rattle.mud_world.specs.State.{record_at}
@@ -22,7 +22,7 @@ returns-then-nests_with c =
     let key = c.args.key.now in
     let it = found w n (sym c.exists.ensures ∙ c.if-not-exists.false) in
     sym (nest-plain w c.is_sound.ensures n it.0 it.1 key
-    (ap (nests (locked w n key) 0) (sym c.node-node.ensures.node) ∙ sym c.nests_with.ensures
+    (ap (nests (with_lock w n key) 0) (sym c.node-node.ensures.node) ∙ sym c.nests_with.ensures
     ∙ c.if-nests_with.true))
 
 pub returns-then-nests_with-2 : goal.returns-then-nests_with-2
@@ -33,8 +33,10 @@ returns-then-nests_with-2 c =
     let it = found w n (sym c.exists.ensures ∙ c.if-not-exists.false) in
     ap not c.climbs.ensures
     ∙ sym (nest-exactly w c.is_sound.ensures n it.0 it.1 key 0 3 (omega arith) refl
-    (ap (nests (locked w n key) 1) (sym c.node-node.ensures.node) ∙ sym c.nests_with-2.ensures ∙ c.if-nests_with-2.true)
-    (ap (nests (locked w n key) 0) (sym c.node-node.ensures.node) ∙ sym c.nests_with.ensures ∙ c.if-nests_with.false))
+    (ap (nests (with_lock w n key) 1) (sym c.node-node.ensures.node) ∙ sym c.nests_with-2.ensures
+    ∙ c.if-nests_with-2.true)
+    (ap (nests (with_lock w n key) 0) (sym c.node-node.ensures.node) ∙ sym c.nests_with.ensures
+    ∙ c.if-nests_with.false))
 
 pub returns-then-nests_with-3 : goal.returns-then-nests_with-3
 returns-then-nests_with-3 c =
@@ -44,8 +46,9 @@ returns-then-nests_with-3 c =
     let it = found w n (sym c.exists.ensures ∙ c.if-not-exists.false) in
     ap not c.climbs-then-nests_with-3.ensures
     ∙ sym (nest-exactly w c.is_sound.ensures n it.0 it.1 key 1 2 (omega arith) refl
-    (ap (nests (locked w n key) 2) (sym c.node-node.ensures.node) ∙ sym c.nests_with-3.ensures ∙ c.if-nests_with-3.true)
-    (ap (nests (locked w n key) 1) (sym c.node-node.ensures.node) ∙ sym c.nests_with-2.ensures
+    (ap (nests (with_lock w n key) 2) (sym c.node-node.ensures.node) ∙ sym c.nests_with-3.ensures
+    ∙ c.if-nests_with-3.true)
+    (ap (nests (with_lock w n key) 1) (sym c.node-node.ensures.node) ∙ sym c.nests_with-2.ensures
     ∙ c.if-nests_with-2.false))
 
 pub returns-then-nests_with-4 : goal.returns-then-nests_with-4
@@ -56,8 +59,9 @@ returns-then-nests_with-4 c =
     let it = found w n (sym c.exists.ensures ∙ c.if-not-exists.false) in
     ap not c.climbs-then-nests_with-4.ensures
     ∙ sym (nest-exactly w c.is_sound.ensures n it.0 it.1 key 2 1 (omega arith) refl
-    (ap (nests (locked w n key) 3) (sym c.node-node.ensures.node) ∙ sym c.nests_with-4.ensures ∙ c.if-nests_with-4.true)
-    (ap (nests (locked w n key) 2) (sym c.node-node.ensures.node) ∙ sym c.nests_with-3.ensures
+    (ap (nests (with_lock w n key) 3) (sym c.node-node.ensures.node) ∙ sym c.nests_with-4.ensures
+    ∙ c.if-nests_with-4.true)
+    (ap (nests (with_lock w n key) 2) (sym c.node-node.ensures.node) ∙ sym c.nests_with-3.ensures
     ∙ c.if-nests_with-3.false))
 
 pub returns : goal.returns
@@ -67,5 +71,5 @@ returns c =
     let key = c.args.key.now in
     let it = found w n (sym c.exists.ensures ∙ c.if-not-exists.false) in
     sym (nest-without w c.is_sound.ensures n it.0 it.1 key 3 (omega arith)
-    (ap (nests (locked w n key) 3) (sym c.node-node.ensures.node) ∙ sym c.nests_with-4.ensures
+    (ap (nests (with_lock w n key) 3) (sym c.node-node.ensures.node) ∙ sym c.nests_with-4.ensures
     ∙ c.if-nests_with-4.false) refl)

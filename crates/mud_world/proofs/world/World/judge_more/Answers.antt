@@ -5,7 +5,7 @@ use Rattle.std.specs.Option.{option_map_or}
 use Rattle.std.specs.List.{list_any}
 use Rattle.mud_world.specs.State.{has}
 use Rattle.mud_world.specs.Truth.{key_true}
-use Rattle.mud_world.specs.inner.Answers.{written}
+use Rattle.mud_world.specs.inner.Answers.{answers_with}
 use Rattle.mud_world.proofs.Written.{written-anew}
 use Rattle.mud_world.proofs.world.World.judge_more.Goals as goal
 
@@ -15,9 +15,9 @@ returns c = λ o.
     let test = key_true (λ a. list_any (nat_eq a) c.args.holding.now) (λ o. get_or c.args.before.now o false) in
     let new = λ (k : ℕ). has c.args.self.now k (λ r. option_map_or test r.key true) in
     let answers = c.loop-object.answers.items in
-    let done : written new plain.locked.items plain.answers.items ≡ answers =
+    let done : answers_with new plain.locked.items plain.answers.items ≡ answers =
     sym c.loop-object.invariant
-    ∙ ap (λ (left : List ℕ). written new left answers)
+    ∙ ap (λ (left : List ℕ). answers_with new left answers)
     (drop_all c.loop-object.object-index plain.locked.items (omega (arith, c.loop-object-test.false))) in
     sym (ap (λ l. get_or l o false) done)
     ∙ written-anew c.args.self.now c.is_sound.ensures plain.answers.items plain.locked.items c.requires test o

@@ -4,7 +4,7 @@ use Rattle.std.specs.Option.{option_map_or}
 use Rattle.std.specs.List.{list_any}
 use Rattle.mud_world.specs.State.{has}
 use Rattle.mud_world.specs.Truth.{key_true}
-use Rattle.mud_world.specs.inner.Answers.{written}
+use Rattle.mud_world.specs.inner.Answers.{answers_with}
 use Rattle.mud_world.proofs.world.World.judge_more.Given as goal
 
 -- what is left is written over what there is
@@ -14,5 +14,5 @@ invariant-loop-object l =
     λ (k : ℕ). has l.self k
     (λ r. option_map_or (key_true (λ a. list_any (nat_eq a) l.holding) (λ o. get_or l.before o false)) r.key true)
     in
-    written new (drop l.object-index l.plain.locked.items) l.answers.items
-    ≡ written new l.plain.locked.items l.plain.answers.items
+    answers_with new (drop l.object-index l.plain.locked.items) l.answers.items
+    ≡ answers_with new l.plain.locked.items l.plain.answers.items

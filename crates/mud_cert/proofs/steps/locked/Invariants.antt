@@ -1,8 +1,0 @@
-use Rattle.std.proofs.Common.{◌≡◌, ◌+◌, ℕ, drop}
-use Rattle.mud_world.specs.State.{IsHolding}
-use Rattle.mud_cert.specs.inner.Tests.{locked}
-use Rattle.mud_cert.proofs.steps.locked.Given as goal
-
-abbrev pub invariant-loop-i : goal.invariant-loop-i
-invariant-loop-i l =
-    (p : ℕ) → IsHolding l.world p l.holding → locked l.world p (l.i + 1) (drop l.i l.walk) ≡ locked l.world p 1 l.walk

@@ -1,0 +1,39 @@
+//! The hall that steps are played in.
+
+ghost use Rattle.std.specs.Prelude.{◌≤◌};
+ghost use Rattle.mud_chron.specs.declared.limits.TheConstants.{MOST_ENTRIES};
+
+use mud_chron::Entry;
+use mud_command::Opening;
+use mud_hall::NewHall;
+use mud_load::{Unloaded, load};
+use std::alloc::Global;
+use std::rt::Files;
+
+// A hall that goes on from these entries.
+fn resume_hall(alloc: Global, capacity: u32, entries: Vec<Entry>) -> Result<NewHall, Unloaded>
+    requires from { 1 ≤ capacity }
+    requires to { capacity ≤ MOST_ENTRIES }
+{
+    match NewHall::resume(alloc, capacity, entries) {
+        Ok(hall) => Ok(hall),
+        Err(fault) => Err(Unloaded::of_entries(&fault)),
+    }
+}
+
+/// The hall that was asked for. The file is read first, then its text; then the hall goes on from it.
+pub(crate) fn open_hall<R: Files + AllocGlobal>(
+    rt: &R,
+    opening: Opening<'_>,
+) -> Result<NewHall, Unloaded>
+    requires from { 1 ≤ opening.capacity }
+    requires to { opening.capacity ≤ MOST_ENTRIES }
+{
+    match opening.load {
+        Some(name) => resume_hall(rt.alloc(), opening.capacity, load(rt, name)?),
+        None => match NewHall::open(rt.alloc(), opening.capacity) {
+            Ok(hall) => Ok(hall),
+            Err(_) => Err(Unloaded::OutOfMemory),
+        },
+    }
+}

@@ -1,0 +1,83 @@
+//! Who goes which way.
+
+ghost use Rattle.std.specs.Prelude.{IfOk, IsTrue};
+ghost use Rattle.std.specs.Option.{ForSome};
+ghost use Rattle.std.specs.List.{AllZip};
+ghost use Rattle.mud_world.specs.State.{is_room};
+ghost use Rattle.mud_roads.specs.Open.{IsTraveller, roads_of};
+ghost use Rattle.mud_search.specs.Least.{label_in};
+ghost use Rattle.mud_guide.specs.inner.Arrivals.{Labelled};
+ghost use Rattle.mud_guide.specs.Legs.{IsJourney};
+ghost use Rattle.mud_guide.specs.inner.Parts.{AreMembers};
+
+use crate::routing::way_to;
+use crate::way::Way;
+use mud_roads::Traveller;
+use mud_search::Labels;
+use mud_world::World;
+use std::alloc::{AllocError, Global};
+use std::marker::Model;
+
+/// Who goes, from which room, and which way; none where no walk leads, or there is nowhere to go.
+#[derive(Drop)]
+pub(crate) struct Leg {
+    pub(crate) player: u32,
+    pub(crate) from: u32,
+    pub(crate) way: Option<Way>,
+}
+
+impl Model for Leg {
+    ghost use Rattle.mud_guide.specs.Legs.{Leg};
+
+    ghost Value = { Leg };
+
+    ghost view = { λ j. record { player = j.player; from = j.from; way = j.way } };
+}
+
+/// The journey of a member to a room, if there is one to go to.
+pub(crate) fn journey_to(
+    alloc: Global,
+    world: &World,
+    traveller: &Traveller,
+    labels: &Labels,
+    member: usize,
+    to: Option<u32>,
+) -> Result<Leg, AllocError>
+    requires traveller { IsTraveller world.now traveller.now }
+    requires room { ForSome to (λ room. IsTrue (is_room world.now room)) }
+    requires least { Labelled (roads_of world.now traveller.now.player) traveller.now.place
+        (label_in labels.now member) }
+    ensures { IfOk result (IsJourney world.now to traveller.now.player) }
+{
+    let way = match to {
+        Some(room) => way_to(alloc, world, traveller, labels, member, room)?,
+        None => None,
+    };
+    Ok(Leg {
+        player: traveller.player(),
+        from: traveller.place(),
+        way,
+    })
+}
+
+/// The journeys of all members to a room, if there is one to go to. The members are those from a
+/// number on.
+pub(crate) fn journeys_to(
+    alloc: Global,
+    world: &World,
+    travellers: &[Traveller],
+    labels: &Labels,
+    first: usize,
+    to: Option<u32>,
+) -> Result<Vec<Leg>, AllocError>
+    requires members { AreMembers world.now (label_in labels.now) first travellers.now }
+    requires room { ForSome to (λ room. IsTrue (is_room world.now room)) }
+    ensures { IfOk result (λ js. AllZip (λ t j. IsJourney world.now to t.player j) travellers.now js.items) }
+{
+    let mut journeys = Vec::with_capacity(alloc, travellers.len())?;
+    for member in 0..travellers.len() {
+        let traveller = &travellers[member];
+        journeys.push(journey_to(alloc, world, traveller, labels, first + member, to)?)?;
+    }
+    Ok(journeys)
+}

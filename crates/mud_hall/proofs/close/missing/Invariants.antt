@@ -1,6 +1,0 @@
-use Rattle.std.proofs.Common.{◌<◌, ◌+◌, ℕ}
-use Rattle.mud_hall.specs.Settling.{HasNumber}
-use Rattle.mud_hall.proofs.close.missing.Given as goal
-
-abbrev pub invariant-loop-n : goal.invariant-loop-n
-invariant-loop-n g l = (k : ℕ) → k < l.n → HasNumber l.desks (k + 1)

@@ -10,6 +10,7 @@ use mud_wire::Entrance;
 use std::io::{Error, ErrorKind};
 use std::net::{SocketAddr, TcpListener, TcpStream};
 use std::sync::Wait;
+use std::time::Duration;
 
 // How long a listener is left alone after a fault, such as too many open files.
 const REST_MILLISECONDS: u64 = 100;
@@ -81,7 +82,7 @@ impl Arrivals {
             return Some(Entrance::Telnet);
         };
         let Some(ready) = wait_for_either(&self.telnet, web) else {
-            rest(rt, REST_MILLISECONDS);
+            rest(rt, Duration::from_millis(REST_MILLISECONDS));
             return None;
         };
         let entrance = ready.turn(self.is_web_next)?;
@@ -124,6 +125,6 @@ impl Arrivals {
             warn!(rt; "no connection can be taken for now: {error}");
             self.is_failing = true;
         }
-        rest(rt, REST_MILLISECONDS);
+        rest(rt, Duration::from_millis(REST_MILLISECONDS));
     }
 }

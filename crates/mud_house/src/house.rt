@@ -37,8 +37,8 @@ pub struct Bells {
 }
 
 /// A hall, the places for its sessions, their bells, who has no session yet, what the server keeps to, how far the
-/// journal is synced, how many sessions became a player's, whether all are to end, and whether the host was warned that
-/// the history is nearly full.
+/// journal is synced, how many places are taken, how many sessions became a player's, whether all are to end, and
+/// whether the host was warned that the history is nearly full.
 #[derive(Drop)]
 pub struct House<H, D, B> {
     pub hall: H,
@@ -47,6 +47,7 @@ pub struct House<H, D, B> {
     pub lobby: Lobby,
     pub limits: Limits,
     pub gate: Gate,
+    taken: AtomicU32,
     players: AtomicU32,
     stops: AtomicBool,
     was_warned: AtomicBool,
@@ -74,6 +75,11 @@ fn silent_bells(alloc: Global, sessions: u32) -> Result<Bells, AllocError> {
 }
 
 impl<H, D, B> House<H, D, B> {
+    /// How many places are taken.
+    pub fn sessions(&self) -> u32 {
+        self.taken.load(Ordering::SeqCst)
+    }
+
     /// A session became a player's.
     pub fn count_player(&self) {
         self.players.fetch_add(1, Ordering::SeqCst);
@@ -129,6 +135,7 @@ impl<J: HallName> House<Hall<J>, Places<J>, Bells> {
             lobby: Lobby::new(alloc, site)?,
             limits,
             gate,
+            taken: AtomicU32::new(0),
             players: AtomicU32::new(0),
             stops: AtomicBool::new(false),
             was_warned: AtomicBool::new(false),
@@ -145,6 +152,7 @@ impl<J: HallName> House<Hall<J>, Places<J>, Bells> {
             let mut place = place.lock(rt);
             if place.address().is_none() {
                 place.take(address);
+                self.taken.fetch_add(1, Ordering::SeqCst);
                 return Ok(at);
             }
         }
@@ -248,6 +256,7 @@ impl<J: HallName> House<Hall<J>, Places<J>, Bells> {
         }
         if let Some(place) = self.places.list.get(at) {
             place.lock(rt).free();
+            self.taken.fetch_sub(1, Ordering::SeqCst);
         }
     }
 
@@ -262,6 +271,7 @@ impl<J: HallName> House<Hall<J>, Places<J>, Bells> {
             lobby: _,
             limits: _,
             gate: _,
+            taken: _,
             players: _,
             stops: _,
             was_warned: _,

@@ -5,6 +5,7 @@ use mud_hall::HallName;
 use mud_house::{StopSign, rest};
 use mud_wire::Ending;
 use std::sync::Wait;
+use std::time::Duration;
 
 // How long the server waits between two looks at its sessions.
 const LOOK_MILLISECONDS: u64 = 50;
@@ -47,7 +48,7 @@ fn wait_for_ending<J: HallName, R: Wait>(
         if is_empty(rt, house) {
             return None;
         }
-        rest(rt, LOOK_MILLISECONDS);
+        rest(rt, Duration::from_millis(LOOK_MILLISECONDS));
     }
     unreachable!()
 }
@@ -59,7 +60,7 @@ fn shut_late<J: HallName, R: Wait>(rt: &R, house: &HouseOf<J>, ending: Ending) {
         if is_empty(rt, house) {
             return;
         }
-        rest(rt, LOOK_MILLISECONDS);
+        rest(rt, Duration::from_millis(LOOK_MILLISECONDS));
     }
     house.shut_all(rt, ending);
 }

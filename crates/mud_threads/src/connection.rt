@@ -8,7 +8,7 @@ use mud_wire::{Ending, Entrance, Parting, Wire};
 use std::alloc::Global;
 use std::sync::atomic::{AtomicBool, Ordering};
 use std::sync::{Arc, Mutex, Wait};
-use std::time::Clock;
+use std::time::{Clock, Duration};
 
 /// The house of the hall that `J` names.
 pub type HouseOf<J> = House<Hall<J>, Places<J>, Bells>;
@@ -144,7 +144,7 @@ impl<J: HallName> Connection<J> {
                 self.close(rt, &mut guard, parting);
                 return;
             }
-            rest(rt, CLOSE_MILLISECONDS);
+            rest(rt, Duration::from_millis(CLOSE_MILLISECONDS));
         }
     }
 

@@ -6,15 +6,22 @@ use mud_hall::HallName;
 use mud_house::rest;
 use mud_wire::Parting;
 use std::sync::Wait;
-use std::time::Clock;
+use std::time::{Clock, Duration};
 
-// How long it rests after each look at what others did.
-const REST_MILLISECONDS: u64 = 1;
+// With this many sessions or more it rests longest after each look at what others did.
+const MOST_BUSY: u32 = 32;
 
 /// What a notice thread sleeps on until a bell wakes it.
 #[derive(Drop)]
 pub(crate) struct Sleeper {
     pub(crate) parker: Parker,
+}
+
+// How long it rests after a look: in microseconds the square of how many sessions there are. Each wakes all the others,
+// so that is how the wake-ups grow.
+fn pause<J: HallName>(house: &HouseOf<J>) -> Duration {
+    let busy = u64::from(house.sessions().min(MOST_BUSY));
+    Duration::from_micros(busy * busy)
 }
 
 // Waits while the player's own lines bring him what others did, which saves a text of its own: until none was answered
@@ -28,7 +35,7 @@ fn leave_to_reader<J: HallName, R: Wait + Clock>(
         if !connection.was_answered() || house.ending(rt).is_some() {
             return;
         }
-        rest(rt, REST_MILLISECONDS);
+        rest(rt, pause(house));
     }
 }
 
@@ -56,7 +63,7 @@ pub(crate) fn tell_all<J: HallName, R: Wait + Clock>(
             connection.part(rt, Parting::Left);
             break;
         }
-        rest(rt, REST_MILLISECONDS);
+        rest(rt, pause(house));
     }
     connection.wire().shut();
 }

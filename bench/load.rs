@@ -5,8 +5,7 @@
 //! milliseconds that half of the replies and 99 of 100 stay below; and the same of the notices, from when the line was
 //! sent.
 
-use std::collections::HashMap;
-use std::io::{self, Read, Write};
+use std::io::{self, BufRead, Read, Write};
 use std::net::TcpStream;
 use std::os::fd::AsRawFd;
 use std::time::{Duration, Instant};
@@ -28,6 +27,8 @@ const TCP_QUICKACK: i32 = 12;
 
 const READABLE: i16 = 1;
 const PATIENCE: i32 = 20_000;
+/// So many bytes there is room for at once; more where they are all taken.
+const ROOM: usize = 65_536;
 /// What a client sends over and over; `say` gets a text of its own each time.
 const ROUND: [&str; 8] = ["look", "say", "north", "inventory", "@version", "say", "south", "look"];
 const SAID: &str = "number ";
@@ -53,10 +54,10 @@ impl Dialect {
     }
 
     /// Whether a line is the end of what is answered to a line that was sent.
-    fn is_answer(self, line: &str) -> bool {
+    fn is_answer(self, line: &[u8]) -> bool {
         match self {
-            Dialect::Seamountcup | Dialect::Web => line.starts_with('[') || line == "(history full)",
-            Dialect::Mux => line == "[end]",
+            Dialect::Seamountcup | Dialect::Web => line.starts_with(b"[") || line == b"(history full)",
+            Dialect::Mux => line == b"[end]",
         }
     }
 
@@ -97,20 +98,89 @@ fn payload(frames: &[u8]) -> Option<(usize, usize)> {
     (from + length <= frames.len()).then_some((from, from + length))
 }
 
-/// What was measured.
+/// What has come and was not taken yet: a text of so many bytes, and behind it, on the web, the beginning of a frame.
+/// The room for it is kept, and no byte of it is cleared or copied without need: the clients are to take little.
+struct Inbox {
+    room: Vec<u8>,
+    text: usize,
+    filled: usize,
+}
+
+impl Inbox {
+    fn new() -> Inbox {
+        Inbox { room: vec![0; ROOM], text: 0, filled: 0 }
+    }
+
+    /// Reads what has come; waits for some bytes.
+    fn read(&mut self, stream: &mut TcpStream, dialect: Dialect) -> io::Result<()> {
+        if self.filled == self.room.len() {
+            self.room.resize(self.filled + ROOM, 0);
+        }
+        let count = stream.read(&mut self.room[self.filled..])?;
+        if count == 0 {
+            return Err(io::ErrorKind::UnexpectedEof.into());
+        }
+        self.filled += count;
+        match dialect {
+            Dialect::Web => self.unwrap_frames(),
+            _ => self.text = self.filled,
+        }
+        Ok(())
+    }
+
+    /// Has the payload of each whole frame be text.
+    fn unwrap_frames(&mut self) {
+        let mut at = self.text;
+        while let Some((from, to)) = payload(&self.room[at..self.filled]) {
+            self.room.copy_within(at + from..at + to, self.text);
+            self.text += to - from;
+            at += to;
+        }
+        self.room.copy_within(at..self.filled, self.text);
+        self.filled -= at - self.text;
+    }
+
+    /// Has each whole line of the text looked at where it stands, and takes them away.
+    fn take_lines(&mut self, look: impl FnMut(&[u8])) {
+        let mut lines = Lines { rest: &self.room[..self.text] };
+        lines.by_ref().for_each(look);
+        let taken = self.text - lines.rest.len();
+        self.room.copy_within(taken..self.filled, 0);
+        self.text -= taken;
+        self.filled -= taken;
+    }
+}
+
+/// The lines of a text without their ends. What has no end yet is left over.
+struct Lines<'a> {
+    rest: &'a [u8],
+}
+
+impl<'a> Iterator for Lines<'a> {
+    type Item = &'a [u8];
+
+    fn next(&mut self) -> Option<&'a [u8]> {
+        let mut behind = self.rest;
+        let length = behind.skip_until(b'\n').ok()?;
+        let line = self.rest[..length].strip_suffix(b"\n")?;
+        self.rest = behind;
+        Some(line.strip_suffix(b"\r").unwrap_or(line))
+    }
+}
+
+/// What was measured, and when each text was sent that is said.
 #[derive(Default)]
 struct Times {
     replies: Vec<Duration>,
     notices: Vec<Duration>,
     lines_read: usize,
-    said: HashMap<usize, Instant>,
+    said: Vec<Instant>,
 }
 
 struct Client {
     stream: TcpStream,
     dialect: Dialect,
-    frames: Vec<u8>,
-    kept: Vec<u8>,
+    inbox: Inbox,
     sent_at: Instant,
     is_waiting: bool,
     left: usize,
@@ -122,8 +192,8 @@ impl Client {
         let stream = TcpStream::connect(("127.0.0.1", port))?;
         stream.set_nodelay(true)?;
         stream.set_read_timeout(Some(Duration::from_secs(20)))?;
-        let (frames, kept, sent_at) = (Vec::new(), Vec::new(), Instant::now());
-        let mut client = Client { stream, dialect, frames, kept, sent_at, is_waiting: false, left: lines, at };
+        let (inbox, sent_at) = (Inbox::new(), Instant::now());
+        let mut client = Client { stream, dialect, inbox, sent_at, is_waiting: false, left: lines, at };
         if dialect == Dialect::Web {
             client.upgrade(port)?;
         }
@@ -157,46 +227,37 @@ impl Client {
         unsafe { setsockopt(self.stream.as_raw_fd(), IPPROTO_TCP, TCP_QUICKACK, &1, 4) };
     }
 
-    /// The lines that have come; waits for some bytes.
-    fn lines(&mut self) -> io::Result<Vec<String>> {
-        let mut buffer = [0; 65_536];
-        let count = self.stream.read(&mut buffer)?;
+    /// Reads what has come; waits for some bytes.
+    fn read(&mut self) -> io::Result<()> {
+        self.inbox.read(&mut self.stream, self.dialect)?;
         self.hurry();
-        if count == 0 {
-            return Err(io::ErrorKind::UnexpectedEof.into());
-        }
-        self.keep(&buffer[..count]);
-        let Some(end) = self.kept.iter().rposition(|byte| *byte == b'\n') else {
-            return Ok(Vec::new());
-        };
-        let whole: Vec<u8> = self.kept.drain(..=end).collect();
-        let text = String::from_utf8_lossy(&whole).into_owned();
-        Ok(text.lines().map(str::to_string).collect())
+        Ok(())
     }
 
-    /// Keeps the text that has come.
-    fn keep(&mut self, some: &[u8]) {
-        if self.dialect != Dialect::Web {
-            return self.kept.extend_from_slice(some);
+    /// Reads until such a line has come, before anything is measured.
+    fn read_until(&mut self, is_last: impl Fn(&[u8]) -> bool) -> io::Result<()> {
+        let mut has_come = false;
+        while !has_come {
+            self.read()?;
+            self.inbox.take_lines(|line| has_come |= is_last(line));
         }
-        self.frames.extend_from_slice(some);
-        while let Some((from, to)) = payload(&self.frames) {
-            self.kept.extend_from_slice(&self.frames[from..to]);
-            self.frames.drain(..to);
-        }
+        Ok(())
     }
 
     /// Takes what has come unasked.
     fn drain(&mut self) -> io::Result<()> {
         self.stream.set_nonblocking(true)?;
-        while self.lines().is_ok() {}
+        while self.read().is_ok() {
+            self.inbox.take_lines(|_| ());
+        }
         self.stream.set_nonblocking(false)
     }
 
     /// Sends a line and waits until it is answered, before anything is measured.
     fn ask(&mut self, line: &str) -> io::Result<()> {
+        let dialect = self.dialect;
         self.send(line)?;
-        while !self.lines()?.iter().any(|line| self.dialect.is_answer(line)) {}
+        self.read_until(|line| dialect.is_answer(line))?;
         self.is_waiting = false;
         Ok(())
     }
@@ -212,22 +273,24 @@ impl Client {
         self.at += 1;
         self.send(&line)?;
         if line.contains(SAID) {
-            times.said.insert(number, self.sent_at);
+            times.said.push(self.sent_at);
         }
         Ok(())
     }
 
     /// Takes what has come.
     fn take(&mut self, times: &mut Times) -> io::Result<()> {
-        let lines = self.lines()?;
-        let now = Instant::now();
-        times.lines_read += lines.len();
-        for line in &lines {
-            if let Some(sent_at) = told(line).and_then(|number| times.said.get(&number)) {
+        self.read()?;
+        let (now, dialect) = (Instant::now(), self.dialect);
+        let mut is_answered = false;
+        self.inbox.take_lines(|line| {
+            times.lines_read += 1;
+            if let Some(sent_at) = told(line).and_then(|number| times.said.get(number)) {
                 times.notices.push(now - *sent_at);
             }
-        }
-        if self.is_waiting && lines.iter().any(|line| self.dialect.is_answer(line)) {
+            is_answered |= dialect.is_answer(line);
+        });
+        if self.is_waiting && is_answered {
             times.replies.push(now - self.sent_at);
             self.is_waiting = false;
             self.go_on(times)?;
@@ -236,13 +299,15 @@ impl Client {
     }
 }
 
-/// The number of what another said, where the line tells that.
-fn told(line: &str) -> Option<usize> {
-    let (before, behind) = line.split_once(SAID)?;
-    if before.starts_with("You ") {
+/// The number of what another said, where the line tells that: it is behind `SAID`, at the line's end but for a quote.
+fn told(line: &[u8]) -> Option<usize> {
+    let line = line.strip_suffix(b"\"").unwrap_or(line);
+    let digits = line.iter().rev().take_while(|byte| byte.is_ascii_digit()).count();
+    let (before, number) = line.split_at(line.len() - digits);
+    if !before.ends_with(SAID.as_bytes()) || line.starts_with(b"You ") {
         return None;
     }
-    behind.trim_end_matches('"').parse().ok()
+    std::str::from_utf8(number).ok()?.parse().ok()
 }
 
 /// The time that so many of a thousand stay below, in milliseconds.
@@ -277,7 +342,7 @@ fn run(port: u16, count: usize, lines: usize, dialect: Dialect) -> io::Result<()
     let mut clients = Vec::new();
     for at in 0..count {
         let mut client = Client::connect(port, lines, at, dialect)?;
-        while client.lines()?.is_empty() {}
+        client.read_until(|_| true)?;
         client.send(&dialect.arrival(at))?;
         client.ask("look")?;
         clients.push(client);

@@ -87,8 +87,8 @@ RING = Line("route in a ring with chords", ring(), ring_routes(), fewer=5, more=
 # A line, the most instructions that it takes, and how its answer begins.
 BOUNDS = [
     (SAY, 5_500, "said"),
-    (GO, 6_100, "went by #"),
-    (RING, 1_520_000, "route #0 to #"),
+    (GO, 5_600, "went by #"),
+    (RING, 735_000, "route #0 to #"),
 ]
 
 

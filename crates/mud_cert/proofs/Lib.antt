@@ -13,9 +13,7 @@ pub mod Heads
 pub mod Machine
 pub mod Splitting
 pub mod Progress
-pub mod Legality
+mod Lined
 mod Walking
 mod Doubting
-mod First
-mod Findings
-mod Returns
+pub mod First

@@ -8,8 +8,7 @@ use Rattle.mud_world.specs.declared.record.Passage.{Passage}
 use Rattle.mud_world.specs.State.{State, passage_of, source_of, is_number}
 use Rattle.mud_world.specs.Sound.{IsSound}
 use Rattle.mud_roads.specs.declared.label.Step.{Step}
-use Rattle.mud_roads.specs.Open.{passable}
-use Rattle.mud_roads.specs.inner.Steps.{step_by}
+use Rattle.mud_roads.specs.Open.{passable, step_by}
 use Rattle.mud_roads.specs.Walks.{total}
 use Rattle.mud_cert.specs.declared.cert.Form.{Form}
 use Rattle.mud_cert.specs.Certificate.{Account, hop_of}
@@ -17,7 +16,7 @@ use Rattle.mud_cert.specs.Lookup.{label_at}
 use Rattle.mud_cert.specs.inner.Ways.{step_of, steps_of, end_of}
 use Rattle.mud_cert.specs.inner.Tests.{is_label, leaves, first_break, first_lock}
 use Rattle.mud_cert.specs.Valid.{States}
-use Rattle.mud_chron.specs.Places.{FailsAt}
+use Rattle.mud_world.specs.Counts.{FailsAt}
 use Rattle.mud_cert.specs.Doubts.{IsUnbroken}
 use Rattle.mud_cert.proofs.Ways.{source-passage, leaves-source}
 use Rattle.mud_cert.proofs.Doubtless.{walk-from, label-is, is-label}

@@ -9,8 +9,7 @@ use Rattle.mud_world.specs.State.{State, record_at, passage_of, source_of, is_nu
 use Rattle.mud_world.specs.Sound.{IsSound}
 use Rattle.mud_world.proofs.Records.{in_bounds}
 use Rattle.mud_roads.specs.declared.label.Step.{Step}
-use Rattle.mud_roads.specs.Open.{passable, roads_of}
-use Rattle.mud_roads.specs.inner.Steps.{step_by}
+use Rattle.mud_roads.specs.Open.{passable, roads_of, step_by}
 use Rattle.mud_roads.specs.Laws.{IsRoad}
 use Rattle.mud_roads.proofs.Roads as roads
 use Rattle.mud_cert.specs.inner.Ways.{step_of}

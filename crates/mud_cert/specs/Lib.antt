@@ -6,7 +6,4 @@ pub mod Laws
 pub mod Text
 pub mod Faults
 pub mod TextLaws
-pub mod Finding
-pub mod Verdict
-pub mod FindingLaws
 pub mod inner

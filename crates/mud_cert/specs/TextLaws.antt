@@ -1,6 +1,6 @@
 -- What the texts of certificates and their bad lines keep.
 use Rattle.std.specs.Prelude.{◌≡◌, ◌≢◌, ℕ, List, [], ◌∷◌, ◌++◌, All}
-use Rattle.mud_chron.specs.declared.codes.TheConstants.{LF, CR}
+use Rattle.mud_key.specs.declared.codes.TheConstants.{LF, CR}
 use Rattle.mud_roads.specs.Laws.{IsOne}
 use Rattle.mud_cert.specs.Certificate.{Certificate, IsCertificate}
 use Rattle.mud_cert.specs.Text.{cert_text}

@@ -5,7 +5,6 @@
 //! | [`Cert::new`], [`Member::new`] | a certificate, within its limits |
 //! | [`Cert::write`], [`read`] | its one text, and the certificate of a text |
 //! | [`check`] | whether it is valid in a world, or the first doubt of it |
-//! | [`Finding`], [`Status`] | what a checker finds of a history's text and a proof's, and how it ends |
 //!
 //! The guide writes a certificate with each answer; anyone can test it against the world, without
 //! the guide. docs/CERTIFICATES.md tells the rules in plain words.
@@ -26,7 +25,6 @@ mod agree;
 mod cert;
 mod doubt;
 mod fault;
-mod finding;
 mod judge;
 pub mod laws;
 pub mod limits;
@@ -42,6 +40,5 @@ mod writing;
 pub use cert::{Cert, Conclusion, Form, Meeting, Member};
 pub use doubt::Doubt;
 pub use fault::CertFault;
-pub use finding::{Finding, Status};
 pub use judge::check;
 pub use reading::read;

@@ -1,7 +1,7 @@
 //! The certificate that a text is of.
 
 ghost use Rattle.std.specs.Prelude.{◌≡◌, ℕ, ◌++◌, ◌∷◌, IfOk, IfErr, IfSome, IfNone};
-ghost use Rattle.mud_chron.specs.declared.codes.TheConstants.{LF};
+ghost use Rattle.mud_key.specs.declared.codes.TheConstants.{LF};
 ghost use Rattle.mud_cert.specs.Certificate.{IsCertificate};
 ghost use Rattle.mud_cert.specs.Text.{cert_text};
 ghost use Rattle.mud_cert.specs.Faults.{IsLine, IsBadLine};

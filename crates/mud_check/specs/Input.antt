@@ -1,7 +1,7 @@
 -- How the two texts stand in standard input.
 use Rattle.std.specs.Prelude.{◌≡◌, ℕ, nat_eq, Bool, true, false, List, [], ◌∷◌, ◌++◌, codes, All}
 use Rattle.std.specs.List.{starts_with}
-use Rattle.mud_chron.specs.declared.codes.TheConstants.{LF}
+use Rattle.mud_key.specs.declared.codes.TheConstants.{LF}
 use Rattle.mud_cert.specs.Text.{text_of}
 use Rattle.mud_cert.specs.Faults.{IsLine}
 

@@ -1,7 +1,7 @@
 -- What is judged of standard input, and what is said of it.
 use Rattle.std.specs.Prelude.{◌≡◌, ◌⊎◌, ℕ, Bool, true, false, List, [], ◌∷◌, ◌++◌, codes, Option}
 use Rattle.std.specs.Io.KnownBytes.{Appends}
-use Rattle.mud_chron.specs.declared.codes.TheConstants.{LF}
+use Rattle.mud_key.specs.declared.codes.TheConstants.{LF}
 use Rattle.mud_verdict.specs.declared.outcome.Outcome.{Outcome}
 use Rattle.mud_check.specs.declared.judge.Unread.{Unread}
 use Rattle.mud_check.specs.declared.judge.Unread.TheVariants.{OutOfMemory, File}

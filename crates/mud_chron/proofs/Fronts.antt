@@ -8,11 +8,11 @@ use Rattle.std.specs.List.{AllByRecursion}
 use Rattle.std.proofs.lemmas.List.{append-nil, length-append, length-take}
 use Rattle.std.proofs.lemmas.List.Elements.{recursion_from_All}
 use mathlib.Core.List.{IsPrefix}
-use Rattle.mud_chron.specs.declared.codes.TheConstants.{LF}
+use Rattle.mud_key.specs.declared.codes.TheConstants.{LF}
 use Rattle.mud_chron.specs.declared.fault.ChronFault.TheVariants as fault
 use Rattle.mud_chron.specs.declared.format.Format.{Format}
 use Rattle.mud_chron.specs.declared.format.Format.TheVariants.{One, Two}
-use Rattle.mud_chron.specs.declared.limits.TheConstants.{MOST_ENTRIES}
+use Rattle.mud_world.specs.declared.limits.TheConstants.{MOST_ENTRIES}
 use Rattle.mud_chron.specs.Entry.{Entry, IsEntry}
 use Rattle.mud_chron.specs.Text.{line_feed, head_line, entry_line, entries_text, end_line, journal_text}
 use Rattle.mud_chron.specs.inner.Texts.{entry_text}

@@ -4,7 +4,7 @@ use Rattle.std.proofs.Common.{ltb}
 use Rattle.std.specs.Prelude.{not, ◌&&◌, ◌^◌}
 use Rattle.std.specs.List.{AllByRecursion, list_all}
 use Rattle.mud_key.specs.declared.codes.TheConstants.{SPACE, TILDE}
-use Rattle.mud_chron.specs.declared.codes.TheConstants.{CR}
+use Rattle.mud_key.specs.declared.codes.TheConstants.{CR}
 use Rattle.mud_chron.specs.declared.format.Format.{Format}
 use Rattle.mud_chron.specs.declared.format.Format.TheVariants.{One, Two}
 use Rattle.mud_chron.specs.Entry.{Entry}

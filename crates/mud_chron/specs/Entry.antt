@@ -1,7 +1,7 @@
 -- Entries of a history, and which there are.
+pub use Rattle.mud_world.specs.Numbers.{IsNumber}
 pub use Rattle.mud_world.specs.Parts.{IsTarget, HasParts}
 use Rattle.std.specs.Prelude.{ℕ, ◌≤◌, Some, None}
-use Rattle.mud_key.specs.declared.limits.TheConstants.{LAST_NUMBER}
 use Rattle.mud_world.specs.declared.change.Change.{Change}
 use Rattle.mud_world.specs.declared.change.Target.TheVariants.{Old}
 use Rattle.mud_world.specs.declared.change.Deed.{Deed}
@@ -14,10 +14,6 @@ use Rattle.mud_chron.specs.declared.limits.TheConstants.{MOST_DESKS}
 pub record Entry : Type 0 where
   pub desk : ℕ
   pub change : Change
-
--- the number of an object
-abbrev pub IsNumber : ℕ → Type 0
-IsNumber n = n ≤ LAST_NUMBER
 
 -- the numbers of a deed are in their ranges, and a way to an old room has an exit
 abbrev pub IsInRange : Deed → Type 0

@@ -3,8 +3,8 @@ use Rattle.std.specs.Prelude.{◌≡◌, ◌≢◌, ◌⊎◌, ℕ, ◌+◌, Lis
 use Rattle.mud_chron.specs.declared.fault.ChronFault.{ChronFault}
 use Rattle.mud_chron.specs.declared.fault.ChronFault.TheVariants.{NotHistory, BadLine, TooLong, NoEnd}
 use Rattle.mud_chron.specs.declared.format.Format.{Format}
-use Rattle.mud_chron.specs.declared.codes.TheConstants.{LF}
-use Rattle.mud_chron.specs.declared.limits.TheConstants.{MOST_ENTRIES}
+use Rattle.mud_key.specs.declared.codes.TheConstants.{LF}
+use Rattle.mud_world.specs.declared.limits.TheConstants.{MOST_ENTRIES}
 use Rattle.mud_chron.specs.Entry.{Entry}
 use Rattle.mud_chron.specs.Text.{line_feed, head_line, entry_line, end_line, journal_text}
 use Rattle.mud_chron.specs.History.{IsEntryOf, AreEntriesOf}

@@ -9,8 +9,9 @@ use Rattle.mud_world.specs.declared.change.Change.{Change}
 use Rattle.mud_chron.specs.declared.fault.ChronFault.{ChronFault}
 use Rattle.mud_chron.specs.declared.format.Format.{Format}
 use Rattle.mud_chron.specs.declared.format.Format.TheVariants.{Two}
-use Rattle.mud_chron.specs.declared.codes.TheConstants.{CR}
-use Rattle.mud_chron.specs.declared.limits.TheConstants.{MOST_ENTRIES, MOST_DESKS}
+use Rattle.mud_key.specs.declared.codes.TheConstants.{CR}
+use Rattle.mud_world.specs.declared.limits.TheConstants.{MOST_ENTRIES}
+use Rattle.mud_chron.specs.declared.limits.TheConstants.{MOST_DESKS}
 use Rattle.mud_chron.specs.Entry.{Entry, IsEntry, IsSpellable}
 use Rattle.mud_chron.specs.Text.{line_feed, head_line, history_text, journal_text}
 use Rattle.mud_chron.specs.History.{AreEntriesOf, SpellsHistory}

@@ -2,7 +2,6 @@ pub mod Entry
 pub mod Text
 pub mod History
 pub mod Faults
-pub mod Places
 pub mod Replay
 pub mod Laws
 pub mod Fronts

@@ -8,9 +8,9 @@ ghost use Rattle.mud_chron.specs.Fronts.{BeginsHead, Recovers, HasFrontFault};
 use crate::entry::Entry;
 use crate::fault::ChronFault;
 use crate::format::Format;
-use crate::limits::MOST_ENTRIES;
 use crate::line::{Line, line_of};
 use crate::reading::{cut_line, format_of};
+use mud_world::limits::MOST_ENTRIES;
 use std::alloc::Global;
 
 /// What is found in a journal that was cut at any byte.

@@ -42,7 +42,6 @@ pub use entry::Entry;
 pub use fault::ChronFault;
 pub use format::Format;
 pub use front::{Front, read_front};
-pub use limits::MOST_ENTRIES;
 pub use reading::read_history;
 pub use replaying::replay;
 pub use writing::{write_entry, write_history, write_names};

@@ -1,7 +1,7 @@
 //! One line of a history.
 
 ghost use Rattle.std.specs.Prelude.{◌≡◌, ◌≤◌, ◌<◌, ◌^◌, ◌+◌, ◌↔◌, ℕ, true, IfOk, MatchOption, MatchBool};
-ghost use Rattle.mud_chron.specs.declared.limits.TheConstants.{MOST_ENTRIES};
+ghost use Rattle.mud_world.specs.declared.limits.TheConstants.{MOST_ENTRIES};
 ghost use Rattle.mud_chron.specs.Text.{entry_line, end_line};
 ghost use Rattle.mud_chron.specs.Entry.{Entry, IsEntry};
 ghost use Rattle.mud_chron.specs.inner.Fields.{Finds};

@@ -5,13 +5,13 @@ ghost use Rattle.mud_chron.specs.Text.{line_feed, head_line};
 ghost use Rattle.mud_chron.specs.History.{SpellsHistory};
 ghost use Rattle.mud_chron.specs.Faults.{HasNoLineFeed, IsNoHistory, HasFault};
 
-use crate::codes::LF;
 use crate::entry::Entry;
 use crate::fault::ChronFault;
 use crate::format::Format;
-use crate::limits::MOST_ENTRIES;
 use crate::line::{Line, line_of};
 use memchr::memchr;
+use mud_key::codes::LF;
+use mud_world::limits::MOST_ENTRIES;
 use std::alloc::Global;
 
 // The first line without its end, and what stands after it.

@@ -15,8 +15,8 @@ pub record Writer : Type 0 where
   pub has_failed : Bool
 
 -- a reader that was not read yet, and a writer to which nothing was written
-abbrev pub unread : Option (List ℕ) → Reader
-unread left = record { left = left; reads = 0; at_end = false; has_failed = false }
+abbrev pub new_reader : Option (List ℕ) → Reader
+new_reader left = record { left = left; reads = 0; at_end = false; has_failed = false }
 
 abbrev pub new_writer : Option (List ℕ) → Writer
 new_writer holds = record { holds = holds; has_failed = false }

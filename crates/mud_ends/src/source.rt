@@ -5,7 +5,7 @@ ghost use Rattle.std.specs.Prelude.{OnOk};
 ghost use Rattle.std.specs.Io.KnownBytes.{IsAtEnd, ReadConsumes};
 ghost use Rattle.std.specs.Io.{ReadsAtMost};
 ghost use Rattle.std.specs.IoError.{error_kind};
-ghost use Rattle.mud_ends.specs.Ends.{none_passed, unread};
+ghost use Rattle.mud_ends.specs.Ends.{none_passed, new_reader};
 
 use std::io::{self, ErrorKind, Read};
 use std::marker::Model;
@@ -40,7 +40,7 @@ impl<R: Read> Model for Source<R> {
 impl<R: Read> Source<R> {
     /// The reader, which was not read yet.
     pub fn new(inner: R) -> Self
-        ensures { result ≡ unread (R.remaining inner) }
+        ensures { result ≡ new_reader (R.remaining inner) }
     {
         Self {
             inner,

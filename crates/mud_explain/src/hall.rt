@@ -2,7 +2,7 @@
 
 ghost use Rattle.std.specs.Prelude.{◌≡◌, ◌⊎◌, ◌≤◌, Err, true, false, OnOk};
 ghost use Rattle.std.specs.Io.KnownBytes.{IsAtEnd, Keeps};
-ghost use Rattle.mud_chron.specs.declared.limits.TheConstants.{MOST_ENTRIES};
+ghost use Rattle.mud_world.specs.declared.limits.TheConstants.{MOST_ENTRIES};
 
 use crate::explain::{ExplainFault, input_of};
 use crate::opening::open_hall;

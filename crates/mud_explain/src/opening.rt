@@ -1,7 +1,7 @@
 //! The hall that steps are played in.
 
 ghost use Rattle.std.specs.Prelude.{◌≤◌};
-ghost use Rattle.mud_chron.specs.declared.limits.TheConstants.{MOST_ENTRIES};
+ghost use Rattle.mud_world.specs.declared.limits.TheConstants.{MOST_ENTRIES};
 
 use mud_chron::Entry;
 use mud_command::Opening;

@@ -1,51 +1,39 @@
--- The table holds the lowest exits of those that were seen.
-use Rattle.std.proofs.Common.{◌≡◌, ◌≢◌, ℕ, suc, zero, ◌+◌, ◌<◌, ◌≤◌, ◌⊎◌, inl, inr, Bool, true, false, List, [], ◌∷◌}
-use Rattle.std.proofs.Common.{length, get_or, set, replicate, Option, None, Some, refl, sym, ◌∙◌, ap, subst, arith}
-use Rattle.std.proofs.Common.{get_or-set_same, get_or-set_other, length-set}
-use Rattle.std.specs.Prelude.{Contains, All, ◌&&◌, if◌then◌else◌}
-use Rattle.std.proofs.lemmas.Bool.{cases_eq, cases_lt}
+-- The lowest exit that ends a least walk to a room.
+use Rattle.std.proofs.Common.{◌≡◌, ◌≢◌, ℕ, zero, suc, ◌+◌, ◌<◌, ◌≤◌, inl, inr, true, false, List, [], ◌∷◌, length}
+use Rattle.std.proofs.Common.{get_or, drop, Option, None, Some, refl, sym, ◌∙◌, ap, subst, arith}
+use Rattle.std.specs.Prelude.{nat_eq, IsTrue, ◌↔◌, is_some}
+use Rattle.std.specs.Option.{option_map}
+use Rattle.std.specs.List.{list_any}
+use Rattle.std.proofs.lemmas.Bool.{eqb-true, eq-eqb, or_cases, false≢true}
 use Rattle.std.proofs.lemmas.Bool.Decides.{nat_tests}
-use Rattle.std.proofs.lemmas.List.{get_or_default, get_or_past, get_or-replicate, length-replicate}
+use Rattle.std.proofs.lemmas.List.{drop_more, drop_all}
+use Rattle.std.proofs.lemmas.List.Folds.{list_any_at}
+use Rattle.mud_world.specs.declared.record.Passage.{Passage}
+use Rattle.mud_world.specs.Numbers.{IsRisingFrom}
+use Rattle.mud_world.specs.State.{State, passage_of, destination_of, arriving_of}
+use Rattle.mud_world.specs.Sound.{IsSound}
+use Rattle.mud_world.proofs.Listed.{arriving_law}
 use Rattle.mud_roads.specs.declared.label.Label.{Label}
 use Rattle.mud_roads.specs.declared.label.Step.{Step}
 use Rattle.mud_roads.specs.Walks.{Roads, after}
-use Rattle.mud_world.specs.State.{State}
-use Rattle.mud_world.specs.Sound.{IsSound}
-use Rattle.mud_roads.specs.Open.{roads_of}
+use Rattle.mud_roads.specs.Open.{roads_of, step_by, open_step}
 use Rattle.mud_roads.proofs.Routes.{label-ext}
-use Rattle.mud_roads.proofs.Roads.{steps-inside}
+use Rattle.mud_roads.proofs.Roads.{road-at, road-to, opens-as, open-road, road-open}
 use Rattle.mud_guide.specs.declared.arrivals.Arrival.{Arrival}
-use Rattle.mud_guide.specs.inner.Arrivals.{Ends, AreLowest, ends, is_lower, note, noted_all}
-
--- fewer seen
-pub lowest-weaken : (roads : Roads) (labels : ℕ → Option Label) (next : ℕ) (seen more : ℕ → Step → Type 0)
-    (table : List (Option Arrival))
-    → ((by : ℕ) (s : Step) (to : ℕ) → Ends roads labels to by s → seen by s → more by s)
-    → AreLowest roads labels next more table → AreLowest roads labels next seen table
-lowest-weaken roads labels next seen more table f a = record {
-  whole = a.whole;
-  inside = a.inside;
-  ends = a.ends;
-  lowest = λ to x e by s h d. a.lowest to x e by s (f by s to d h) d;
-  none = λ to h e by s g d. a.none to h e by s (f by s to d g) d;
-}
+use Rattle.mud_guide.specs.inner.Arrivals.{Ends, IsLast, IsBy, ends}
 
 pub some-inj : {X : Type 0} (a b : X) → Some a ≡ Some b → a ≡ b
 some-inj a b e = cc
 
-pub and-parts : (a b : Bool) → (a && b) ≡ true → (a ≡ true) × (b ≡ true)
-and-parts true true e = (refl, refl)
-and-parts true false e = absurd (cc)
-and-parts false b e = absurd (cc)
-
-ends-is : (l : Label) (s : Step) (o : Option Label) → ends l s o ≡ true → o ≡ Some (after 1 l s)
+-- ---- what the labels say
+ends-is : (l : Label) (s : Step) (o : Option Label) → ends l s.cost o ≡ true → o ≡ Some (after 1 l s)
 ends-is l s None e = absurd (cc)
 ends-is l s (Some k) e =
     let cost : l.cost + s.cost ≡ k.cost = grind (arith, nat_tests) in
     let exits : l.exits + 1 ≡ k.exits = grind (arith, nat_tests) in
     ap Some (sym (label-ext (after 1 l s) k cost exits))
 
-ends-not : (l : Label) (s : Step) (o : Option Label) → ends l s o ≡ false → o ≢ Some (after 1 l s)
+ends-not : (l : Label) (s : Step) (o : Option Label) → ends l s.cost o ≡ false → o ≢ Some (after 1 l s)
 ends-not l s None e f = cc
 ends-not l s (Some k) e f =
     let same : k ≡ after 1 l s = some-inj k (after 1 l s) f in
@@ -53,244 +41,134 @@ ends-not l s (Some k) e f =
     let exits : k.exits ≡ l.exits + 1 = ap (λ (x : Label). x.exits) same in
     grind (arith, nat_tests)
 
-module _ (roads : Roads) (labels : ℕ → Option Label) (next : ℕ) (seen : ℕ → Step → Type 0)
-    (table : List (Option Arrival)) (a : AreLowest roads labels next seen table)
-    (by : ℕ) (l : Label) (s : Step) (comes : labels by ≡ Some l) (c : Contains (roads by) s)
-    (inside : by < next) (leads : s.to < next) where
-  abbrev More : ℕ → Step → Type 0
-  More b t = seen b t ⊎ ((b ≡ by) × (t ≡ s))
+-- ---- one exit
+module _ (w : State) (sound : IsSound w) (p : ℕ) (labels : ℕ → Option Label) where
+  abbrev ends_of : ℕ → ℕ → Step → Passage
+  ends_of to by s = record { source = by; destination = to; cost = s.cost }
 
-  here : s.to < length table
-  here = omega (arith, a.whole)
+  -- the exit of a step that ends a least walk has these ends
+  passage-ends : (to by : ℕ) (s : Step) → Ends (roads_of w p) labels to by s
+      → passage_of w s.exit ≡ Some (ends_of to by s)
+  passage-ends to by s d =
+      (road-at w sound p by s d.step).0
+      ∙ ap (λ (r : ℕ). Some (ends_of r by s)) d.leads
 
-  abbrev arrival : Arrival
-  arrival = record { by = by; step = s }
+  ends-known : (to by x : ℕ) (s : Step) (a : Passage) → s.exit ≡ x → Ends (roads_of w p) labels to by s
+      → passage_of w x ≡ Some a → ends_of to by s ≡ a
+  ends-known to by x s a same d is =
+      some-inj (ends_of to by s) a
+      (sym (passage-ends to by s d) ∙ ap (passage_of w) same ∙ is)
 
-  -- it ends no least walk
-  kept-other : labels s.to ≢ Some (after 1 l s) → AreLowest roads labels next More table
-  kept-other not =
-      let clash : (to b : ℕ) (t : Step) → (b ≡ by) × (t ≡ s) → Ends roads labels to b t → ⊥ = λ to b t same d.
-      let before : d.before ≡ l = some-inj d.before l (sym d.comes ∙ ap labels same.0 ∙ comes) in
-      let P : Step → Type 0 = λ x. labels x.to ≡ Some (after 1 l x) in
-      let Q : Label → Type 0 = λ x. labels to ≡ Some (after 1 x t) in
-      not (subst P same.1 (ap labels d.leads ∙ subst Q before d.is)) in
-      record {
-        whole = a.whole;
-        inside = a.inside;
-        ends = a.ends;
-        lowest = λ to x e b t h d. elim h [
-          | inl old ↦ a.lowest to x e b t old d
-          | inr same ↦
-              absurd (clash to b t same d)
-        ];
-        none = λ to h e b t g d. elim g [ inl old ↦ a.none to h e b t old d | inr same ↦ clash to b t same d ];
-      }
+  pub no-exit : (x : ℕ) → passage_of w x ≡ None → IsBy (roads_of w p) labels x None
+  no-exit x none = λ to by s same d.
+      let bad : None ≡ Some (ends_of to by s) =
+      sym none ∙ ap (passage_of w) (sym same) ∙ passage-ends to by s d in cc
 
-  -- a lower one, or the same, does
-  kept-lower : (old : Arrival) → get_or table s.to None ≡ Some old → old.step.exit ≤ s.exit
-      → AreLowest roads labels next More table
-  kept-lower old is low =
-      let to-same : (to b : ℕ) (t : Step) → (b ≡ by) × (t ≡ s) → Ends roads labels to b t → s.to ≡ to = λ to b t same d.
-      ap (λ (x : Step). x.to) (sym same.1) ∙ d.leads in
-      record {
-        whole = a.whole;
-        inside = a.inside;
-        ends = a.ends;
-        lowest = λ to x e b t h d. elim h [
-          | inl seen_before ↦ a.lowest to x e b t seen_before d
-          | inr same ↦
-              let one : old ≡ x =
-              some-inj old x (sym is ∙ ap (λ (r : ℕ). get_or table r None) (to-same to b t same d) ∙ e) in
-              let P : Arrival → Type 0 = λ y. y.step.exit ≤ s.exit in
-              let Q : Step → Type 0 = λ y. x.step.exit ≤ y.exit in
-              subst Q (sym same.1) (subst P one low)
-        ];
-        none = λ to h e b t g d. elim g [
-          | inl seen_before ↦ a.none to h e b t seen_before d
-          | inr same ↦
-              let bad : Some old ≡ None = sym is ∙ ap (λ (r : ℕ). get_or table r None) (to-same to b t same d) ∙ e in
-              cc
-        ];
-      }
+  pub no-label : (x : ℕ) (a : Passage) → passage_of w x ≡ Some a → labels a.source ≡ None
+      → IsBy (roads_of w p) labels x None
+  no-label x a is none = λ to by s same d.
+      let one = ends-known to by x s a same d is in
+      let bad : Some d.before ≡ None = sym d.comes ∙ ap (λ (q : Passage). labels q.source) one ∙ none in cc
 
-  -- it is the lowest so far
-  kept-new : labels s.to ≡ Some (after 1 l s)
-      → ((old : Arrival) → get_or table s.to None ≡ Some old → s.exit ≤ old.step.exit)
-      → AreLowest roads labels next More (set table s.to (Some arrival))
-  kept-new is low =
-      let new = set table s.to (Some arrival) in
-      let at : get_or new s.to None ≡ Some arrival = get_or-set_same table s.to (Some arrival) None here in
-      let own : Ends roads labels s.to by s = record { step = c; leads = refl; before = l; comes = comes; is = is } in
-      let at-own : (to : ℕ) (x : Arrival) → to ≡ s.to → get_or new to None ≡ Some x → x ≡ arrival = λ to x same e.
-      some-inj x arrival (sym e ∙ ap (λ (r : ℕ). get_or new r None) same ∙ at) in
-      let other : (to : ℕ) → to ≢ s.to → get_or new to None ≡ get_or table to None =
-      λ to apart. get_or-set_other table s.to to (Some arrival) None apart in
-      record {
-        whole = length-set table s.to (Some arrival) ∙ a.whole;
-        inside = λ to x e. elim (cases_eq to s.to) [
-          | inl same ↦
-              let P : Arrival → Type 0 = λ y. y.by < next in
-              subst P (sym (at-own to x same e)) inside
-          | inr apart ↦ a.inside to x (sym (other to apart) ∙ e)
-        ];
-        ends = λ to x e. elim (cases_eq to s.to) [
-          | inl same ↦
-              let P : Arrival → Type 0 = λ y. Ends roads labels to y.by y.step in
-              let R : ℕ → Type 0 = λ r. Ends roads labels r by s in
-              subst P (sym (at-own to x same e)) (subst R (sym same) own)
-          | inr apart ↦ a.ends to x (sym (other to apart) ∙ e)
-        ];
-        lowest = λ to x e b t h d. elim (cases_eq to s.to) [
-          | inl same ↦
-              let P : Arrival → Type 0 = λ y. y.step.exit ≤ t.exit in
-              subst P (sym (at-own to x same e)) (below to b t same h d)
-          | inr apart ↦ elim h [
-            | inl old ↦ a.lowest to x (sym (other to apart) ∙ e) b t old d
-            | inr one ↦ absurd (apart (sym d.leads ∙ ap (λ (y : Step). y.to) one.1))
-          ]
-        ];
-        none = λ to h e b t g d. elim (cases_eq to s.to) [
-          | inl same ↦
-              let bad : Some arrival ≡ None = sym at ∙ ap (λ (r : ℕ). get_or new r None) (sym same) ∙ e in
-              cc
-          | inr apart ↦ elim g [
-            | inl old ↦ a.none to h (sym (other to apart) ∙ e) b t old d
-            | inr one ↦ apart (sym d.leads ∙ ap (λ (y : Step). y.to) one.1)
-          ]
-        ];
-      }
-    where
-      below : (to b : ℕ) (t : Step) → to ≡ s.to → More b t → Ends roads labels to b t → s.exit ≤ t.exit
-      below to b t same (inr one) d = omega (arith, ap (λ (y : Step). y.exit) one.1)
-      below to b t same (inl old) d = found (get_or table to None) refl
-        where
-          found : (o : Option Arrival) → get_or table to None ≡ o → s.exit ≤ t.exit
-          found None e = absurd (a.none to (omega (arith, same)) e b t old d)
-          found (Some x) e =
-              omega (arith, a.lowest to x e b t old d, low x (ap (λ (r : ℕ). get_or table r None) (sym same) ∙ e))
+  pub no-end : (x : ℕ) (a : Passage) (l : Label) → passage_of w x ≡ Some a → labels a.source ≡ Some l
+      → ends l a.cost (labels a.destination) ≡ false → IsBy (roads_of w p) labels x None
+  no-end x a l is comes out = λ to by s same d.
+      let one = ends-known to by x s a same d is in
+      let before : d.before ≡ l =
+      some-inj d.before l (sym d.comes ∙ ap (λ (q : Passage). labels q.source) one ∙ comes) in
+      ends-not d.before s (labels to)
+      (ap (λ (k : Label). ends k s.cost (labels to)) before
+      ∙ ap (λ (q : Passage). ends l q.cost (labels q.destination)) one ∙ out)
+      d.is
 
-  pub lowest-noted : AreLowest roads labels next More (note labels by l s table)
-  lowest-noted = go (ends l s (labels s.to)) refl
-    where
-      low-is : (o : Option Arrival) → (b : Bool) → is_lower s.exit o ≡ b → get_or table s.to None ≡ o
-          → labels s.to ≡ Some (after 1 l s)
-          → AreLowest roads labels next More (if b then set table s.to (Some arrival) else table)
-      low-is None true e f is = kept-new is (λ old h. absurd (let bad : Some old ≡ None = sym h ∙ f in cc))
-      low-is None false e f is = absurd (cc)
-      low-is (Some x) true e f is = kept-new is (λ old h.
-          let same : old ≡ x = some-inj old x (sym h ∙ f) in
-          let less : s.exit < x.step.exit = grind (arith, nat_tests) in
-          omega (arith, ap (λ (y : Arrival). y.step.exit) same))
-      low-is (Some x) false e f is =
-          let most : x.step.exit ≤ s.exit = grind (arith, nat_tests) in
-          kept-lower x f most
+  pub no-step : (x : ℕ) → open_step w p x ≡ None → IsBy (roads_of w p) labels x None
+  no-step x none = λ to by s same d.
+      let bad : None ≡ Some s =
+      sym none ∙ ap (open_step w p) (sym same) ∙ road-open w p by s (road-at w sound p by s d.step) in cc
 
-      go : (b : Bool) → ends l s (labels s.to) ≡ b
-          → AreLowest roads labels next More
-          (if b && is_lower s.exit (get_or table s.to None) then set table s.to (Some arrival) else table)
-      go true e = low-is (get_or table s.to None) (is_lower s.exit (get_or table s.to None)) refl refl
-          (ends-is l s (labels s.to) e)
-      go false e = kept-other (ends-not l s (labels s.to) e)
+  pub one-step : (x : ℕ) (a : Passage) (l : Label) (s : Step) → passage_of w x ≡ Some a → labels a.source ≡ Some l
+      → ends l a.cost (labels a.destination) ≡ true → open_step w p x ≡ Some s
+      → IsBy (roads_of w p) labels x (Some (record { by = a.source; step = s }))
+  one-step x a l s is comes ended opens =
+      let o = opens-as w p x s opens in
+      let one : o.passage ≡ a = some-inj o.passage a (sym o.is ∙ is) in
+      let step : step_by x a ≡ s = ap (step_by x) (sym one) ∙ o.step in (
+        ap (λ (t : Step). t.exit) (sym step),
+        record {
+          step = road-to w sound p a.source s
+              (open-road w p a.source x s (ap (option_map (λ q. q.source)) is) opens);
+          leads = refl;
+          before = l;
+          comes = comes;
+          is = subst (λ (t : Step). labels t.to ≡ Some (after 1 l t)) step
+              (ends-is l (step_by x a) (labels a.destination) ended);
+        },
+      )
 
-contains-cons : {X : Type 0} (x y : X) (xs : List X) → Contains (x ∷ xs) y → (y ≡ x) ⊎ Contains xs y
-contains-cons x y xs (zero, h, e) = inl (sym e)
-contains-cons x y xs (suc i, h, e) = inr (i, omega (arith, h), e)
+-- ---- all exits
+-- each exit that ends a least walk to the room is one of these
+abbrev pub AreLeft : Roads → (ℕ → Option Label) → ℕ → List ℕ → Type 0
+AreLeft roads labels to xs = (by : ℕ) (s : Step) → Ends roads labels to by s → IsTrue (list_any (nat_eq s.exit) xs)
 
-contains-later : {X : Type 0} (x y : X) (xs : List X) → Contains xs y → Contains (x ∷ xs) y
-contains-later x y xs (i, h, e) = (suc i, omega (arith, h), e)
+-- the first of them ends none
+pub left-more : (roads : Roads) (labels : ℕ → Option Label) (to i : ℕ) (xs : List ℕ) → i < length xs
+    → AreLeft roads labels to (drop i xs) → (o : Option Arrival) → is_some o ≡ false
+    → IsBy roads labels (get_or xs i 0) o → AreLeft roads labels to (drop (i + 1) xs)
+left-more roads labels to i xs h left (Some a) none is = absurd (false≢true (sym none))
+left-more roads labels to i xs h left None none is = λ by s d.
+    let among : IsTrue (list_any (nat_eq s.exit) (get_or xs i 0 ∷ drop (i + 1) xs)) =
+    subst (λ (v : List ℕ). IsTrue (list_any (nat_eq s.exit) v)) (drop_more xs i 0 h) (left by s d) in
+    elim (or_cases (nat_eq s.exit (get_or xs i 0)) (list_any (nat_eq s.exit) (drop (i + 1) xs)) among) [
+      | inl here ↦ absurd (is to by s (eqb-true s.exit (get_or xs i 0) here) d)
+      | inr rest ↦ rest
+    ]
 
-pub contains-none : {X : Type 0} (y : X) → Contains [] y → ⊥
-contains-none y (i, h, e) = omega (arith, h)
+-- none is left
+pub none-left : (roads : Roads) (labels : ℕ → Option Label) (to i : ℕ) (xs : List ℕ) → length xs ≤ i
+    → AreLeft roads labels to (drop i xs) → IsLast roads labels to None
+none-left roads labels to i xs h left = λ by s d.
+    false≢true (subst (λ (v : List ℕ). IsTrue (list_any (nat_eq s.exit) v)) (drop_all i xs h) (left by s d))
 
-contains-head : {X : Type 0} (x : X) (xs : List X) → Contains (x ∷ xs) x
-contains-head x xs = (0, omega arith, refl)
+rising-above : (low n : ℕ) (xs : List ℕ) → IsRisingFrom low xs → IsTrue (list_any (nat_eq n) xs) → low ≤ n
+rising-above low n [] rises among = absurd (false≢true among)
+rising-above low n (x ∷ xs) rises among =
+    elim (or_cases (nat_eq n x) (list_any (nat_eq n) xs) among) [
+      | inl here ↦ omega (arith, rises.0, eqb-true n x here)
+      | inr rest ↦ omega (arith, rises.0, rising-above (x + 1) n xs rises.1 rest)
+    ]
 
-pub lowest-noted_all : (roads : Roads) (labels : ℕ → Option Label) (next by : ℕ) (l : Label)
-    → labels by ≡ Some l → by < next
-    → (ss : List Step) (seen : ℕ → Step → Type 0) (table : List (Option Arrival))
-    → AreLowest roads labels next seen table
-    → ((s : Step) → Contains ss s → Contains (roads by) s) → ((s : Step) → Contains ss s → s.to < next)
-    → AreLowest roads labels next (λ b t. seen b t ⊎ ((b ≡ by) × Contains ss t)) (noted_all labels by l ss table)
-lowest-noted_all roads labels next by l comes inside [] seen table a those leads =
-    lowest-weaken roads labels next (λ b t. seen b t ⊎ ((b ≡ by) × Contains [] t)) seen table
-    (λ b t to d h. elim h [ inl old ↦ old | inr one ↦ absurd (contains-none t one.1) ]) a
-lowest-noted_all roads labels next by l comes inside (s ∷ ss) seen table a those leads =
-    let first = lowest-noted roads labels next seen table a by l s comes (those s (contains-head s ss)) inside
-    (leads s (contains-head s ss)) in
-    let rest = lowest-noted_all roads labels next by l comes inside ss (λ b t. seen b t ⊎ ((b ≡ by) × (t ≡ s)))
-    (note labels by l s table) first
-    (λ x c. those x (contains-later s x ss c)) (λ x c. leads x (contains-later s x ss c)) in
-    lowest-weaken roads labels next (λ b t. seen b t ⊎ ((b ≡ by) × Contains (s ∷ ss) t))
-    (λ b t. (seen b t ⊎ ((b ≡ by) × (t ≡ s))) ⊎ ((b ≡ by) × Contains ss t)) (noted_all labels by l (s ∷ ss) table)
-    (λ b t to d h. elim h [
-      | inl old ↦ inl (inl old)
-      | inr one ↦ elim (contains-cons s t ss one.1) [
-        | inl same ↦
-            inl (inr (one.0, same))
-        | inr later ↦ inr (one.0, later)
-      ]
-    ]) rest
+-- what stands at a place or later is no less
+rising-from : (low i n : ℕ) (xs : List ℕ) → IsRisingFrom low xs → i < length xs
+    → IsTrue (list_any (nat_eq n) (drop i xs)) → get_or xs i 0 ≤ n
+rising-from low i n [] rises h among = absurd (omega (arith, h))
+rising-from low zero n (x ∷ xs) rises h among =
+    elim (or_cases (nat_eq n x) (list_any (nat_eq n) xs) among) [
+      | inl here ↦ omega (arith, eqb-true n x here)
+      | inr rest ↦ omega (arith, rising-above (x + 1) n xs rises.1 rest)
+    ]
+rising-from low (suc i) n (x ∷ xs) rises h among = rising-from (x + 1) i n xs rises.1 (omega (arith, h)) among
 
-abbrev nothing : Option Arrival
-nothing = None
+module _ (w : State) (sound : IsSound w) (p : ℕ) (labels : ℕ → Option Label) (to : ℕ) (xs : List ℕ)
+    (are : xs ≡ arriving_of w to) where
+  law : ((n : ℕ) → IsTrue (list_any (nat_eq n) xs) ↔ (destination_of w n ≡ Some to)) × IsRisingFrom 0 xs
+  law =
+      subst (λ (v : List ℕ). ((n : ℕ) → IsTrue (list_any (nat_eq n) v) ↔ (destination_of w n ≡ Some to))
+      × IsRisingFrom 0 v) (sym are) (arriving_law w sound to)
 
--- at first nothing was seen
-pub lowest-begun : (roads : Roads) (labels : ℕ → Option Label) (next : ℕ)
-    → AreLowest roads labels next (λ by s. by < 0) (replicate next None)
-lowest-begun roads labels next = record {
-  whole = length-replicate next nothing;
-  inside = λ to a e. absurd (let bad : None ≡ Some a = sym (blank to) ∙ e in cc);
-  ends = λ to a e. absurd (let bad : None ≡ Some a = sym (blank to) ∙ e in cc);
-  lowest = λ to a e by s h d. omega (arith, h);
-  none = λ to h e by s g d. omega (arith, g);
-}
-  where
-    blank : (to : ℕ) → get_or (replicate next nothing) to nothing ≡ nothing
-    blank to =
-        elim (cases_lt to next) [
-          | inl inside ↦ get_or-replicate next to nothing nothing inside
-          | inr past ↦ get_or_past (replicate next nothing) to nothing (rw length-replicate past)
-        ]
+  pub all-left : AreLeft (roads_of w p) labels to xs
+  all-left = λ by s d. (law.0 s.exit).1 (ap (option_map (λ q. q.destination)) (passage-ends w sound p labels to by s d))
 
--- a room without a label ends nothing
-pub lowest-skip : (roads : Roads) (labels : ℕ → Option Label) (next room : ℕ) (table : List (Option Arrival))
-    → AreLowest roads labels next (λ by s. by < room) table → labels room ≡ None
-    → AreLowest roads labels next (λ by s. by < room + 1) table
-lowest-skip roads labels next room table a none =
-    lowest-weaken roads labels next (λ by s. by < room + 1) (λ by s. by < room) table
-    (λ by s to d h. elim (cases_eq by room) [
-      | inl same ↦ absurd (let bad : Some d.before ≡ None = sym d.comes ∙ ap labels same ∙ none in cc)
-      | inr apart ↦ omega arith
-    ]) a
-
--- all steps of a room with a label
-pub lowest-room : (roads : Roads) (labels : ℕ → Option Label) (next room : ℕ)
-    (table : List (Option Arrival)) (l : Label)
-    → AreLowest roads labels next (λ by s. by < room) table → labels room ≡ Some l → room < next
-    → (ss : List Step) → ss ≡ roads room → ((s : Step) → Contains ss s → s.to < next)
-    → AreLowest roads labels next (λ by s. by < room + 1) (noted_all labels room l ss table)
-lowest-room roads labels next room table l a comes inside ss are leads =
-    let P : Step → List Step → Type 0 = λ s xs. Contains xs s in
-    let all = lowest-noted_all roads labels next room l comes inside ss (λ by s. by < room) table a
-    (λ s c. subst (P s) are c) leads in
-    lowest-weaken roads labels next (λ by s. by < room + 1) (λ b t. (b < room) ⊎ ((b ≡ room) × Contains ss t))
-    (noted_all labels room l ss table)
-    (λ by s to d h. elim (cases_eq by room) [
-      | inl same ↦ inr (same, subst (P s) (sym (are ∙ ap roads (sym same))) d.step)
-      | inr apart ↦ inl (omega arith)
-    ]) all
-
--- the steps of a room lead to next
-pub leads-within : (w : State) → IsSound w → (p room : ℕ) (ss : List Step) → ss ≡ roads_of w p room → (s : Step)
-    → Contains ss s → s.to < w.next
-leads-within w sound p room ss are s c =
-    let P : List Step → Type 0 = λ xs. Contains xs s in
-    (steps-inside w sound p room s (subst P are c)).0
-
--- all of them, below so many
-pub all-within : (w : State) → IsSound w → (p room : ℕ) (ss : List Step) → ss ≡ roads_of w p room → (n : ℕ)
-    → n ≡ w.next → All (λ s. s.to < n) ss
-all-within w sound p room ss are n is k d h =
-    let here = get_or ss k d in
-    let below : here.to < w.next = leads-within w sound p room ss are here (k, h, get_or_default ss k here d h) in
-    omega (arith, is)
+  -- the exit at a place ends one, and none did before
+  pub last-is : (i : ℕ) → i < length xs → AreLeft (roads_of w p) labels to (drop i xs) → (o : Option Arrival)
+      → is_some o ≡ true → IsBy (roads_of w p) labels (get_or xs i 0) o → IsLast (roads_of w p) labels to o
+  last-is i h left None some is = absurd (false≢true some)
+  last-is i h left (Some a) some is =
+      let x = get_or xs i 0 in
+      let leads : destination_of w x ≡ Some to =
+      (law.0 x).0 (list_any_at (nat_eq x) xs i 0 h (eq-eqb x x refl)) in
+      let own : destination_of w a.step.exit ≡ Some a.step.to =
+      ap (option_map (λ q. q.destination)) (passage-ends w sound p labels a.step.to a.by a.step is.1) in
+      let same : a.step.to ≡ to = some-inj a.step.to to (sym own ∙ ap (destination_of w) is.0 ∙ leads) in (
+        subst (λ (r : ℕ). Ends (roads_of w p) labels r a.by a.step) same is.1,
+        λ by s d. omega (arith, rising-from 0 i s.exit xs law.1 h (left by s d), is.0),
+      )

@@ -3,7 +3,7 @@ use Rattle.std.specs.Prelude.{ℕ, List, ◌∷◌, ◌++◌, Option, None, Some
 use Rattle.std.specs.List.{flat_map}
 pub use Rattle.mud_key.specs.Printed.{number_text as object}
 use Rattle.mud_roads.specs.declared.label.Step.{Step}
-use Rattle.mud_chron.specs.declared.codes.TheConstants.{LF}
+use Rattle.mud_key.specs.declared.codes.TheConstants.{LF}
 use Rattle.mud_cert.specs.declared.cert.Meeting.{Meeting}
 use Rattle.mud_guide.specs.Legs.{Leg}
 use Rattle.mud_cert.specs.Text.{exits_text}

@@ -3,7 +3,7 @@
 ghost use Rattle.std.specs.Prelude.{◌≡◌, ◌≢◌, ◌≤◌, [], ◌∷◌, All, AllPairs, IfOk, IsTrue, length, map};
 ghost use Rattle.std.specs.Option.{option_map};
 ghost use Rattle.mud_world.specs.State.{is_player, is_room};
-ghost use Rattle.mud_chron.specs.declared.limits.TheConstants.{MOST_ENTRIES};
+ghost use Rattle.mud_world.specs.declared.limits.TheConstants.{MOST_ENTRIES};
 ghost use Rattle.mud_roads.specs.Open.{IsTraveller};
 ghost use Rattle.mud_cert.specs.Certificate.{IsAccount, IsCertificate, IsConclusion};
 ghost use Rattle.mud_cert.specs.declared.cert.Form.TheVariants.{Two};
@@ -42,8 +42,24 @@ pub fn route_alone(
     ensures { IfOk result (IsRouteAnswer world.now version player room) }
 {
     let traveller = Traveller::of(alloc, world, player)?;
-    let labels = labels_alone(alloc, world, slice::from_ref(&traveller))?;
-    route_from(alloc, world, version, &traveller, &labels, room)
+    route_of_alone(alloc, world, version, &traveller, room)
+}
+
+/// Answers as [`route_alone`] for a traveller of this world who is at hand.
+pub fn route_of_alone(
+    alloc: Global,
+    world: &World,
+    version: u32,
+    traveller: &Traveller,
+    room: u32,
+) -> Result<Answer, AllocError>
+    requires traveller { IsTraveller world.now traveller.now }
+    requires room { IsTrue (is_room world.now room) }
+    requires version { version ≤ MOST_ENTRIES }
+    ensures { IfOk result (IsRouteAnswer world.now version traveller.now.player room) }
+{
+    let labels = labels_alone(alloc, world, slice::from_ref(traveller))?;
+    route_from(alloc, world, version, traveller, &labels, room)
 }
 
 // The route of a traveller, from his least labels.

@@ -1,9 +1,7 @@
 //! Who goes which way.
 
-ghost use Rattle.std.specs.Prelude.{IfOk, IsTrue};
-ghost use Rattle.std.specs.Option.{ForSome};
+ghost use Rattle.std.specs.Prelude.{IfOk};
 ghost use Rattle.std.specs.List.{AllZip};
-ghost use Rattle.mud_world.specs.State.{is_room};
 ghost use Rattle.mud_roads.specs.Open.{IsTraveller, roads_of};
 ghost use Rattle.mud_search.specs.Least.{label_in};
 ghost use Rattle.mud_guide.specs.inner.Arrivals.{Labelled};
@@ -44,7 +42,6 @@ pub(crate) fn journey_to(
     to: Option<u32>,
 ) -> Result<Leg, AllocError>
     requires traveller { IsTraveller world.now traveller.now }
-    requires room { ForSome to (λ room. IsTrue (is_room world.now room)) }
     requires least { Labelled (roads_of world.now traveller.now.player) traveller.now.place
         (label_in labels.now member) }
     ensures { IfOk result (IsJourney world.now to traveller.now.player) }
@@ -71,7 +68,6 @@ pub(crate) fn journeys_to(
     to: Option<u32>,
 ) -> Result<Vec<Leg>, AllocError>
     requires members { AreMembers world.now (label_in labels.now) first travellers.now }
-    requires room { ForSome to (λ room. IsTrue (is_room world.now room)) }
     ensures { IfOk result (λ js. AllZip (λ t j. IsJourney world.now to t.player j) travellers.now js.items) }
 {
     let mut journeys = Vec::with_capacity(alloc, travellers.len())?;

@@ -6,6 +6,7 @@
 //! | [`route_alone`] | the canonical route of a player to a room, or that no walk leads there |
 //! | [`meet_alone`] | the room where a party meets and each member's route there, or that there is none |
 //! | [`route`], [`meet`] | the same, by several workers |
+//! | [`route_of_alone`], [`route_of`] | the route of a traveller who is at hand |
 //!
 //! An [`Answer`] has the text of the reply and a certificate, which a checker can read without
 //! trust in this crate: it lists for each member the least label of every room that he reaches.
@@ -37,5 +38,5 @@ mod way;
 mod workers;
 
 pub use answer::Answer;
-pub use ask::{meet_alone, route_alone};
-pub use workers::{meet, route};
+pub use ask::{meet_alone, route_alone, route_of_alone};
+pub use workers::{meet, route, route_of};

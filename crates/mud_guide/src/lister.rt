@@ -1,9 +1,7 @@
 //! Who lists the journeys of a party, and what a certificate claims of its members.
 
-ghost use Rattle.std.specs.Prelude.{⊤, IfOk, IsTrue};
-ghost use Rattle.std.specs.Option.{ForSome};
+ghost use Rattle.std.specs.Prelude.{⊤, IfOk};
 ghost use Rattle.std.specs.Thread.{IsSync};
-ghost use Rattle.mud_world.specs.State.{is_room};
 ghost use Rattle.mud_search.specs.Least.{label_in, AreBounded};
 ghost use Rattle.mud_guide.specs.inner.Parts.{AreMembers};
 ghost use Rattle.mud_guide.specs.inner.Listings.{IsListing};
@@ -39,7 +37,6 @@ pub(crate) trait Lister {
     ) -> Result<Listing, AllocError>
         requires ready { Self.ready self.now }
         requires members { AreMembers world.now (label_in labels.now) 0 party.now }
-        requires room { ForSome to (λ room. IsTrue (is_room world.now room)) }
         requires bounded { AreBounded (label_in labels.now) }
         ensures { IfOk result (IsListing world.now (label_in labels.now) 0 to party.now) };
 }
@@ -93,7 +90,6 @@ fn listing_of(
     to: Option<u32>,
 ) -> Result<Listing, AllocError>
     requires members { AreMembers world.now (label_in labels.now) first party.now }
-    requires room { ForSome to (λ room. IsTrue (is_room world.now room)) }
     requires bounded { AreBounded (label_in labels.now) }
     ensures { IfOk result (IsListing world.now (label_in labels.now) first to party.now) }
 {
@@ -117,7 +113,6 @@ fn listing_with<R: Threads + Sync>(
     workers: usize,
 ) -> Result<Listing, AllocError>
     requires members { AreMembers world.now (label_in labels.now) first party.now }
-    requires room { ForSome to (λ room. IsTrue (is_room world.now room)) }
     requires bounded { AreBounded (label_in labels.now) }
     ensures { IfOk result (IsListing world.now (label_in labels.now) first to party.now) }
 {
@@ -134,13 +129,13 @@ fn listing_with<R: Threads + Sync>(
         rt,
         || -> Result<Listing, AllocError>
             requires { IsSync R.row × AreMembers world.now (label_in labels.now) behind back.now
-                × ForSome to (λ room. IsTrue (is_room world.now room)) × AreBounded (label_in labels.now) }
+                × AreBounded (label_in labels.now) }
             ensures { IfOk result
                 (IsListing world.entry.now (label_in labels.entry.now) behind to back.entry.now) }
         { listing_with(rt, alloc, world, back, labels, behind, to, after) },
         || -> Result<Listing, AllocError>
             requires { IsSync R.row × AreMembers world.now (label_in labels.now) first front.now
-                × ForSome to (λ room. IsTrue (is_room world.now room)) × AreBounded (label_in labels.now) }
+                × AreBounded (label_in labels.now) }
             ensures { IfOk result
                 (IsListing world.entry.now (label_in labels.entry.now) first to front.entry.now) }
         { listing_with(rt, alloc, world, front, labels, first, to, before) },

@@ -1,14 +1,13 @@
 //! Routes.
 
-ghost use Rattle.std.specs.Prelude.{IfOk, IsSome, IsTrue};
-ghost use Rattle.mud_world.specs.State.{is_room};
+ghost use Rattle.std.specs.Prelude.{IfOk, IsSome};
 ghost use Rattle.mud_roads.specs.Walks.{IsRoute};
 ghost use Rattle.mud_roads.specs.Open.{IsTraveller, roads_of};
 ghost use Rattle.mud_search.specs.Least.{label_in};
 ghost use Rattle.mud_guide.specs.inner.Arrivals.{Labelled};
 ghost use Rattle.mud_guide.specs.inner.Members.{IsWay};
 
-use crate::arrivals::last_steps;
+use crate::arrivals::last_step;
 use crate::way::Way;
 use mud_roads::{Step, Traveller};
 use mud_search::Labels;
@@ -26,16 +25,14 @@ fn walk_to(
     to: u32,
 ) -> Result<Vec<Step>, AllocError>
     requires traveller { IsTraveller world.now traveller.now }
-    requires room { IsTrue (is_room world.now to) }
     requires least { Labelled (roads_of world.now traveller.now.player) traveller.now.place
         (label_in labels.now member) }
     requires reached { IsSome (label_in labels.now member to) }
     ensures { IfOk result (λ ss. IsRoute 1 (roads_of world.now traveller.now.player) traveller.now.place to ss.items) }
 {
-    let table = last_steps(alloc, world, traveller, labels, member)?;
     let mut steps = Vec::new(alloc);
     let mut at = to;
-    while let Some(arrival) = table[at as usize] {
+    while let Some(arrival) = last_step(world, traveller, labels, member, at) {
         steps.push(arrival.step)?;
         at = arrival.by;
     }
@@ -53,7 +50,6 @@ pub(crate) fn way_to(
     to: u32,
 ) -> Result<Option<Way>, AllocError>
     requires traveller { IsTraveller world.now traveller.now }
-    requires room { IsTrue (is_room world.now to) }
     requires least { Labelled (roads_of world.now traveller.now.player) traveller.now.place
         (label_in labels.now member) }
     ensures { IfOk result (λ way. IsWay (roads_of world.now traveller.now.player) traveller.now.place to way) }

@@ -3,7 +3,8 @@
 ghost use Rattle.std.specs.Prelude.{◌≡◌, ◌≢◌, ◌≤◌, All, AllPairs, IfOk, IsTrue, length};
 ghost use Rattle.std.specs.Thread.{IsSync};
 ghost use Rattle.mud_world.specs.State.{is_player, is_room};
-ghost use Rattle.mud_chron.specs.declared.limits.TheConstants.{MOST_ENTRIES};
+ghost use Rattle.mud_world.specs.declared.limits.TheConstants.{MOST_ENTRIES};
+ghost use Rattle.mud_roads.specs.Open.{IsTraveller};
 ghost use Rattle.mud_guide.specs.Answers.{IsRouteAnswer, IsMeetAnswer};
 ghost use Rattle.mud_guide.specs.inner.Parts.{AreTravellers};
 ghost use Rattle.mud_world.specs.declared.limits.TheConstants.{MOST_PARTY};
@@ -38,8 +39,27 @@ pub fn route<R: Threads + Wait + Sync, G: Gate + Sync>(
     ensures { IfOk result (IsRouteAnswer world.now version player room) }
 {
     let traveller = Traveller::of(alloc, world, player)?;
-    let labels = labels(rt, alloc, world, slice::from_ref(&traveller), workers, gate)?;
-    route_from(alloc, world, version, &traveller, &labels, room)
+    route_of(rt, alloc, world, version, &traveller, room, workers, gate)
+}
+
+/// Answers as [`route`] for a traveller of this world who is at hand.
+pub fn route_of<R: Threads + Wait + Sync, G: Gate + Sync>(
+    rt: &R,
+    alloc: Global,
+    world: &World,
+    version: u32,
+    traveller: &Traveller,
+    room: u32,
+    workers: usize,
+    gate: &G,
+) -> Result<Answer, AllocError>
+    requires traveller { IsTraveller world.now traveller.now }
+    requires room { IsTrue (is_room world.now room) }
+    requires version { version ≤ MOST_ENTRIES }
+    ensures { IfOk result (IsRouteAnswer world.now version traveller.now.player room) }
+{
+    let labels = labels(rt, alloc, world, slice::from_ref(traveller), workers, gate)?;
+    route_from(alloc, world, version, traveller, &labels, room)
 }
 
 /// Answers as [`meet_alone`](crate::meet_alone), by N workers, who search for the members apart and pass the gate with

@@ -7,8 +7,8 @@ use Rattle.std.proofs.lemmas.List.Elements.{All-from_recursion}
 use Rattle.std.proofs.Math.Seq.{take-append_seam}
 use mathlib.Core.List.{IsPrefix}
 use Rattle.mud_world.specs.State.{State}
-use Rattle.mud_chron.specs.declared.codes.TheConstants.{CR}
-use Rattle.mud_chron.specs.declared.limits.TheConstants.{MOST_ENTRIES}
+use Rattle.mud_key.specs.declared.codes.TheConstants.{CR}
+use Rattle.mud_world.specs.declared.limits.TheConstants.{MOST_ENTRIES}
 use Rattle.mud_chron.specs.Entry.{Entry}
 use Rattle.mud_chron.specs.History.{SpellsHistory}
 use Rattle.mud_chron.specs.Laws.{IsWrittenAgain, HasNoReturns}
@@ -17,8 +17,8 @@ use Rattle.mud_cert.specs.Text.{cert_text}
 use Rattle.mud_cert.specs.TextLaws.{HasNoReturn}
 use Rattle.mud_cert.specs.Valid.{IsValid, Optimal}
 use Rattle.mud_cert.specs.Laws.{ValidIsOptimal}
-use Rattle.mud_cert.specs.Finding.{IsHistory, without_returns}
-use Rattle.mud_cert.specs.FindingLaws.{DropsNothing}
+use Rattle.mud_verdict.specs.Finding.{IsHistory, without_returns}
+use Rattle.mud_verdict.specs.Laws.{DropsNothing}
 use Rattle.mud_hall.specs.Told.{world_after}
 use Rattle.mud_hall.specs.Steps.{AreLoadable}
 use Rattle.mud_hall.specs.Right.{IsAcceptedWith, IsCertified}

@@ -11,6 +11,7 @@ use Rattle.mud_world.proofs.links.Links.TheSendSync as links
 use Rattle.mud_lists.proofs.lists.Lists.TheSendSync as lists
 use Rattle.mud_lists.proofs.owners.Owners.TheSendSync as owners
 use Rattle.mud_chron.specs.contracts.entry.Entry as Entry
+use Rattle.mud_roads.proofs.traveller.Traveller.TheSendSync as traveller
 use Rattle.mud_row.proofs.pass.Pass.TheSendSync as pass
 use Rattle.mud_row.specs.contracts.replica.Replica as Replica
 use Rattle.mud_row.specs.contracts.row.Row as Row
@@ -46,7 +47,7 @@ pub row_sync : IsSync Row.the_row
 row_sync = search (sendable, crosses, entry_send, entry_sync, once.the_sync) depth 40 fits 20000
 
 pub desk_send : (J : RattleType) (h : HallName.Ghosts J.Denot) → IsSend J → IsSend (Desk.the_row J h)
-desk_send J h s = search (sendable, crosses, replica_send) depth 40 fits 20000
+desk_send J h s = search (sendable, crosses, replica_send, traveller.the_send) depth 40 fits 20000
 
 pub kept_send : (J : RattleType) (h : HallName.Ghosts J.Denot) → IsSend J → IsSend (Kept.the_row J h)
 kept_send J h s = search (sendable, crosses, pass.the_send) depth 40 fits 20000

@@ -2,7 +2,7 @@
 use Rattle.std.proofs.Common.{◌≡◌, ℕ, List, [], ◌∷◌, ◌++◌}
 use Rattle.std.proofs.Common.{length, sym, ◌∙◌, ap, append_assoc}
 use Rattle.std.specs.Prelude.{codes}
-use Rattle.mud_chron.specs.declared.codes.TheConstants.{LF}
+use Rattle.mud_key.specs.declared.codes.TheConstants.{LF}
 use Rattle.mud_chron.specs.Entry.{Entry}
 use Rattle.mud_chron.specs.Text.{line_feed, entries_text, end_line}
 use Rattle.mud_chron.specs.inner.Texts.{written_text}

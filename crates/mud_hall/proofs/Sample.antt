@@ -18,7 +18,7 @@ use Rattle.mud_world.specs.State.{State, is_player, is_room, place_of}
 use Rattle.mud_world.specs.Legal.{refusal}
 use Rattle.mud_world.specs.declared.change.Deed.TheVariants.{Player}
 use Rattle.mud_roads.specs.declared.label.Label.{Label}
-use Rattle.mud_roads.specs.declared.label.Step.{Step as Exit}
+use Rattle.mud_roads.specs.declared.label.Step.{Step}
 use Rattle.mud_roads.specs.Walks.{Roads, Walk, IsLeast, Goer, HasLeast, total}
 use Rattle.mud_roads.specs.Labels.{start_label}
 use Rattle.mud_roads.specs.Open.{roads_of}
@@ -68,11 +68,11 @@ labels = (0, start_label) ∷ []
 abbrev account : ℕ → Account
 account p = record { player = p; from = 0; labels = labels; walk = Some [] }
 
-nowhere : (roads : Roads) (from to : ℕ) (ss : List Exit) → ((room : ℕ) → roads room ≡ []) → Walk roads from ss to
+nowhere : (roads : Roads) (from to : ℕ) (ss : List Step) → ((room : ℕ) → roads room ≡ []) → Walk roads from ss to
     → (from ≡ to) × (start_label ≡ total 1 ss)
 nowhere roads from to [] none walk = (walk, refl)
 nowhere roads from to (s ∷ ss) none walk =
-    absurd (contains-nil s (subst (λ (l : List Exit). Contains l s) (none from) walk.0))
+    absurd (contains-nil s (subst (λ (l : List Step). Contains l s) (none from) walk.0))
 
 -- of one element nothing is asked, of two what is asked of each
 single : {X : Type 0} (R : X → X → Type 0) (x : X) → AllPairs R (x ∷ [])
@@ -132,7 +132,7 @@ is-member w p still = record {
   rooms = All-cons (λ (e : ℕ × Label). IsTrue (is_room w e.0)) (0, start_label) [] still.room (All-nil _);
   labels = record {
     start = refl;
-    steps = λ room l s at has. absurd (contains-nil s (subst (λ (x : List Exit). Contains x s) (still.roads room) has));
+    steps = λ room l s at has. absurd (contains-nil s (subst (λ (x : List Step). Contains x s) (still.roads room) has));
   };
   walk = inr (0, [], stated w p still, refl);
 }

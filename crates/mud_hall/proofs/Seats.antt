@@ -1,7 +1,8 @@
 -- Who sits at a desk stays a player of the world, whatever follows.
-use Rattle.std.proofs.Common.{◌≡◌, ℕ, List, [], ◌∷◌, ◌++◌, Option, None, Some, refl, ap, sym, subst, ◌∙◌, append_assoc}
-use Rattle.std.specs.Prelude.{IsTrue}
-use Rattle.std.proofs.lemmas.List.{map-append}
+use Rattle.std.proofs.Common.{◌≡◌, ◌≤◌, ℕ, List, [], ◌∷◌, ◌++◌, length, take, Option, None, Some}
+use Rattle.std.proofs.Common.{refl, ap, sym, subst, ◌∙◌, append_assoc}
+use Rattle.std.specs.Prelude.{IfSome, IsTrue}
+use Rattle.std.proofs.lemmas.List.{map-append, take-append-le}
 use mathlib.Core.List.{IsPrefix}
 use Rattle.mud_world.specs.State.{State, is_player}
 use Rattle.mud_world.specs.Sound.{IsSound}
@@ -15,7 +16,8 @@ use Rattle.mud_world.proofs.Begun.{opening-sound}
 use Rattle.mud_world.proofs.Sounding.{soundness_law}
 use Rattle.mud_world.proofs.Players.{players_stay}
 use Rattle.mud_chron.specs.Entry.{Entry}
-use Rattle.mud_chron.specs.Replay.{changes_of}
+use Rattle.mud_roads.specs.Open.{Knowledge, IsTraveller}
+use Rattle.mud_chron.specs.Replay.{changes_of, world_at}
 use Rattle.mud_hall.specs.Told.{world_after}
 use Rattle.mud_row.specs.Known.{Standing}
 use Rattle.mud_hall.specs.Desk.{IsHeld}
@@ -65,14 +67,29 @@ seated-on h g (Some p) more is =
 pub prefix_trans : {X : Type 0} (xs ys zs : List X) → IsPrefix xs ys → IsPrefix ys zs → IsPrefix xs zs
 prefix_trans xs ys zs a b = (a.0 ++ b.0, sym (append_assoc xs a.0 b.0) ∙ (ap (λ w. w ++ b.0) a.1 ∙ b.1))
 
+-- the world of the first entries stays where more come to be known
+pub at-stays : (was new : Standing) → IsPrefix was.list new.list → new.at ≡ was.at → was.at ≤ length was.list
+    → world_at new.list new.at ≡ world_at was.list was.at
+at-stays was new more at within =
+    ap (λ n. world_at new.list n) at
+    ∙ ap world_after (ap (λ l. take was.at l) (sym more.1) ∙ take-append-le was.at was.list more.0 within)
+
+-- and so does what is known of a traveller in it
+pub known-on : (t : Option Knowledge) (was new : Standing) → IfSome t (IsTraveller (world_at was.list was.at))
+    → IsPrefix was.list new.list → new.at ≡ was.at → was.at ≤ length was.list
+    → IfSome t (IsTraveller (world_at new.list new.at))
+known-on t was new known more at within =
+    subst (λ (w : State). IfSome t (IsTraveller w)) (sym (at-stays was new more at within)) known
+
 -- a desk whose replica comes to know more is one of its hall still
-pub held-on : (cells : List ℕ) (loaded : List Entry) (number : ℕ) (player : Option ℕ) (was new : Standing)
-    → IsHeld cells loaded number player was → IsPrefix was.list new.list → new.row ≡ was.row
-    → IsHeld cells loaded number player new
-held-on cells loaded number player was new held more row = record {
-  row = row ∙ held.row;
+pub held-on : (cells : List ℕ) (loaded : List Entry) (number : ℕ) (player : Option ℕ) (t : Option Knowledge)
+    (was new : Standing) → IsHeld cells loaded number player t was → IsPrefix was.list new.list
+    → (new.row ≡ was.row) × (new.at ≡ was.at) → was.at ≤ length was.list → IsHeld cells loaded number player t new
+held-on cells loaded number player t was new held more still within = record {
+  row = still.0 ∙ held.row;
   begun = prefix_trans loaded was.list new.list held.begun more;
   from = held.from;
   to = held.to;
   seated = seated-on was.list new.list player more held.seated;
+  known = known-on t was new held.known more still.1 within;
 }

@@ -1,5 +1,5 @@
 -- What a line that acts leaves.
-use Rattle.std.proofs.Common.{◌≡◌, ℕ, Bool, true, false, List, [], ◌∷◌, ◌++◌, length, take}
+use Rattle.std.proofs.Common.{◌≡◌, ◌≤◌, ℕ, Bool, true, false, List, [], ◌∷◌, ◌++◌, length, take}
 use Rattle.std.proofs.Common.{Option, Some, None, refl, sym, ap, ◌∙◌, subst, append_assoc}
 use Rattle.std.specs.Prelude.{IsTrue, if◌then◌else◌}
 use Rattle.std.proofs.Math.Seq.{take-length}
@@ -14,6 +14,7 @@ use Rattle.mud_world.specs.declared.change.Deed.TheVariants.{Cost, Player, Renam
 use Rattle.mud_world.proofs.Histories.{world_of-legal}
 use Rattle.mud_world.proofs.Players.{players_stay, new_players_are_players}
 use Rattle.mud_rules.specs.Outcome.{IsActor}
+use Rattle.mud_roads.specs.Open.{Knowledge}
 use Rattle.mud_chron.specs.Entry.{Entry}
 use Rattle.mud_chron.specs.Replay.{changes_of}
 use Rattle.std.proofs.lemmas.List.{map_push}
@@ -22,7 +23,7 @@ use Rattle.mud_row.specs.Known.{Standing}
 use Rattle.mud_hall.specs.Told.{world_after}
 use Rattle.mud_hall.specs.inner.Desks.{IsSeated}
 use Rattle.mud_hall.specs.Desk.{IsHeld}
-use Rattle.mud_hall.proofs.Seats.{world-sound}
+use Rattle.mud_hall.proofs.Seats.{world-sound, known-on}
 
 -- a replica that has taken all in stands in the world of all
 pub all_in : (list : List Entry) (at : ℕ) → at ≡ length list → world_at list at ≡ world_after list
@@ -78,19 +79,20 @@ actor-plays w h player e at legal is seated = go e.deed legal is.old is.new
     go (Emote text) l old new = here (Emote text) l old refl
 
 -- the desk is one of its hall after its change
-pub held-stored : (cells : List ℕ) (loaded : List Entry) (number : ℕ) (player : Option ℕ) (was new : Standing)
-    (e : Change) → IsHeld cells loaded number player was → new.list
-    ≡ was.list ++ record { desk = number; change = e } ∷ [] → new.row ≡ was.row
+pub held-stored : (cells : List ℕ) (loaded : List Entry) (number : ℕ) (player : Option ℕ) (t : Option Knowledge)
+    (was new : Standing) (e : Change) → IsHeld cells loaded number player t was
+    → new.list ≡ was.list ++ record { desk = number; change = e } ∷ []
+    → (new.row ≡ was.row) × (new.at ≡ was.at) → was.at ≤ length was.list
     → refusal (world_after was.list) e ≡ None → IsActor (world_after was.list) player e
-    → IsHeld cells loaded number (Some e.actor) new
-held-stored cells loaded number player was new e held list row legal is =
+    → IsHeld cells loaded number (Some e.actor) t new
+held-stored cells loaded number player t was new e held list still within legal is =
     let entry : Entry = record { desk = number; change = e } in
     let world : world_after new.list ≡ after (world_after was.list) e =
     ap world_after list ∙ (ap world_of (map_push (λ (x : Entry). x.change) was.list entry)
     ∙ world_of-legal (changes_of was.list) e legal) in
     let Q : State → Type 0 = λ v. IsTrue (is_player v e.actor) in
     record {
-      row = row ∙ held.row;
+      row = still.0 ∙ held.row;
       begun = (
         held.begun.0 ++ entry ∷ [],
         sym (append_assoc loaded held.begun.0 (entry ∷ []))
@@ -99,4 +101,5 @@ held-stored cells loaded number player was new e held list row legal is =
       from = held.from;
       to = held.to;
       seated = subst Q (sym world) (actor-plays (world_after was.list) was.list player e refl legal is held.seated);
+      known = known-on t was new held.known (entry ∷ [], sym list) still.1 within;
     }

@@ -1,7 +1,8 @@
 -- A desk that nobody else uses.
-use Rattle.std.specs.Prelude.{◌≡◌, ◌≤◌, ℕ, List, length, IsTrue}
+use Rattle.std.specs.Prelude.{◌≡◌, ◌≤◌, ℕ, List, length, Option, IfSome, IsTrue}
 use Rattle.mud_world.specs.State.{State, is_player}
-use Rattle.mud_chron.specs.declared.limits.TheConstants.{MOST_ENTRIES}
+use Rattle.mud_roads.specs.Open.{Knowledge, IsTraveller}
+use Rattle.mud_world.specs.declared.limits.TheConstants.{MOST_ENTRIES}
 use Rattle.mud_chron.specs.Entry.{Entry}
 use Rattle.mud_hall.specs.Told.{world_after}
 use Rattle.mud_hall.specs.Desk.{DeskState, new_desk, as_player}
@@ -18,8 +19,9 @@ alone capacity player h =
     record { capacity = capacity; state = record (as_player (new_desk 1 h) player) { calls = versions_by 1 1 h } }
 
 -- what is true of every such desk. A reader need not look into this: contracts only hand it on
-pub record IsAlone (capacity player : ℕ) (w : State) (h : List Entry) : Type 0 where
+pub record IsAlone (capacity player : ℕ) (t : Option Knowledge) (w : State) (h : List Entry) : Type 0 where
   pub world : w ≡ world_after h
   pub room : length h ≤ capacity
   pub few : capacity ≤ MOST_ENTRIES
   pub plays : IsTrue (is_player w player)
+  pub known : IfSome t (IsTraveller w)

@@ -5,8 +5,10 @@ use mathlib.Core.List.{IsPrefix}
 use Rattle.mud_world.specs.State.{is_player}
 use Rattle.mud_world.specs.Legal.{is_arrival}
 use Rattle.mud_world.specs.declared.change.Change.{Change}
+use Rattle.mud_roads.specs.Open.{Knowledge, IsTraveller}
 use Rattle.mud_chron.specs.declared.limits.TheConstants.{MOST_DESKS}
 use Rattle.mud_chron.specs.Entry.{Entry}
+use Rattle.mud_chron.specs.Replay.{world_at}
 use Rattle.mud_row.specs.Known.{Known, Standing}
 use Rattle.mud_hall.specs.Told.{world_after, notices}
 
@@ -75,12 +77,14 @@ abbrev pub untold : View → List (List ℕ)
 untold v = notices v.state.player (take v.at v.state.seen) (drop v.at v.state.seen)
 
 -- what is true of every desk of this hall. A reader need not look into this: contracts only hand it on
-pub record IsHeld (cells : List ℕ) (loaded : List Entry) (number : ℕ) (player : Option ℕ) (r : Standing) : Type 0 where
+pub record IsHeld (cells : List ℕ) (loaded : List Entry) (number : ℕ) (player : Option ℕ) (t : Option Knowledge)
+    (r : Standing) : Type 0 where
   pub row : r.row ≡ cells
   pub begun : IsPrefix loaded r.list
   pub from : 1 ≤ number
   pub to : number ≤ MOST_DESKS
   pub seated : IfSome player (λ p. IsTrue (is_player (world_after r.list) p))
+  pub known : IfSome t (IsTraveller (world_at r.list r.at))
 
 -- what is true of what lies under its lock. A reader need not look into this: contracts only hand it on
 pub record IsKept (cells : List ℕ) (loaded : List Entry) (given : ℕ) (start : Known) : Type 0 where

@@ -2,7 +2,7 @@
 use Rattle.std.specs.Prelude.{◌≡◌, ℕ, List, length, take, Option, Some, IsTrue, ◌++◌, codes, IsSomeAnd}
 use mathlib.Core.List.{IsPrefix}
 use Rattle.mud_world.specs.State.{State, is_player, place_of}
-use Rattle.mud_roads.specs.declared.label.Step.{Step as Exit}
+use Rattle.mud_roads.specs.declared.label.Step.{Step}
 use Rattle.mud_roads.specs.Walks.{Walk}
 use Rattle.mud_roads.specs.Open.{roads_of}
 use Rattle.mud_roads.specs.Laws.{IsWalked}
@@ -37,5 +37,5 @@ HistoryGoesOn =
 -- end where the walk leads
 abbrev pub WalksGo : Type 0
 WalksGo =
-    (h : List Entry) (v p from to : ℕ) (ss : List Exit) → let w : State = world_after (take v h) in
+    (h : List Entry) (v p from to : ℕ) (ss : List Step) → let w : State = world_after (take v h) in
     IsTrue (is_player w p) → place_of w p ≡ Some from → Walk (roads_of w p) from ss to → IsWalked w p ss to

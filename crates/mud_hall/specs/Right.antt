@@ -7,9 +7,9 @@ use Rattle.mud_world.specs.State.{State, place_of}
 use Rattle.mud_roads.specs.declared.label.Step.{Step}
 use Rattle.mud_roads.specs.Walks.{Walk, NoWalk, HasLeast, exits_of}
 use Rattle.mud_roads.specs.Open.{roads_of}
-use Rattle.mud_rules.specs.declared.verdict.Journey.{Journey as Question}
+use Rattle.mud_rules.specs.declared.verdict.Journey.{Journey}
 use Rattle.mud_rules.specs.declared.verdict.Journey.TheVariants as question
-use Rattle.mud_chron.specs.declared.limits.TheConstants.{MOST_ENTRIES}
+use Rattle.mud_world.specs.declared.limits.TheConstants.{MOST_ENTRIES}
 use Rattle.mud_chron.specs.Entry.{Entry}
 use Rattle.mud_chron.specs.Text.{history_text}
 use Rattle.mud_chron.specs.History.{SpellsHistory}
@@ -18,8 +18,8 @@ use Rattle.mud_cert.specs.declared.cert.Conclusion.{Conclusion}
 use Rattle.mud_cert.specs.declared.cert.Conclusion.TheVariants.{Route, Meet}
 use Rattle.mud_cert.specs.Text.{cert_text}
 use Rattle.mud_cert.specs.declared.cert.Meeting.{Meeting}
-use Rattle.mud_cert.specs.declared.finding.Finding.TheVariants as finding
-use Rattle.mud_cert.specs.Finding.{IsFinding}
+use Rattle.mud_verdict.specs.declared.finding.Finding.TheVariants as finding
+use Rattle.mud_verdict.specs.Finding.{IsFinding}
 use Rattle.mud_cert.specs.Valid.{IsPlace}
 use Rattle.mud_guide.specs.Ways.{cost_of}
 use Rattle.mud_guide.specs.Legs.{Leg, goers_of}
@@ -73,7 +73,7 @@ pub record TellsMeeting (w : State) (party : List ℕ) (text : List ℕ) (cert :
   pub certified : IsSomeAnd cert (Certifies journeys (Meet place))
 
 -- the journey that p asked for is told as it is, and the certificate is of what is told
-abbrev pub TellsJourney : State → ℕ → Question → List ℕ → Option Certificate → Type 0
+abbrev pub TellsJourney : State → ℕ → Journey → List ℕ → Option Certificate → Type 0
 TellsJourney w p (question.Route to) text cert = TellsRoute w p to text cert
 TellsJourney w p (question.Meet party) text cert = TellsMeeting w party text cert
 

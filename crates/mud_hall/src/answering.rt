@@ -4,180 +4,172 @@ ghost use Rattle.std.specs.Prelude.{◌≡◌, ◌≤◌, None, IfOk, string_byt
 ghost use Rattle.std.specs.Option.{IsSome};
 ghost use Rattle.mud_words.specs.Line.{line_of};
 ghost use Rattle.mud_world.specs.State.{is_player};
+ghost use Rattle.mud_roads.specs.Open.{IsTraveller};
 ghost use Rattle.mud_rules.specs.Outcome.{IsJourney, IsLawful, IsQuestion};
 ghost use Rattle.mud_rules.specs.Replies.{refusal_text};
 ghost use Rattle.mud_rules.specs.Answers.{show_text};
 ghost use Rattle.mud_rules.specs.Table.{decision};
-ghost use Rattle.mud_chron.specs.declared.limits.TheConstants.{MOST_ENTRIES};
+ghost use Rattle.mud_world.specs.declared.limits.TheConstants.{MOST_ENTRIES};
 ghost use Rattle.mud_hall.specs.Answers.{IsGuided, IsProven, CanAsk};
-ghost use Rattle.mud_hall.specs.inner.Desks.{IsResponse};
+ghost use Rattle.mud_hall.specs.inner.Desks.{IsResponse, IsSight};
 
 use crate::guide::Guide;
 use crate::texts::proof_answer;
+use crate::travel::{find_traveller, traveller_of};
 use mud_guide::Answer;
+use mud_roads::Traveller;
 use mud_rules::{Journey, Query, Refusal, Verdict, View, decide, refusal_text, show};
 use mud_words::Parsed;
 use mud_world::World;
 use std::alloc::{AllocError, Global};
 
 /// The answer to what a line says, in a world and at its version; none where it asks for the history, which whoever
-/// has it tells.
+/// has it tells. What is open to a player who asks for a route is kept.
 pub(crate) fn respond<S: Guide>(
     by: &S,
     alloc: Global,
     world: &World,
     version: u32,
     player: Option<u32>,
+    traveller: &mut Option<Traveller>,
     said: &Parsed,
 ) -> Result<Option<Answer>, AllocError>
     requires ready { S.ready by.now }
     requires version { version ≤ MOST_ENTRIES }
     requires seated { IfSome player (λ p. IsTrue (is_player world.now p)) }
-    ensures { IfOk result (IsResponse world.now version player (decision world.now player (line_of said.now))) }
+    requires known { IfSome traveller.old (IsTraveller world.now) }
+    ensures known { IfSome traveller.new (IsTraveller world.now) }
+    ensures response { IfOk result
+        (IsResponse world.now version player (decision world.now player (line_of said.now))) }
 {
     let verdict = decide(alloc, world, player, said)?;
-    answer(by, alloc, world, version, player, &verdict)
-}
-
-// The answer to what a line is decided to be.
-fn answer<S: Guide>(
-    by: &S,
-    alloc: Global,
-    world: &World,
-    version: u32,
-    player: Option<u32>,
-    verdict: &Verdict,
-) -> Result<Option<Answer>, AllocError>
-    requires ready { S.ready by.now }
-    requires version { version ≤ MOST_ENTRIES }
-    requires seated { IfSome player (λ p. IsTrue (is_player world.now p)) }
-    requires lawful { IsLawful world.now player verdict.now }
-    requires asked { (q : _) → verdict.now ≡ Verdict.Ask q → CanAsk player q }
-    ensures { IfOk result (IsResponse world.now version player verdict.now) }
-{
-    match verdict {
-        Verdict::Ask(query) => explain(by, alloc, world, version, player, query),
-        Verdict::Refused(refusal) => Ok(Some(plain(alloc, version, refusal_text(*refusal))?)),
-        _ => Ok(Some(not_understood(alloc, version)?)),
-    }
-}
-
-// The answer to a question; none to the one about the history.
-fn explain<S: Guide>(
-    by: &S,
-    alloc: Global,
-    world: &World,
-    version: u32,
-    player: Option<u32>,
-    query: &Query,
-) -> Result<Option<Answer>, AllocError>
-    requires ready { S.ready by.now }
-    requires version { version ≤ MOST_ENTRIES }
-    requires seated { IfSome player (λ p. IsTrue (is_player world.now p)) }
-    requires question { IsQuestion world.now query.now }
-    requires player { CanAsk player query.now }
-    ensures { IfOk result (IsResponse world.now version player (Verdict.Ask query.now)) }
-{
-    match query {
-        Query::View(shown) => Ok(Some(view(alloc, world, version, player, shown)?)),
-        Query::Journey(journey) => Ok(Some(guide(by, alloc, world, version, player, journey)?)),
-        Query::Proof(journey) => Ok(Some(prove(by, alloc, world, version, player, journey)?)),
-        Query::History => Ok(None),
-    }
-}
-
-// An answer without a certificate.
-fn plain(alloc: Global, version: u32, text: &str) -> Result<Answer, AllocError>
-    requires { version ≤ MOST_ENTRIES }
-    ensures version { IfOk result (λ a. a.version ≡ version) }
-    ensures text { IfOk result (λ a. string_bytes a.text ≡ text.now) }
-    ensures cert { IfOk result (λ a. a.cert ≡ None) }
-{
-    Ok(Answer {
+    find_traveller(alloc, world, player, traveller, &verdict)?;
+    let sight = Sight {
+        alloc,
+        world,
         version,
-        text: String::from_str(alloc, text)?,
-        cert: None,
-    })
-}
-
-// The answer to a line that asks nothing.
-fn not_understood(alloc: Global, version: u32) -> Result<Answer, AllocError>
-    requires { version ≤ MOST_ENTRIES }
-    ensures version { IfOk result (λ a. a.version ≡ version) }
-    ensures text { IfOk result (λ a. string_bytes a.text ≡ refusal_text Refusal.NotUnderstood) }
-    ensures cert { IfOk result (λ a. a.cert ≡ None) }
-{
-    plain(alloc, version, refusal_text(Refusal::NotUnderstood))
-}
-
-// The answer to a question about what a player, or a guest, sees.
-fn view(
-    alloc: Global,
-    world: &World,
-    version: u32,
-    player: Option<u32>,
-    view: &View,
-) -> Result<Answer, AllocError>
-    requires { version ≤ MOST_ENTRIES }
-    ensures version { IfOk result (λ a. a.version ≡ version) }
-    ensures text { IfOk result (λ a. string_bytes a.text ≡ show_text world.now player view.now) }
-    ensures cert { IfOk result (λ a. a.cert ≡ None) }
-{
-    Ok(Answer {
-        version,
-        text: show(alloc, world, player, view)?,
-        cert: None,
-    })
-}
-
-// The guide's answer to a player's question about a journey.
-fn guide<S: Guide>(
-    by: &S,
-    alloc: Global,
-    world: &World,
-    version: u32,
-    player: Option<u32>,
-    journey: &Journey,
-) -> Result<Answer, AllocError>
-    requires ready { S.ready by.now }
-    requires version { version ≤ MOST_ENTRIES }
-    requires player { IsSome player }
-    requires seated { IfSome player (λ p. IsTrue (is_player world.now p)) }
-    requires journey { IsJourney world.now journey.now }
-    ensures version { IfOk result (λ a. a.version ≡ version) }
-    ensures guided { IfOk result (IsGuided world.now version player journey.now) }
-{
-    let Some(player) = player else {
-        unreachable!();
+        player,
+        traveller,
     };
-    by.journey(alloc, world, version, player, journey)
+    sight.answer(by, &verdict)
 }
 
-// That answer's certificate as a text.
-fn prove<S: Guide>(
-    by: &S,
+// What a line is answered by: a world at its version, who asks, and the traveller that is known. The answers are its
+// methods.
+#[derive(Clone, Copy)]
+struct Sight<'a> {
     alloc: Global,
-    world: &World,
+    world: &'a World,
     version: u32,
     player: Option<u32>,
-    journey: &Journey,
-) -> Result<Answer, AllocError>
-    requires ready { S.ready by.now }
-    requires version { version ≤ MOST_ENTRIES }
-    requires player { IsSome player }
-    requires seated { IfSome player (λ p. IsTrue (is_player world.now p)) }
-    requires journey { IsJourney world.now journey.now }
-    ensures version { IfOk result (λ a. a.version ≡ version) }
-    ensures proven { IfOk result (IsProven world.now version player journey.now) }
-{
-    let answer = guide(by, alloc, world, version, player, journey)?;
-    let text = match &answer.cert {
-        Some(cert) => proof_answer(alloc, cert)?,
-        None => unreachable!(),
-    };
-    Ok(Answer {
-        version,
-        text,
-        cert: answer.cert,
-    })
+    traveller: &'a Option<Traveller>,
+}
+
+impl Sight<'_> {
+    // The answer to what a line is decided to be.
+    fn answer<S: Guide>(&self, by: &S, verdict: &Verdict) -> Result<Option<Answer>, AllocError>
+        requires ready { S.ready by.now }
+        requires sight { IsSight self.now.world.now self.now.version self.now.player self.now.traveller.now }
+        requires lawful { IsLawful self.now.world.now self.now.player verdict.now }
+        requires asked { (q : _) → verdict.now ≡ Verdict.Ask q → CanAsk self.now.player q }
+        ensures { IfOk result (IsResponse self.now.world.now self.now.version self.now.player verdict.now) }
+    {
+        match verdict {
+            Verdict::Ask(query) => self.explain(by, query),
+            Verdict::Refused(refusal) => Ok(Some(self.plain(refusal_text(*refusal))?)),
+            _ => Ok(Some(self.plain(refusal_text(Refusal::NotUnderstood))?)),
+        }
+    }
+
+    // The answer to a question; none to the one about the history.
+    fn explain<S: Guide>(&self, by: &S, query: &Query) -> Result<Option<Answer>, AllocError>
+        requires ready { S.ready by.now }
+        requires sight { IsSight self.now.world.now self.now.version self.now.player self.now.traveller.now }
+        requires question { IsQuestion self.now.world.now query.now }
+        requires player { CanAsk self.now.player query.now }
+        ensures { IfOk result
+            (IsResponse self.now.world.now self.now.version self.now.player (Verdict.Ask query.now)) }
+    {
+        match query {
+            Query::View(shown) => Ok(Some(self.view(shown)?)),
+            Query::Journey(journey) => Ok(Some(self.guide(by, journey)?)),
+            Query::Proof(journey) => Ok(Some(self.prove(by, journey)?)),
+            Query::History => Ok(None),
+        }
+    }
+
+    // An answer without a certificate.
+    fn plain(&self, text: &str) -> Result<Answer, AllocError>
+        requires { self.now.version ≤ MOST_ENTRIES }
+        ensures version { IfOk result (λ a. a.version ≡ self.now.version) }
+        ensures text { IfOk result (λ a. string_bytes a.text ≡ text.now) }
+        ensures cert { IfOk result (λ a. a.cert ≡ None) }
+    {
+        Ok(Answer {
+            version: self.version,
+            text: String::from_str(self.alloc, text)?,
+            cert: None,
+        })
+    }
+
+    // The answer to a question about what a player, or a guest, sees.
+    fn view(&self, view: &View) -> Result<Answer, AllocError>
+        requires { self.now.version ≤ MOST_ENTRIES }
+        ensures version { IfOk result (λ a. a.version ≡ self.now.version) }
+        ensures text { IfOk result
+            (λ a. string_bytes a.text ≡ show_text self.now.world.now self.now.player view.now) }
+        ensures cert { IfOk result (λ a. a.cert ≡ None) }
+    {
+        Ok(Answer {
+            version: self.version,
+            text: show(self.alloc, self.world, self.player, view)?,
+            cert: None,
+        })
+    }
+
+    // The guide's answer to a player's question about a journey.
+    fn guide<S: Guide>(&self, by: &S, journey: &Journey) -> Result<Answer, AllocError>
+        requires ready { S.ready by.now }
+        requires sight { IsSight self.now.world.now self.now.version self.now.player self.now.traveller.now }
+        requires player { IsSome self.now.player }
+        requires journey { IsJourney self.now.world.now journey.now }
+        ensures version { IfOk result (λ a. a.version ≡ self.now.version) }
+        ensures guided { IfOk result
+            (IsGuided self.now.world.now self.now.version self.now.player journey.now) }
+    {
+        let Some(player) = self.player else {
+            unreachable!();
+        };
+        let traveller = traveller_of(self.traveller, player);
+        by.journey(
+            self.alloc,
+            self.world,
+            self.version,
+            player,
+            traveller,
+            journey,
+        )
+    }
+
+    // That answer's certificate as a text.
+    fn prove<S: Guide>(&self, by: &S, journey: &Journey) -> Result<Answer, AllocError>
+        requires ready { S.ready by.now }
+        requires sight { IsSight self.now.world.now self.now.version self.now.player self.now.traveller.now }
+        requires player { IsSome self.now.player }
+        requires journey { IsJourney self.now.world.now journey.now }
+        ensures version { IfOk result (λ a. a.version ≡ self.now.version) }
+        ensures proven { IfOk result
+            (IsProven self.now.world.now self.now.version self.now.player journey.now) }
+    {
+        let answer = self.guide(by, journey)?;
+        let text = match &answer.cert {
+            Some(cert) => proof_answer(self.alloc, cert)?,
+            None => unreachable!(),
+        };
+        Ok(Answer {
+            version: self.version,
+            text,
+            cert: answer.cert,
+        })
+    }
 }

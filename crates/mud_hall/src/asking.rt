@@ -56,7 +56,8 @@ impl<J: HallName> Desk<J> {
         ensures ok { IfOk result (λ a. Answers self.old.state (line_of said.now) (answer_shown a)) }
     {
         let (version, player) = (self.seen(), self.player());
-        match answering::respond(by, alloc, self.world(), version, player, said)? {
+        let (world, traveller) = (self.replica.world(), &mut self.traveller);
+        match answering::respond(by, alloc, world, version, player, traveller, said)? {
             Some(answer) => Ok(answer),
             None => self.history(alloc, row),
         }

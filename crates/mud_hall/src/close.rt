@@ -2,7 +2,8 @@
 
 ghost use Rattle.std.specs.Prelude.{◌≡◌, ◌≤◌, ◌+◌, ◌↔◌, ◌⊎◌, length, All, IfOk, IfErr, IfSome, IsTrue, OnOk};
 ghost use mathlib.Core.List.{IsPrefix};
-ghost use Rattle.mud_chron.specs.declared.limits.TheConstants.{MOST_ENTRIES, MOST_DESKS};
+ghost use Rattle.mud_world.specs.declared.limits.TheConstants.{MOST_ENTRIES};
+ghost use Rattle.mud_chron.specs.declared.limits.TheConstants.{MOST_DESKS};
 ghost use Rattle.mud_hall.specs.Settling.{IsGathered, IsSettled, IsCloseFault, IsAtOdds, IsMissing};
 ghost use Rattle.mud_hall.specs.Settling.{HasNumber, AreApart, HaveSameNumber, versions_by, entries_made, first_apart};
 ghost use Rattle.mud_hall.specs.inner.Checking.{lesser_of, IsLeast, Differs, IsUnnamed, IsCheckFault};

@@ -5,13 +5,15 @@ ghost use Rattle.std.specs.Prelude.{map, Some, None, IfOk, IfErr, OnErr, OnOk, M
 ghost use Rattle.std.specs.Prelude.{vec_len, vec_capacity};
 ghost use Rattle.std.specs.Option.{option_to_list};
 ghost use mathlib.Core.List.{IsPrefix};
-ghost use Rattle.mud_chron.specs.declared.limits.TheConstants.{MOST_ENTRIES, MOST_DESKS};
+ghost use Rattle.mud_world.specs.declared.limits.TheConstants.{MOST_ENTRIES};
+ghost use Rattle.mud_chron.specs.declared.limits.TheConstants.{MOST_DESKS};
 ghost use Rattle.mud_hall.specs.Told.{notice_text};
 ghost use Rattle.mud_hall.specs.inner.Desks.{notice_in};
 ghost use Rattle.mud_hall.specs.Desk.{View, DeskState, TakesIn, Learns, IsNew, as_guest, untold, with_told};
 
 use crate::name::HallName;
 use mud_chron::Entry;
+use mud_roads::Traveller;
 use mud_row::{Replica, Row};
 use mud_rules::heard;
 use mud_world::World;
@@ -28,6 +30,8 @@ pub struct Desk<J: HallName> {
     pub(crate) replica: Box<Replica>,
     pub(crate) calls: Vec<u32>,
     pub(crate) told: Vec<String>,
+    // what was found to be open to its player, as long as its world and its player stay the same
+    pub(crate) traveller: Option<Traveller>,
     of: PhantomData<J>,
 }
 
@@ -57,7 +61,7 @@ impl<J: HallName> Model for Desk<J> {
       at = d.replica.value.at;
     } };
 
-    ghost invariant = { λ d. IsHeld J.cells J.loaded d.number d.player d.replica.value };
+    ghost invariant = { λ d. IsHeld J.cells J.loaded d.number d.player d.traveller d.replica.value };
 }
 
 impl<J: HallName> Desk<J> {
@@ -75,6 +79,7 @@ impl<J: HallName> Desk<J> {
             replica,
             calls: Vec::new(alloc),
             told: Vec::new(alloc),
+            traveller: None,
             of: PhantomData,
         }
     }
@@ -117,6 +122,7 @@ impl<J: HallName> Desk<J> {
         let version = replica.at() + 1;
         let line = line_told(alloc, self.player, version, replica.world(), entry)?;
         self.told.reserve(1)?;
+        self.traveller = None;
         replica.step(row)?;
         push_line(&mut self.told, line);
         Ok(true)

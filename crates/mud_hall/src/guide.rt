@@ -1,12 +1,14 @@
 //! Who finds what the guide is asked for.
 
-ghost use Rattle.std.specs.Prelude.{◌≡◌, ◌≤◌, ⊤, ℕ, Some, IfOk, IsTrue};
+ghost use Rattle.std.specs.Prelude.{◌≡◌, ◌≤◌, ⊤, ℕ, Some, IfOk, IfSome, IsTrue};
 ghost use Rattle.mud_world.specs.State.{is_player};
 ghost use Rattle.mud_rules.specs.Outcome.{IsJourney};
-ghost use Rattle.mud_chron.specs.declared.limits.TheConstants.{MOST_ENTRIES};
+ghost use Rattle.mud_world.specs.declared.limits.TheConstants.{MOST_ENTRIES};
 ghost use Rattle.mud_hall.specs.Answers.{IsGuided};
+ghost use Rattle.mud_hall.specs.inner.Desks.{Travels};
 
-use mud_guide::{Answer, meet, meet_alone, route, route_alone};
+use mud_guide::{Answer, meet, meet_alone, route, route_alone, route_of, route_of_alone};
+use mud_roads::Traveller;
 use mud_rules::Journey;
 use mud_search::Gate;
 use mud_world::World;
@@ -19,18 +21,20 @@ pub(crate) trait Guide {
     /// What a caller must know of it.
     ghost ready: { Self → Type 0 } = { λ _. ⊤ };
 
-    /// The guide's answer to a player's question about a journey.
+    /// The guide's answer to a player's question about a journey. The traveller, if there is one, is he.
     fn journey(
         &self,
         alloc: Global,
         world: &World,
         version: u32,
         player: u32,
+        traveller: Option<&Traveller>,
         journey: &Journey,
     ) -> Result<Answer, AllocError>
         requires ready { Self.ready self.now }
         requires version { version ≤ MOST_ENTRIES }
         requires player { IsTrue (is_player world.now player) }
+        requires traveller { IfSome traveller (λ t. Travels world.now player t.now) }
         requires journey { IsJourney world.now journey.now }
         ensures version { IfOk result (λ a. a.version ≡ version) }
         ensures guided { IfOk result (IsGuided world.now version (Some player) journey.now) };
@@ -47,10 +51,14 @@ impl Guide for Alone {
         world: &World,
         version: u32,
         player: u32,
+        traveller: Option<&Traveller>,
         journey: &Journey,
     ) -> Result<Answer, AllocError> {
         match journey {
-            Journey::Route { to } => route_alone(alloc, world, version, player, *to),
+            Journey::Route { to } => match traveller {
+                Some(traveller) => route_of_alone(alloc, world, version, traveller, *to),
+                None => route_alone(alloc, world, version, player, *to),
+            },
             Journey::Meet(party) => meet_alone(alloc, world, version, party.members()),
         }
     }
@@ -58,14 +66,19 @@ impl Guide for Alone {
 
 /// Whoever a closure has find it. A method of a trait can start no thread, and a closure can.
 #[derive(Drop)]
-pub(crate) struct Through<F: Fn(Global, &World, u32, u32, &Journey) -> Result<Answer, AllocError>> {
+pub(crate) struct Through<
+    F: Fn(Global, &World, u32, u32, Option<&Traveller>, &Journey) -> Result<Answer, AllocError>,
+> {
     pub(crate) find: F,
 }
 
-impl<F: Fn(Global, &World, u32, u32, &Journey) -> Result<Answer, AllocError>> Guide for Through<F> {
-    ghost ready = { λ s. (a : _) (w : _) (v p : ℕ) (j : _)
-        → v ≤ MOST_ENTRIES → IsTrue (is_player w.now p) → IsJourney w.now j.now → F.pre s.find a w v p j
-        × ((r : _) → F.post s.find a w v p j r
+impl<
+    F: Fn(Global, &World, u32, u32, Option<&Traveller>, &Journey) -> Result<Answer, AllocError>,
+> Guide for Through<F> {
+    ghost ready = { λ s. (a : _) (w : _) (v p : ℕ) (t : _) (j : _)
+        → v ≤ MOST_ENTRIES → IsTrue (is_player w.now p) → IfSome t (λ k. Travels w.now p k.now)
+        → IsJourney w.now j.now → F.pre s.find a w v p t j
+        × ((r : _) → F.post s.find a w v p t j r
         → IfOk r (λ a. a.version ≡ v) × IfOk r (IsGuided w.now v (Some p) j.now)) };
 
     fn journey(
@@ -74,13 +87,15 @@ impl<F: Fn(Global, &World, u32, u32, &Journey) -> Result<Answer, AllocError>> Gu
         world: &World,
         version: u32,
         player: u32,
+        traveller: Option<&Traveller>,
         journey: &Journey,
     ) -> Result<Answer, AllocError> {
-        (self.find)(alloc, world, version, player, journey)
+        (self.find)(alloc, world, version, player, traveller, journey)
     }
 }
 
-/// The guide's answer to a player's question about a journey, by N workers, who pass a gate.
+/// The guide's answer to a player's question about a journey, by N workers, who pass a gate. The traveller, if
+/// there is one, is he.
 pub(crate) fn by_workers<R: Threads + Wait + Sync, G: Gate + Sync>(
     rt: &R,
     workers: usize,
@@ -89,16 +104,23 @@ pub(crate) fn by_workers<R: Threads + Wait + Sync, G: Gate + Sync>(
     world: &World,
     version: u32,
     player: u32,
+    traveller: Option<&Traveller>,
     journey: &Journey,
 ) -> Result<Answer, AllocError>
     requires version { version ≤ MOST_ENTRIES }
     requires player { IsTrue (is_player world.now player) }
+    requires traveller { IfSome traveller (λ t. Travels world.now player t.now) }
     requires journey { IsJourney world.now journey.now }
     ensures version { IfOk result (λ a. a.version ≡ version) }
     ensures guided { IfOk result (IsGuided world.now version (Some player) journey.now) }
 {
     match journey {
-        Journey::Route { to } => route(rt, alloc, world, version, player, *to, workers, gate),
+        Journey::Route { to } => match traveller {
+            Some(traveller) => {
+                route_of(rt, alloc, world, version, traveller, *to, workers, gate)
+            }
+            None => route(rt, alloc, world, version, player, *to, workers, gate),
+        },
         Journey::Meet(party) => meet(rt, alloc, world, version, party.members(), workers, gate),
     }
 }

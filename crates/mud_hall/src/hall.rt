@@ -1,7 +1,7 @@
 //! Many desks over one history.
 
 ghost use Rattle.std.specs.Prelude.{◌≡◌, ◌≢◌, ◌≤◌, ◌<◌, ◌⊎◌, [], length, max, IfOk, IfErr, OnErr, OnOk};
-ghost use Rattle.std.specs.Prelude.{Some, IsTrue};
+ghost use Rattle.std.specs.Prelude.{Some, IfSome, IsTrue};
 ghost use Rattle.std.specs.Thread.{IsSync};
 ghost use Rattle.mud_world.specs.State.{is_player};
 ghost use Rattle.mud_rules.specs.Outcome.{IsJourney};
@@ -10,13 +10,14 @@ ghost use Rattle.std.specs.List.{AllByRecursion};
 ghost use mathlib.Core.List.{IsPrefix};
 ghost use Rattle.mud_words.specs.Line.{line_of};
 ghost use Rattle.mud_words.specs.Parse.{parse_of};
-ghost use Rattle.mud_chron.specs.declared.limits.TheConstants.{MOST_ENTRIES};
+ghost use Rattle.mud_world.specs.declared.limits.TheConstants.{MOST_ENTRIES};
 ghost use Rattle.mud_chron.specs.Entry.{IsEntry};
 ghost use Rattle.mud_hall.specs.Desk.{IsNew, TakesIn, untold};
 ghost use Rattle.mud_hall.specs.Replies.{Failed, reply_shown, Acts};
 ghost use Rattle.mud_hall.specs.Answers.{answer_shown, Answers};
 ghost use Rattle.mud_hall.specs.Opening.{Begun, IsLoadFault};
 ghost use Rattle.mud_hall.specs.Steps.{AreLoadable};
+ghost use Rattle.mud_hall.specs.inner.Desks.{Travels};
 
 use crate::desk::Desk;
 use crate::fault::{Fault, LoadFault};
@@ -26,6 +27,7 @@ use crate::name::HallName;
 use crate::reply::Reply;
 use mud_chron::{ChronFault, Entry, replay};
 use mud_guide::Answer;
+use mud_roads::Traveller;
 use mud_row::{FillFault, Pass, Replica, Row};
 use mud_rules::Journey;
 use mud_search::Gate;
@@ -335,15 +337,19 @@ impl<J: HallName> Desk<J> {
         ensures fault { IfErr result (λ f. f ≡ Fault.OutOfMemory) }
     {
         let by = Through {
-            find: |alloc: Global, world: &World, version: u32, player: u32, journey: &Journey| -> Result<
-                Answer,
-                AllocError,
-            >
+            find: |alloc: Global, world: &World, version: u32, player: u32, traveller: Option<
+                &Traveller,
+            >, journey: &Journey| -> Result<Answer, AllocError>
                 requires { IsSync R.row × IsSync G.row × (version ≤ MOST_ENTRIES)
-                    × IsTrue (is_player world.now player) × IsJourney world.now journey.now }
+                    × IsTrue (is_player world.now player) × IfSome traveller (λ t. Travels world.now player t.now)
+                    × IsJourney world.now journey.now }
                 ensures version { IfOk result (λ a. a.version ≡ version) }
                 ensures guided { IfOk result (IsGuided world.now version (Some player) journey.now) }
-            { by_workers(rt, workers, gate, alloc, world, version, player, journey) },
+            {
+                by_workers(
+                    rt, workers, gate, alloc, world, version, player, traveller, journey,
+                )
+            },
         };
         let answer = self.answer(&by, hall.alloc, &hall.row, said)?;
         Ok(answer)

@@ -56,6 +56,7 @@ mod reader;
 mod reply;
 mod solo;
 mod texts;
+mod travel;
 
 pub use close::Settled;
 pub use desk::Desk;

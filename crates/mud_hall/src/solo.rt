@@ -1,11 +1,12 @@
 //! A desk of one user, with a world of its own.
 
 ghost use Rattle.std.specs.Prelude.{◌≡◌, ◌≢◌, ◌≤◌, ◌<◌, ◌++◌, ◌⊎◌, [], length, codes, string_bytes};
-ghost use Rattle.std.specs.Prelude.{Some, None, IfOk, IfErr, OnOk, OnErr, IsTrue, vec_len, vec_capacity};
+ghost use Rattle.std.specs.Prelude.{Some, None, IfOk, IfErr, IfSome, OnOk, OnErr, IsTrue, vec_len, vec_capacity};
 ghost use Rattle.std.specs.Thread.{IsSync};
 ghost use Rattle.mud_world.specs.State.{is_player};
 ghost use Rattle.mud_world.specs.Legal.{refusal, after};
-ghost use Rattle.mud_chron.specs.declared.limits.TheConstants.{MOST_ENTRIES};
+ghost use Rattle.mud_roads.specs.Open.{IsTraveller};
+ghost use Rattle.mud_world.specs.declared.limits.TheConstants.{MOST_ENTRIES};
 ghost use Rattle.mud_chron.specs.inner.Texts.{written_text};
 ghost use Rattle.mud_words.specs.Line.{line_of};
 ghost use Rattle.mud_words.specs.Parse.{parse_of};
@@ -16,6 +17,7 @@ ghost use Rattle.mud_hall.specs.Desk.{as_player, as_accepted, with_told};
 ghost use Rattle.mud_hall.specs.Replies.{reply_shown, verdict_on, Replies, Stores};
 ghost use Rattle.mud_hall.specs.Answers.{answer_shown, Answers, IsGuided};
 ghost use Rattle.mud_hall.specs.Alone.{Alone, alone};
+ghost use Rattle.mud_hall.specs.inner.Desks.{Travels};
 
 use crate::answering;
 use crate::fault::Fault;
@@ -24,6 +26,7 @@ use crate::reply::Reply;
 use crate::texts::history_answer;
 use mud_chron::Entry;
 use mud_guide::Answer;
+use mud_roads::Traveller;
 use mud_rules::{Journey, Verdict, decide, refusal_text, reply_text, welcome_text};
 use mud_search::OpenGate;
 use mud_words::{Parsed, parse};
@@ -43,6 +46,8 @@ pub struct Solo {
     history: Vec<Entry>,
     player: u32,
     workers: u32,
+    // what was found to be open to its player, as long as its world and its player stay the same
+    traveller: Option<Traveller>,
 }
 
 impl Model for Solo {
@@ -57,7 +62,7 @@ impl Model for Solo {
 
     ghost view = { λ a. alone a.capacity a.player a.history.items };
 
-    ghost invariant = { λ a. IsAlone a.capacity a.player a.world a.history.items };
+    ghost invariant = { λ a. IsAlone a.capacity a.player a.traveller a.world a.history.items };
 }
 
 impl Solo {
@@ -75,6 +80,7 @@ impl Solo {
             history: Vec::new(alloc),
             player: 1,
             workers: 0,
+            traveller: None,
         })
     }
 
@@ -192,6 +198,7 @@ impl Solo {
         ensures ok { OnOk result (self.new.state ≡ as_accepted self.old.state change) }
         ensures err { OnErr result (self.new.state ≡ self.old.state) }
     {
+        self.traveller = None;
         apply(&mut self.history, &mut self.world, &change)?;
         self.player = change.actor;
         self.history.push_reserved(Entry::new(1, change));
@@ -203,43 +210,77 @@ impl Solo {
         ensures { IfOk result (λ a. Answers self.now.state (parse_of line.now) (answer_shown a)) }
     {
         let said = parse(self.alloc, line)?;
-        self.ask_on(rt, &said)
+        let mut traveller = None;
+        self.respond(rt, &mut traveller, &said)
     }
 
-    /// Answers what a line says, as [`Solo::ask`] the line.
+    /// Answers what a line says, as [`Solo::ask`] the line. What is open to its player is kept for the next route.
     pub fn ask_on<R: Threads + Wait + Sync>(
-        &self,
+        &mut self,
         rt: &R,
         said: &Parsed,
     ) -> Result<Answer, AllocError>
-        ensures { IfOk result (λ a. Answers self.now.state (line_of said.now) (answer_shown a)) }
+        ensures same { self.new ≡ self.old }
+        ensures answers { IfOk result (λ a. Answers self.old.state (line_of said.now) (answer_shown a)) }
+    {
+        let mut traveller = self.traveller.take();
+        let answer = self.respond(rt, &mut traveller, said);
+        self.traveller = traveller;
+        answer
+    }
+
+    // Answers what a line says. What is open to a player who asks for a route is kept in `traveller`.
+    fn respond<R: Threads + Wait + Sync>(
+        &self,
+        rt: &R,
+        traveller: &mut Option<Traveller>,
+        said: &Parsed,
+    ) -> Result<Answer, AllocError>
+        requires { IfSome traveller.old (IsTraveller (world_after self.now.state.seen)) }
+        ensures known { IfSome traveller.new (IsTraveller (world_after self.now.state.seen)) }
+        ensures answers { IfOk result (λ a. Answers self.now.state (line_of said.now) (answer_shown a)) }
     {
         let workers = self.workers as usize;
         let by = Through {
-            find: |alloc: Global, world: &World, version: u32, player: u32, journey: &Journey| -> Result<
-                Answer,
-                AllocError,
-            >
+            find: |alloc: Global, world: &World, version: u32, player: u32, traveller: Option<
+                &Traveller,
+            >, journey: &Journey| -> Result<Answer, AllocError>
                 requires { IsSync R.row × (version ≤ MOST_ENTRIES)
-                    × IsTrue (is_player world.now player) × IsJourney world.now journey.now }
+                    × IsTrue (is_player world.now player) × IfSome traveller (λ t. Travels world.now player t.now)
+                    × IsJourney world.now journey.now }
                 ensures version { IfOk result (λ a. a.version ≡ version) }
                 ensures guided { IfOk result (IsGuided world.now version (Some player) journey.now) }
             {
                 by_workers(
-                    rt, workers, &OpenGate, alloc, world, version, player, journey,
+                    rt, workers, &OpenGate, alloc, world, version, player, traveller, journey,
                 )
             },
         };
-        self.respond(&by, said)
+        self.respond_by(&by, traveller, said)
     }
 
-    // Answers what a line says.
-    fn respond<S: Guide>(&self, by: &S, said: &Parsed) -> Result<Answer, AllocError>
-        requires { S.ready by.now }
-        ensures { IfOk result (λ a. Answers self.now.state (line_of said.now) (answer_shown a)) }
+    // The same, where the guide's answers are found so.
+    fn respond_by<S: Guide>(
+        &self,
+        by: &S,
+        traveller: &mut Option<Traveller>,
+        said: &Parsed,
+    ) -> Result<Answer, AllocError>
+        requires ready { S.ready by.now }
+        requires known { IfSome traveller.old (IsTraveller (world_after self.now.state.seen)) }
+        ensures known { IfSome traveller.new (IsTraveller (world_after self.now.state.seen)) }
+        ensures answers { IfOk result (λ a. Answers self.now.state (line_of said.now) (answer_shown a)) }
     {
         let (version, player) = (self.version(), Some(self.player));
-        match answering::respond(by, self.alloc, &self.world, version, player, said)? {
+        match answering::respond(
+            by,
+            self.alloc,
+            &self.world,
+            version,
+            player,
+            traveller,
+            said,
+        )? {
             Some(answer) => Ok(answer),
             None => self.told_history(),
         }

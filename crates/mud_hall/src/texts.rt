@@ -1,8 +1,8 @@
 //! Answers that are texts of lines: a history's, and a certificate's.
 
 ghost use Rattle.std.specs.Prelude.{◌≡◌, ◌≤◌, ◌++◌, [], ◌∷◌, List, ℕ, IfOk, codes, length, string_bytes};
-ghost use Rattle.mud_chron.specs.declared.limits.TheConstants.{MOST_ENTRIES};
-ghost use Rattle.mud_chron.specs.declared.codes.TheConstants.{LF};
+ghost use Rattle.mud_world.specs.declared.limits.TheConstants.{MOST_ENTRIES};
+ghost use Rattle.mud_key.specs.declared.codes.TheConstants.{LF};
 ghost use Rattle.mud_chron.specs.inner.Texts.{written_text};
 ghost use Rattle.mud_cert.specs.Text.{cert_text};
 

@@ -5,9 +5,9 @@ ghost use mathlib.Core.List.{IsPrefix};
 ghost use Rattle.mud_hall.specs.Settling.{IsGathered};
 ghost use Rattle.mud_journal.specs.Disk.{Holds};
 
-use mud_chron::MOST_ENTRIES;
 use mud_hall::{Desk, Hall, HallName, Reader};
 use mud_journal::{Disk, Journal, JournalFault, Receipt};
+use mud_world::limits::MOST_ENTRIES;
 use std::alloc::Global;
 use std::marker::Model;
 

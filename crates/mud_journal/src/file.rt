@@ -1,7 +1,7 @@
 //! The file of a journal.
 
 ghost use Rattle.std.specs.Prelude.{◌≡◌, ◌≤◌, IfOk, length};
-ghost use Rattle.mud_chron.specs.declared.limits.TheConstants.{MOST_ENTRIES};
+ghost use Rattle.mud_world.specs.declared.limits.TheConstants.{MOST_ENTRIES};
 
 use crate::fault::OpenFault;
 use crate::journal::Found;
@@ -52,7 +52,7 @@ fn read_file<R: Files<File = File> + AllocGlobal>(
 
 /// Opens the file of this name, which may be new, and has it for this program only. Answers what [`recover`] finds in
 /// its bytes: the journal, its entries, and how many bytes at its end are torn. No byte of the file changes.
-pub fn found<R: Files<File = File> + AllocGlobal>(
+pub fn find_journal<R: Files<File = File> + AllocGlobal>(
     rt: &R,
     name: &str,
 ) -> Result<(Found<File>, Vec<Entry>, usize), OpenFault>

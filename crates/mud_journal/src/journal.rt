@@ -8,7 +8,8 @@ ghost use Rattle.mud_journal.specs.Disk.{Kept, Holds, HoldsFront, Begins, Adds, 
 
 use crate::disk::Disk;
 use crate::fault::JournalFault;
-use mud_chron::{Entry, Format, MOST_ENTRIES, write_entry};
+use mud_chron::{Entry, Format, write_entry};
+use mud_world::limits::MOST_ENTRIES;
 use std::alloc::{AllocError, Global};
 
 /// That this many entries are synced. A journal makes it, and else only a gate without a journal, where it is free: no

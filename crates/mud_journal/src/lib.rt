@@ -20,7 +20,7 @@ mod recovery;
 
 pub use disk::{Disk, DiskFault};
 pub use fault::{JournalFault, OpenFault};
-pub use file::found;
+pub use file::find_journal;
 pub use gate::Gate;
 pub use held::{Anything, Held, Telling};
 pub use journal::{Found, Journal, Receipt};

@@ -49,11 +49,11 @@ fn answer_to(alloc: Global, wish: Wish, bytes: &[u8]) -> Result<Answer, ChronFau
 fn text(rt: &HostRuntime, wish: Wish, file: &str) -> ExitCode {
     let bytes = match read_input(rt, file) {
         Ok(bytes) => bytes,
-        Err(unkept) => return unread(rt, unkept),
+        Err(unkept) => return tell_unreadable(rt, unkept),
     };
     match answer_to(rt.alloc(), wish, &bytes) {
         Ok(answer) => print_answer(rt, answer.text.as_bytes(), answer.note),
-        Err(fault) => unread(rt, Unkept::of_text(fault)),
+        Err(fault) => tell_unreadable(rt, Unkept::of_text(fault)),
     }
 }
 
@@ -61,34 +61,34 @@ fn text(rt: &HostRuntime, wish: Wish, file: &str) -> ExitCode {
 fn map(rt: &HostRuntime, file: &str, proof: Option<&str>) -> ExitCode {
     let bytes = match read_input(rt, file) {
         Ok(bytes) => bytes,
-        Err(unkept) => return unread(rt, unkept),
+        Err(unkept) => return tell_unreadable(rt, unkept),
     };
     let Some(proof) = proof else {
         return match map_of(rt.alloc(), &bytes) {
             Ok(text) => print_answer(rt, &text, Note::Nothing),
-            Err(fault) => unread(rt, Unkept::of_text(fault)),
+            Err(fault) => tell_unreadable(rt, Unkept::of_text(fault)),
         };
     };
     let proof = match read_input(rt, proof) {
         Ok(proof) => proof,
-        Err(unkept) => return unread(rt, unkept),
+        Err(unkept) => return tell_unreadable(rt, unkept),
     };
     match mapped_with(rt.alloc(), &bytes, &proof) {
         Ok(text) => print_answer(rt, &text, Note::Nothing),
-        Err(fault) => unread(rt, Unkept::of_map(fault)),
+        Err(fault) => tell_unreadable(rt, Unkept::of_map(fault)),
     }
 }
 
 // Says why the words ask for nothing, and answers the status.
 fn tell_fault(rt: &HostRuntime, fault: CommandFault) -> ExitCode {
     match fault {
-        CommandFault::OutOfMemory => unread(rt, Unkept::OutOfMemory),
+        CommandFault::OutOfMemory => tell_unreadable(rt, Unkept::OutOfMemory),
         CommandFault::Told(text) => ExitCode::from(show(rt, text.as_str())),
     }
 }
 
 // Says why there is no answer, where that can be said, and answers the status.
-fn unread(rt: &HostRuntime, unkept: Unkept<'_>) -> ExitCode {
+fn tell_unreadable(rt: &HostRuntime, unkept: Unkept<'_>) -> ExitCode {
     let _ = eprintln!(rt; "unreadable: {unkept}");
     ExitCode::from(2)
 }
@@ -97,7 +97,7 @@ fn unread(rt: &HostRuntime, unkept: Unkept<'_>) -> ExitCode {
 fn print_answer(rt: &HostRuntime, text: &[u8], note: Note) -> ExitCode {
     let mut sink = Sink::new(io::writer(rt));
     if !sink.write_all(text) {
-        return unread(rt, Unkept::Write);
+        return tell_unreadable(rt, Unkept::Write);
     }
     if note != Note::Nothing {
         let _ = eprintln!(rt; "{note}");

@@ -1,7 +1,7 @@
 //! What is read of a history or a journal.
 
 ghost use Rattle.std.specs.Prelude.{◌≢◌, ◌≤◌, length, IfOk, IfErr, string_bytes};
-ghost use Rattle.mud_chron.specs.declared.limits.TheConstants.{MOST_ENTRIES};
+ghost use Rattle.mud_world.specs.declared.limits.TheConstants.{MOST_ENTRIES};
 ghost use Rattle.mud_chron.specs.Fronts.{HasFrontFault};
 ghost use Rattle.mud_keeping.specs.Reading.{KeepsEntries, HasKeptFault, IsRecovered};
 

@@ -1,4 +1,4 @@
--- A tree written as a list of its nodes, from which it is built again: by this the models of `Key`
+-- A tree written as a list of its nodes, from which it is build again: by this the models of `Key`
 -- and `KeyText` tell two trees apart. No contract cites it.
 use Rattle.std.specs.Prelude.{◌≡◌, ℕ, List, [], ◌∷◌, refl}
 use Rattle.std.proofs.Common.{◌∙◌, ap, ◌⊎◌, inl, inr, zero, suc}
@@ -30,30 +30,30 @@ abbrev operate : {O : Type 0} → ℕ → List (Tree O) → List (Tree O)
 operate n [] = []
 operate n (b ∷ st) = join_top n b st
 
-abbrev built : {O : Type 0} → List (Token O) → List (Tree O) → List (Tree O)
-built [] st = st
-built (inl o ∷ ts) st = built ts (Has o ∷ st)
-built (inr (inl o) ∷ ts) st = built ts (Asks o ∷ st)
-built (inr (inr n) ∷ ts) st = built ts (operate n st)
+abbrev build : {O : Type 0} → List (Token O) → List (Tree O) → List (Tree O)
+build [] st = st
+build (inl o ∷ ts) st = build ts (Has o ∷ st)
+build (inr (inl o) ∷ ts) st = build ts (Asks o ∷ st)
+build (inr (inr n) ∷ ts) st = build ts (operate n st)
 
 abbrev first_tree : {O : Type 0} → O → List (Tree O) → Tree O
 first_tree o [] = Has o
 first_tree o (k ∷ st) = k
 
-pub built-tokens : {O : Type 0} (k : Tree O) (ts : List (Token O)) (st : List (Tree O))
-    → built (tokens k ts) st ≡ built ts (k ∷ st)
-built-tokens (Has o) ts st = refl
-built-tokens (Asks o) ts st = refl
-built-tokens (Not k) ts st = built-tokens k (inr (inr 0) ∷ ts) st
-built-tokens (Join And a b) ts st =
-    built-tokens a (tokens b (inr (inr 1) ∷ ts)) st ∙ built-tokens b (inr (inr 1) ∷ ts) (a ∷ st)
-built-tokens (Join Or a b) ts st =
-    built-tokens a (tokens b (inr (inr 2) ∷ ts)) st ∙ built-tokens b (inr (inr 2) ∷ ts) (a ∷ st)
+pub build-tokens : {O : Type 0} (k : Tree O) (ts : List (Token O)) (st : List (Tree O))
+    → build (tokens k ts) st ≡ build ts (k ∷ st)
+build-tokens (Has o) ts st = refl
+build-tokens (Asks o) ts st = refl
+build-tokens (Not k) ts st = build-tokens k (inr (inr 0) ∷ ts) st
+build-tokens (Join And a b) ts st =
+    build-tokens a (tokens b (inr (inr 1) ∷ ts)) st ∙ build-tokens b (inr (inr 1) ∷ ts) (a ∷ st)
+build-tokens (Join Or a b) ts st =
+    build-tokens a (tokens b (inr (inr 2) ∷ ts)) st ∙ build-tokens b (inr (inr 2) ∷ ts) (a ∷ st)
 
 abbrev coded_tree : {O : Type 0} → O → Coded O → Coded (Tree O)
 coded_tree {O} o c =
     code_by (List (Token O)) (coded_list (coded⊎ c (coded⊎ c coded_ℕ))) (λ k. tokens k [])
-    (λ ts. first_tree o (built ts [])) (λ k. ap (first_tree o) (built-tokens k [] []))
+    (λ ts. first_tree o (build ts [])) (λ k. ap (first_tree o) (build-tokens k [] []))
 
 -- the code of the trees of `Key`. A reader need not look into this: it is its type that tells two trees apart
 abbrev pub coded_number_tree : Coded (Tree ℕ)

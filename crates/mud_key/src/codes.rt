@@ -14,3 +14,7 @@ pub const PARENTHESIS: u8 = 40;
 pub const ZERO: u8 = 48;
 /// The last of the digits, `9`.
 pub const NINE: u8 = 57;
+/// Line feed: it ends a line of a history and of a certificate (docs/HISTORY.md, docs/CERTIFICATES.md, "The text").
+pub const LF: u8 = 10;
+/// Carriage return: no text of a history or of a certificate has one.
+pub const CR: u8 = 13;

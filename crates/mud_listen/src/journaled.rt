@@ -5,7 +5,8 @@ ghost use Rattle.std.specs.Prelude.{IfOk, IfErr, IfNone, IsTrue, OnOk, OnErr, is
 ghost use mathlib.Core.List.{IsPrefix};
 ghost use Rattle.mud_ends.specs.Ends.{Writer};
 ghost use Rattle.mud_chron.specs.Entry.{Entry};
-ghost use Rattle.mud_chron.specs.declared.limits.TheConstants.{MOST_DESKS, MOST_ENTRIES};
+ghost use Rattle.mud_world.specs.declared.limits.TheConstants.{MOST_ENTRIES};
+ghost use Rattle.mud_chron.specs.declared.limits.TheConstants.{MOST_DESKS};
 ghost use Rattle.mud_journal.specs.Disk.{Holds, Begins};
 ghost use Rattle.mud_house.specs.Listening.{MayEnd, Settles, SettlesInPart, IsListenFault};
 ghost use Rattle.mud_search.specs.declared.limits.TheConstants.{MOST_WORKERS};

@@ -1,57 +1,81 @@
--- The lists as they are seen, by the map in memory.
-use Rattle.std.proofs.Common.{◌≡◌, ◌∙◌, ℕ, Bool, true, false, cond, List, [], ◌∷◌, Option, refl, sym, ap}
+-- The lists as they are seen, by those in memory.
+use Rattle.std.proofs.Common.{◌≡◌, ◌∙◌, ℕ, zero, suc, ◌+◌, ◌<◌, ◌≤◌, Bool, true, false, cond, List, [], ◌∷◌, length}
+use Rattle.std.proofs.Common.{Some, get_or, set, refl, sym, ap, arith}
 use Rattle.std.specs.Prelude.{nat_eq, if◌then◌else◌}
 use Rattle.std.specs.Option.{unwrap_or}
 use Rattle.std.specs.Map.{lookup}
 use Rattle.std.specs.List.{AllZip, list_any}
 use Rattle.std.proofs.lemmas.Bool.{eqb-true, eqb-false, eq-eqb, ne_eqb}
-use Rattle.mud_lists.specs.Rising.{insert, put}
-use Rattle.mud_lists.specs.Lists.{list_at, AreChanged, AreSame}
+use Rattle.std.proofs.lemmas.List.{get_or-set_same, get_or-set_other, get_or_past}
+use Rattle.mud_lists.specs.Rising.{insert, put, without}
+use Rattle.mud_lists.specs.Lists.{list_at, AreChanged, AreSame, with_numbers}
 
 bool_cases : {P : Type 0} (b : Bool) → (b ≡ true → P) → (b ≡ false → P) → P
 bool_cases true f g = f refl
 bool_cases false f g = g refl
 
-pub flip : (a b : ℕ) → nat_eq a b ≡ nat_eq b a
-flip a b =
-    bool_cases (nat_eq a b)
-    (λ e. e ∙ sym (eq-eqb b a (sym (eqb-true a b e))))
-    (λ e. e ∙ sym (ne_eqb b a (λ same. eqb-false a b e (sym same))))
+-- the list of number k + i is the one at place i
+at_place : (lists : List (List ℕ)) (k i : ℕ) → list_at (with_numbers k lists) (k + i) ≡ get_or lists i []
+at_place [] k i = refl
+at_place (list ∷ lists) k zero =
+    ap (λ t. unwrap_or (cond t (Some list) (lookup (nat_eq (k + 0)) (with_numbers (k + 1) lists))) [])
+    (eq-eqb (k + 0) k (omega arith))
+at_place (list ∷ lists) k (suc i) =
+    let next : k + suc i ≡ (k + 1) + i = omega arith in
+    ap (λ t. unwrap_or (cond t (Some list) (lookup (nat_eq (k + suc i)) (with_numbers (k + 1) lists))) [])
+    (ne_eqb (k + suc i) k (λ e. omega arith))
+    ∙ ap (λ n. list_at (with_numbers (k + 1) lists) n) next
+    ∙ at_place lists (k + 1) i
 
--- the map has another list at the holder, or none
-pub changed_seen : (es fs : List (ℕ × List ℕ)) (h : ℕ) (f : List ℕ → List ℕ) (o : Option (List ℕ))
-    → ((q : ℕ) → lookup (nat_eq q) fs ≡ cond (nat_eq h q) o (lookup (nat_eq q) es))
-    → unwrap_or o [] ≡ f (list_at es h) → AreChanged (λ n. nat_eq n h) f es fs
-changed_seen es fs h f o is list = λ n.
-    ap (λ v. unwrap_or v []) (is n)
-    ∙ ap (λ t. unwrap_or (cond t o (lookup (nat_eq n) es)) []) (flip h n)
+pub list_placed : (lists : List (List ℕ)) (n : ℕ) → list_at (with_numbers 0 lists) n ≡ get_or lists n []
+list_placed lists n =
+    let same : n ≡ 0 + n = omega arith in
+    ap (λ m. list_at (with_numbers 0 lists) m) same ∙ at_place lists 0 n
+
+-- each place has an equal list
+pub same_seen : (xs ys : List (List ℕ)) → ((n : ℕ) → get_or ys n [] ≡ get_or xs n [])
+    → AreSame (with_numbers 0 xs) (with_numbers 0 ys)
+same_seen xs ys same = λ n. list_placed ys n ∙ same n ∙ sym (list_placed xs n)
+
+-- the list at the holder's place is changed
+pub changed_seen : (xs : List (List ℕ)) (h : ℕ) (f : List ℕ → List ℕ) → h < length xs
+    → AreChanged (λ n. nat_eq n h) f (with_numbers 0 xs) (with_numbers 0 (set xs h (f (get_or xs h []))))
+changed_seen xs h f within = λ n.
+    list_placed (set xs h (f (get_or xs h []))) n
     ∙ bool_cases (nat_eq n h)
     (λ here.
-    ap (λ t. unwrap_or (cond t o (lookup (nat_eq n) es)) []) here
-    ∙ list ∙ ap (λ m. f (list_at es m)) (sym (eqb-true n h here))
-    ∙ sym (ap (λ t. if t then f (list_at es n) else list_at es n) here))
+    ap (λ m. get_or (set xs h (f (get_or xs h []))) m []) (eqb-true n h here)
+    ∙ get_or-set_same xs h (f (get_or xs h [])) [] within
+    ∙ ap (λ m. f (get_or xs m [])) (sym (eqb-true n h here))
+    ∙ ap f (sym (list_placed xs n))
+    ∙ sym (ap (λ t. if t then f (list_at (with_numbers 0 xs) n) else list_at (with_numbers 0 xs) n) here))
     (λ past.
-    ap (λ t. unwrap_or (cond t o (lookup (nat_eq n) es)) []) past
-    ∙ sym (ap (λ t. if t then f (list_at es n) else list_at es n) past))
+    get_or-set_other xs h n (f (get_or xs h [])) [] (eqb-false n h past)
+    ∙ sym (list_placed xs n)
+    ∙ sym (ap (λ t. if t then f (list_at (with_numbers 0 xs) n) else list_at (with_numbers 0 xs) n) past))
 
--- the map has an equal list at the holder
-pub same_seen : (es fs : List (ℕ × List ℕ)) (h : ℕ) (o : Option (List ℕ))
-    → ((q : ℕ) → lookup (nat_eq q) fs ≡ cond (nat_eq h q) o (lookup (nat_eq q) es))
-    → unwrap_or o [] ≡ list_at es h → AreSame es fs
-same_seen es fs h o is list = λ n.
-    changed_seen es fs h (λ v. v) o is list n
-    ∙ bool_cases (nat_eq n h)
-    (λ here. ap (λ t. if t then list_at es n else list_at es n) here)
-    (λ past. ap (λ t. if t then list_at es n else list_at es n) past)
+-- the same of lists that are equal place by place
+pub changed_later : (xs ys : List (List ℕ)) (h : ℕ) (f : List ℕ → List ℕ)
+    → ((n : ℕ) → get_or ys n [] ≡ get_or xs n []) → h < length ys
+    → AreChanged (λ n. nat_eq n h) f (with_numbers 0 xs) (with_numbers 0 (set ys h (f (get_or ys h []))))
+changed_later xs ys h f same within = λ n.
+    changed_seen ys h f within n ∙ ap (λ v. if nat_eq n h then f v else v) (same_seen xs ys same n)
 
-pub cloned : (C : ℕ → ℕ → Type 0) → ((x y : ℕ) → C x y → y ≡ x) → (es fs : List (ℕ × List ℕ))
-    → AllZip (λ p q. C p.0 q.0 × (q.1 ≡ p.1)) es fs → fs ≡ es
-cloned C same [] [] all = refl
-cloned C same [] (f ∷ fs) all = absurd all
-cloned C same (e ∷ es) [] all = absurd all
-cloned C same (e ∷ es) (f ∷ fs) all = λ i. (same e.0 f.0 all.0.0 i, all.0.1 i) ∷ cloned C same es fs all.1 i
+-- a holder without a place has the empty list, of which nothing changes
+pub unchanged_past : (xs : List (List ℕ)) (h m : ℕ) → length xs ≤ h
+    → AreChanged (λ n. nat_eq n h) (without m) (with_numbers 0 xs) (with_numbers 0 xs)
+unchanged_past xs h m past = λ n.
+    let lists = with_numbers 0 xs in
+    bool_cases (nat_eq n h)
+    (λ here.
+    let empty : list_at lists n ≡ [] =
+    list_placed xs n ∙ ap (λ v. get_or xs v []) (eqb-true n h here) ∙ get_or_past xs h [] past in
+    empty ∙ sym (ap (without m) empty)
+    ∙ sym (ap (λ t. if t then without m (list_at lists n) else list_at lists n) here))
+    (λ other. sym (ap (λ t. if t then without m (list_at lists n) else list_at lists n) other))
 
-pub zipped : (C : ℕ → ℕ → Type 0) → ((x y : ℕ) → C x y → y ≡ x) → (xs ys : List ℕ) → AllZip C xs ys → ys ≡ xs
+pub zipped : {A : Type 0} (C : A → A → Type 0) → ((x y : A) → C x y → y ≡ x) → (xs ys : List A) → AllZip C xs ys
+    → ys ≡ xs
 zipped C same [] [] all = refl
 zipped C same [] (y ∷ ys) all = absurd all
 zipped C same (x ∷ xs) [] all = absurd all

@@ -1,23 +1,25 @@
 //! A rising list for each number.
 
-ghost use Rattle.std.specs.Prelude.{◌≡◌, [], nat_eq, OnOk, OnErr, IfOk, IsTrue, ℕ};
+ghost use Rattle.std.specs.Prelude.{◌≡◌, ◌<◌, ◌≤◌, [], length, nat_eq, slice_index_or, slice_set, OnOk, OnErr, IfOk, ℕ};
 ghost use Rattle.mud_lists.specs.Rising.{insert, put, without};
 ghost use Rattle.std.specs.List.{list_any};
 ghost use Rattle.mud_lists.specs.Lists.{list_at, AreSame, AreChanged};
 
 use crate::numbers::Rising;
-use indexmap::IndexMap;
 use std::alloc::{AllocError, Global};
 use std::marker::Model;
 
-/// A rising list of numbers for each number. A contract sees each holder with its list; which holders have an entry,
-/// and in which order, says nothing: `list_at` is what is asked.
+/// A rising list of numbers for each number. A contract sees each holder with its list; which holders have an entry
+/// says nothing: `list_at` is what is asked.
+///
+/// The list of number n stands at place n, so that nothing is searched for. The holders are to be small numbers: as
+/// many places are kept as the highest of them asks.
 pub struct Lists {
     alloc: Global,
-    lists: IndexMap<u32, Rising>,
+    lists: Vec<Rising>,
 }
 
-// Written out: where lists go, a proof then has one step, and not one for each part of the map.
+// Written out: where lists go, a proof then has one step, and not one for each part of them.
 impl Drop for Lists {
     fn drop(self) {
         let Lists { alloc: _, lists } = self;
@@ -27,10 +29,61 @@ impl Drop for Lists {
 
 impl Model for Lists {
     ghost use Rattle.std.specs.Prelude.{ℕ, List};
+    ghost use Rattle.mud_lists.specs.Lists.{with_numbers};
 
     ghost Value = { List (ℕ × List ℕ) };
 
-    ghost view = { λ a. a.lists.entries };
+    ghost view = { λ a. with_numbers 0 a.lists.items };
+}
+
+// The list at a place; the empty list, where there is no such place.
+fn list_of(lists: &[Rising], at: usize) -> &[u32]
+    ensures { result.now ≡ slice_index_or lists.now at [] }
+{
+    match lists.get(at) {
+        Some(list) => list.as_slice(),
+        None => &[],
+    }
+}
+
+// Whether a number is in the list at a place.
+fn has_at(lists: &[Rising], at: usize, number: u32) -> bool
+    ensures { result ≡ list_any (nat_eq number) (slice_index_or lists.now at []) }
+{
+    match lists.get(at) {
+        Some(list) => list.has(number),
+        None => false,
+    }
+}
+
+// Empty lists at the end, until there are so many.
+fn fill(lists: &mut Vec<Rising>, alloc: Global, len: usize) -> Result<(), AllocError>
+    ensures same { (n : ℕ) → slice_index_or lists.new.items n [] ≡ slice_index_or lists.old.items n [] }
+    ensures len { OnOk result (len ≤ length lists.new.items) }
+{
+    for _ in lists.len()..len {
+        lists.push(Rising::new(alloc))?;
+    }
+    Ok(())
+}
+
+// Puts a number into the list at a place, or changes nothing.
+fn insert_at(lists: &mut Vec<Rising>, at: usize, number: u32) -> Result<(), AllocError>
+    requires { at < length lists.old.items }
+    ensures ok { OnOk result (lists.new.items
+        ≡ slice_set lists.old.items at (insert number (slice_index_or lists.old.items at []))) }
+    ensures err { OnErr result (lists.new.items ≡ lists.old.items) }
+{
+    lists[at].insert(number)
+}
+
+// Takes a number out of the list at a place.
+fn remove_at(lists: &mut Vec<Rising>, at: usize, number: u32)
+    requires { at < length lists.old.items }
+    ensures { lists.new.items
+        ≡ slice_set lists.old.items at (without number (slice_index_or lists.old.items at [])) }
+{
+    lists[at].remove(number);
 }
 
 impl Lists {
@@ -40,7 +93,7 @@ impl Lists {
     {
         Lists {
             alloc,
-            lists: IndexMap::new(alloc),
+            lists: Vec::new(alloc),
         }
     }
 
@@ -48,10 +101,7 @@ impl Lists {
     pub fn get(&self, holder: u32) -> &[u32]
         ensures { result.now ≡ list_at self.now holder }
     {
-        match self.lists.get(&holder) {
-            Some(list) => list.as_slice(),
-            None => &[],
-        }
+        list_of(&self.lists, holder as usize)
     }
 
     /// Puts a number into the list of the holder, or changes no list.
@@ -59,10 +109,9 @@ impl Lists {
         ensures ok { OnOk result (AreChanged (λ n. nat_eq n holder) (insert number) self.old self.new) }
         ensures err { OnErr result (AreSame self.old self.new) }
     {
-        match self.lists.get_mut(&holder) {
-            Some(list) => list.insert(number),
-            None => self.begin(holder, number),
-        }
+        let at = holder as usize;
+        fill(&mut self.lists, self.alloc, at + 1)?;
+        insert_at(&mut self.lists, at, number)
     }
 
     /// Puts a number into the list of the holder, where it isn't yet, or changes no list.
@@ -80,54 +129,16 @@ impl Lists {
     pub fn has(&self, holder: u32, number: u32) -> bool
         ensures { result ≡ list_any (nat_eq number) (list_at self.now holder) }
     {
-        let Some(list) = self.lists.get(&holder) else {
-            return false;
-        };
-        list.has(number)
+        has_at(&self.lists, holder as usize, number)
     }
 
-    // Begins a list with the number.
-    fn begin(&mut self, holder: u32, number: u32) -> Result<(), AllocError>
-        requires { list_at self.old holder ≡ [] }
-        ensures ok { OnOk result (AreChanged (λ n. nat_eq n holder) (insert number) self.old self.new) }
-        ensures err { OnErr result (AreSame self.old self.new) }
-    {
-        let list = Rising::of(self.alloc, number)?;
-        match self.lists.insert(holder, list) {
-            Ok(_) => Ok(()),
-            Err(_) => Err(AllocError),
-        }
-    }
-
-    // Takes a number out of the list of the holder, whose entry stays, and says whether an empty one is left.
-    fn take_out(&mut self, holder: u32, number: u32) -> bool
-        ensures lists { AreChanged (λ n. nat_eq n holder) (without number) self.old self.new }
-        ensures empty { IsTrue result → list_at self.new holder ≡ [] }
-    {
-        match self.lists.get_mut(&holder) {
-            Some(list) => {
-                list.remove(number);
-                list.as_slice().is_empty()
-            }
-            None => false,
-        }
-    }
-
-    // Frees the entry of a holder whose list is empty.
-    fn free(&mut self, holder: u32)
-        requires { list_at self.old holder ≡ [] }
-        ensures { AreSame self.old self.new }
-    {
-        self.lists.swap_remove(&holder);
-    }
-
-    /// Takes a number out of the list of the holder. An empty list takes no room, so nothing is kept
-    /// of a holder that is gone.
+    /// Takes a number out of the list of the holder. The list keeps its room for the next one.
     pub fn remove(&mut self, holder: u32, number: u32)
         ensures { AreChanged (λ n. nat_eq n holder) (without number) self.old self.new }
     {
-        if self.take_out(holder, number) {
-            self.free(holder);
+        let at = holder as usize;
+        if at < self.lists.len() {
+            remove_at(&mut self.lists, at, number);
         }
     }
 

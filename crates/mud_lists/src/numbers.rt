@@ -1,6 +1,6 @@
 //! Rising lists of numbers.
 
-ghost use Rattle.std.specs.Prelude.{◌≡◌, ◌≤◌, [], ◌∷◌, length, nat_eq, OnOk, OnErr, IfOk};
+ghost use Rattle.std.specs.Prelude.{◌≡◌, ◌≤◌, [], length, nat_eq, OnOk, OnErr};
 ghost use Rattle.std.specs.List.{insert as insert_at, list_any};
 ghost use Rattle.std.specs.List.Sorted.{IsNonDecreasing};
 ghost use Rattle.mud_lists.specs.Rising.{insert, without};
@@ -47,13 +47,13 @@ fn remove_number(numbers: &mut Vec<u32>, number: u32)
 }
 
 impl Rising {
-    /// Only this number.
-    pub(crate) fn of(alloc: Global, number: u32) -> Result<Rising, AllocError>
-        ensures { IfOk result (λ list. list ≡ number ∷ []) }
+    /// No numbers.
+    pub(crate) fn new(alloc: Global) -> Rising
+        ensures { result ≡ [] }
     {
-        let mut numbers = Vec::with_capacity(alloc, 1)?;
-        numbers.push(number)?;
-        Ok(Rising { numbers })
+        Rising {
+            numbers: Vec::new(alloc),
+        }
     }
 
     pub(crate) fn as_slice(&self) -> &[u32]

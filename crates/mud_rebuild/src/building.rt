@@ -289,7 +289,7 @@ impl Site<'_> {
 }
 
 // Builds the world of the entries, which are legal, again.
-fn built(alloc: Global, entries: &[Entry], goal: &World) -> Result<Vec<Entry>, Stop> {
+fn build_entries(alloc: Global, entries: &[Entry], goal: &World) -> Result<Vec<Entry>, Stop> {
     let mut site = Site {
         alloc,
         goal,
@@ -308,7 +308,7 @@ pub fn build_again(
     entries: &[Entry],
     goal: &World,
 ) -> Result<Option<Vec<Entry>>, AllocError> {
-    match built(alloc, entries, goal) {
+    match build_entries(alloc, entries, goal) {
         Ok(entries) => Ok(Some(entries)),
         Err(Stop::OutOfMemory) => Err(AllocError),
         Err(Stop::GivenUp) => Ok(None),

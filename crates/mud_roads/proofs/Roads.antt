@@ -18,8 +18,7 @@ use Rattle.mud_world.specs.Sound.{IsSound, IsPlacedWell}
 use Rattle.mud_world.proofs.Records.{record_cases, bool_cases, in_bounds}
 use Rattle.mud_world.proofs.Listed.{leaving_law}
 use Rattle.mud_roads.specs.declared.label.Step.{Step}
-use Rattle.mud_roads.specs.Open.{passable, roads_of, Knowledge, IsTraveller}
-use Rattle.mud_roads.specs.inner.Steps.{step_by, open_step}
+use Rattle.mud_roads.specs.Open.{passable, step_by, open_step, roads_of, Knowledge, IsTraveller}
 use Rattle.mud_roads.specs.Laws.{IsRoad}
 
 -- ---- what a list of numbers gives
@@ -134,7 +133,7 @@ source-known w n room a is from = let both : Some a.source ≡ Some room =
     sym (ap (option_map (λ p. p.source)) is) ∙ from in cc
 
 -- an open exit of the room gives a road
-open-road : (w : State) (p room n : ℕ) (s : Step) → source_of w n ≡ Some room
+pub open-road : (w : State) (p room n : ℕ) (s : Step) → source_of w n ≡ Some room
     → open_step w p n ≡ Some s → IsRoad w p room s
 open-road w p room n s from e =
     let o = opens-as w p n s e in
@@ -142,7 +141,8 @@ open-road w p room n s from e =
     subst (λ (x : Step). IsRoad w p room x) o.step
     (o.is ∙ ap (λ r. Some (record o.passage { source = r })) same, o.passes)
 
-road-open : (w : State) (p room : ℕ) (s : Step) → IsRoad w p room s → open_step w p s.exit ≡ Some s
+-- and a road is the step of its exit
+pub road-open : (w : State) (p room : ℕ) (s : Step) → IsRoad w p room s → open_step w p s.exit ≡ Some s
 road-open w p room s road =
     ap (λ b. cond b (option_map (step_by s.exit) (passage_of w s.exit)) None) road.1
     ∙ ap (option_map (step_by s.exit)) road.0

@@ -29,7 +29,7 @@ use Rattle.mud_world.proofs.Sounding.{soundness_law}
 use Rattle.mud_roads.specs.declared.label.Step.{Step}
 use Rattle.mud_roads.specs.Walks.{Roads, Walk}
 use Rattle.mud_roads.specs.Open.{passable, roads_of}
-use Rattle.mud_roads.specs.inner.Steps.{open_step}
+use Rattle.mud_roads.specs.Open.{open_step}
 use Rattle.mud_roads.specs.Laws.{IsRoad, IsWalked}
 use Rattle.mud_roads.proofs.Roads.{road-at}
 

@@ -1,9 +1,10 @@
 -- What is open to a player of a world.
 use Rattle.std.specs.Prelude.{◌≡◌, refl, ℕ, Bool, false, ◌&&◌, List, [], Some, IsTrue, slice_index_or}
-use Rattle.std.specs.Prelude.{if◌then◌else◌, None}
+use Rattle.std.specs.Prelude.{if◌then◌else◌, Option, None}
 use Rattle.std.specs.Option.{option_map, option_map_or}
 use Rattle.std.specs.List.{filter_map}
 use Rattle.std.specs.Coded.{Coded, code_by, coded×, coded_ℕ, coded_bool, coded_list}
+use Rattle.mud_world.specs.declared.record.Passage.{Passage}
 use Rattle.mud_world.specs.State.{State, is_player, place_of, passage_of, leaving_of, unlocked}
 use Rattle.mud_roads.specs.declared.label.Step.{Step}
 use Rattle.mud_roads.specs.contracts.label.Step as step
@@ -13,12 +14,17 @@ use Rattle.mud_roads.specs.Walks.{Roads, Goer}
 abbrev pub passable : State → ℕ → ℕ → Bool
 passable w p x = option_map_or (λ a. unlocked w p x && unlocked w p a.destination) (passage_of w x) false
 
+-- the step that exit x makes, where it has these ends
+abbrev pub step_by : ℕ → Passage → Step
+step_by x a = record { exit = x; to = a.destination; cost = a.cost }
+
+-- the step that exit x makes, where it is open to p
+abbrev pub open_step : State → ℕ → ℕ → Option Step
+open_step w p x = if passable w p x then option_map (step_by x) (passage_of w x) else None
+
 -- p's roads. A reader need not look into this: `laws::roads` says which steps they have, and in which order
 unfoldable pub roads_of : State → ℕ → Roads
-roads_of w p room =
-    filter_map (λ x.
-    if passable w p x then option_map (λ a. record { exit = x; to = a.destination; cost = a.cost }) (passage_of w x)
-    else None) (leaving_of w room)
+roads_of w p room = filter_map (open_step w p) (leaving_of w room)
 
 -- what a traveller knows: who he is, where he stands, what is unlocked for him, and the open steps of each room
 pub record Knowledge : Type 0 where

@@ -1,8 +1,7 @@
 //! What is unlocked for a player.
 
 ghost use Rattle.std.specs.Prelude.{◌≡◌, ℕ, [], ◌++◌, IfOk, OnOk, slice_index_or, false};
-ghost use Rattle.mud_roads.specs.Open.{passable, roads_of};
-ghost use Rattle.mud_roads.specs.inner.Steps.{open_step};
+ghost use Rattle.mud_roads.specs.Open.{passable, open_step, roads_of};
 ghost use Rattle.mud_roads.specs.inner.Tables.{Knows};
 
 use crate::Step;
@@ -46,7 +45,7 @@ impl Access {
     }
 
     // The step that an exit makes, where it is open to him.
-    fn step_by(&self, world: &World, exit: u32) -> Option<Step>
+    pub(crate) fn step_by(&self, world: &World, exit: u32) -> Option<Step>
         requires { Knows world.now self.now.player self.now.opened.items }
         ensures { result ≡ open_step world.now self.now.player exit }
     {

@@ -5,6 +5,7 @@
 //! |---|---|
 //! | [`Traveller::of`] | a player of a world, with all that is unlocked for him |
 //! | [`Traveller::passes`] | whether an exit is open to him |
+//! | [`Traveller::step_by`] | the step that an exit makes, where it is open to him |
 //! | [`Traveller::leave`] | the open exits of a room, by rising number |
 //! | [`Traveller::steps_from`] | the same, as he knows them; it takes no memory |
 //!

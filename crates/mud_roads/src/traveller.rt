@@ -2,7 +2,7 @@
 
 ghost use Rattle.std.specs.Prelude.{◌≡◌, ℕ, IfOk, IsTrue};
 ghost use Rattle.mud_world.specs.State.{is_player};
-ghost use Rattle.mud_roads.specs.Open.{passable, roads_of, known_roads, IsTraveller};
+ghost use Rattle.mud_roads.specs.Open.{passable, open_step, roads_of, known_roads, IsTraveller};
 
 use crate::Step;
 use crate::access::Access;
@@ -71,6 +71,14 @@ impl Traveller {
         ensures { result ≡ passable world.now self.now.player exit }
     {
         self.access.passes(world, exit)
+    }
+
+    /// The step that an exit makes, where it is open to him. He must be of this world.
+    pub fn step_by(&self, world: &World, exit: u32) -> Option<Step>
+        requires { IsTraveller world.now self.now }
+        ensures { result ≡ open_step world.now self.now.player exit }
+    {
+        self.access.step_by(world, exit)
     }
 
     /// The open exits that leave a room, by rising number. He must be of this world. The only error is out of memory.

@@ -7,7 +7,7 @@ ghost use mathlib.Core.List.{IsPrefix};
 ghost use Rattle.mud_world.specs.inner.Parts.{step_or_same};
 ghost use Rattle.mud_chron.specs.Replay.{world_at};
 ghost use Rattle.mud_chron.specs.declared.format.Format.TheVariants.{Two};
-ghost use Rattle.mud_chron.specs.declared.limits.TheConstants.{MOST_ENTRIES};
+ghost use Rattle.mud_world.specs.declared.limits.TheConstants.{MOST_ENTRIES};
 ghost use Rattle.mud_chron.specs.Text.{history_text};
 ghost use Rattle.mud_row.specs.Known.{entry_at};
 

@@ -3,7 +3,7 @@
 ghost use Rattle.std.specs.Prelude.{◌≡◌, ◌++◌, ◌∷◌, [], ◌<◌, ◌≤◌, ◌+◌, ◌↔◌, ◌⊎◌, length, take};
 ghost use Rattle.std.specs.Prelude.{IfOk, IfErr, IsErrAnd, MatchOption, OnOk, OnErr};
 ghost use Rattle.std.specs.Option.{option_copied};
-ghost use Rattle.mud_chron.specs.declared.limits.TheConstants.{MOST_ENTRIES};
+ghost use Rattle.mud_world.specs.declared.limits.TheConstants.{MOST_ENTRIES};
 ghost use Rattle.mud_row.specs.Known.{entry_at, Fills};
 
 use crate::fault::{FillFault, RowFault};
@@ -23,7 +23,7 @@ pub struct Row {
 impl Model for Row {
     ghost use Rattle.std.specs.Prelude.{ℕ, List, map, length, ◌≤◌};
     ghost use Rattle.once_cell.specs.Once.{cell_name};
-    ghost use Rattle.mud_chron.specs.declared.limits.TheConstants.{MOST_ENTRIES};
+    ghost use Rattle.mud_world.specs.declared.limits.TheConstants.{MOST_ENTRIES};
 
     ghost Value = { List ℕ };
 

@@ -18,7 +18,7 @@ use Rattle.mud_rules.specs.inner.Parts.{members, meet}
 use Rattle.mud_rules.specs.inner.Steps.{unfit}
 use Rattle.mud_key.specs.Parts.{parts_of}
 use Rattle.mud_rules.specs.declared.verdict.Journey.TheVariants.{Meet}
-use Rattle.mud_rules.specs.Outcome.{IsJourney, of_kind, found as meant}
+use Rattle.mud_rules.specs.Outcome.{IsJourney, of_kind, object_meant as meant}
 use Rattle.mud_rules.proofs.Least.{bool_cases}
 use Rattle.mud_rules.proofs.Ordered.{meeting_is}
 

@@ -21,7 +21,7 @@ use Rattle.mud_world.specs.Conditions.{shares_room}
 use Rattle.mud_rules.specs.declared.digging.TheConstants.{BAR}
 use Rattle.mud_rules.specs.declared.verdict.Verdict.{Verdict}
 use Rattle.mud_rules.specs.Matching.{object_number, local_match}
-use Rattle.mud_rules.specs.Outcome.{does, found, of_kind}
+use Rattle.mud_rules.specs.Outcome.{does, object_meant, of_kind}
 
 -- ---- moving; what the change asks itself is not said again
 
@@ -42,7 +42,7 @@ give w p o =
 abbrev pub key_meant : State → ℕ → List ℕ → Option (Tree ℕ)
 key_meant w p text =
     option_and_then (λ key. result_ok (resolved (λ name.
-    result_map_both (λ n. n) (λ f. MissNoSuch) (of_kind (exists w) (found NoSuch (local_match w p name)))) key))
+    result_map_both (λ n. n) (λ f. MissNoSuch) (of_kind (exists w) (object_meant NoSuch (local_match w p name)))) key))
     (key_in text)
 
 -- ---- digging

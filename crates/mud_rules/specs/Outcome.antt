@@ -37,10 +37,10 @@ does_read w p own blank read deed = does w p (refused_if (is_none read) own) (de
 -- ---- what a line finds, or its refusal
 
 -- the object that was found; of several one has to be meant, and for none there is this refusal
-abbrev pub found : Refusal → Result ℕ Match → Result ℕ Refusal
-found none (Ok x) = Ok x
-found none (Err MeansSeveral) = Err Ambiguous
-found none (Err other) = Err none
+abbrev pub object_meant : Refusal → Result ℕ Match → Result ℕ Refusal
+object_meant none (Ok x) = Ok x
+object_meant none (Err MeansSeveral) = Err Ambiguous
+object_meant none (Err other) = Err none
 
 -- the object that was found, where it is of the kind that is wanted
 abbrev pub of_kind : (ℕ → Bool) → Result ℕ Refusal → Result ℕ Refusal

@@ -11,7 +11,7 @@ use Rattle.mud_world.specs.declared.refusal.Refusal.{Refusal}
 use Rattle.mud_world.specs.declared.refusal.Refusal.TheVariants.{NotUnderstood, NoSuch}
 use Rattle.mud_world.specs.State.{State}
 use Rattle.mud_rules.specs.Matching.{is_empty, local_match}
-use Rattle.mud_rules.specs.Outcome.{found, both}
+use Rattle.mud_rules.specs.Outcome.{object_meant, both}
 use Rattle.std.specs.List.{join_with_byte}
 
 -- ---- words
@@ -47,14 +47,15 @@ text_behind l = if is_empty (all_of l) then Err NotUnderstood else Ok (all_of l)
 
 -- the object that a text means to player p
 abbrev pub object_named : State → ℕ → List ℕ → Result ℕ Refusal
-object_named w p text = if is_empty text then Err NotUnderstood else found NoSuch (local_match w p text)
+object_named w p text = if is_empty text then Err NotUnderstood else object_meant NoSuch (local_match w p text)
 
 -- the object before this, of two texts with this between them
 abbrev pub object_before : Prep → State → ℕ → Line → Result ℕ Refusal
-object_before prep w p l = if is_pair prep l then found NoSuch (local_match w p l.direct) else Err NotUnderstood
+object_before prep w p l = if is_pair prep l then object_meant NoSuch (local_match w p l.direct) else Err NotUnderstood
 
 -- the objects round this
 abbrev pub objects_round : Prep → State → ℕ → Line → Result (ℕ × ℕ) Refusal
 objects_round prep w p l =
-    if is_pair prep l then both (found NoSuch (local_match w p l.direct)) (found NoSuch (local_match w p l.indirect))
+    if is_pair prep l
+    then both (object_meant NoSuch (local_match w p l.direct)) (object_meant NoSuch (local_match w p l.indirect))
     else Err NotUnderstood

@@ -14,7 +14,7 @@ use crate::actor::Actor;
 use crate::digging::{doors_in, has_empty_side, target_in};
 use crate::matching::number_in;
 use crate::naming::names_in;
-use crate::outcome::{on_found, on_given, unread};
+use crate::outcome::{on_found, on_given, refuse_unreadable};
 use crate::shapes::is_pair;
 use mud_words::{Parsed, Prep};
 use mud_world::{Deed, Doors, Refusal, Target};
@@ -48,7 +48,7 @@ impl Actor<'_> {
     {
         match names_in(self.alloc, text)? {
             Some(names) => Ok(self.does(None, Deed::Dig(Target::New(names), None))),
-            None => Ok(unread(self.no_player(), Refusal::BadName)),
+            None => Ok(refuse_unreadable(self.no_player(), Refusal::BadName)),
         }
     }
 
@@ -65,11 +65,11 @@ impl Actor<'_> {
         ensures { result ≡ dig_between self.now.world.now self.now.player doors target }
     {
         let Some(target) = target else {
-            return unread(self.no_player(), Refusal::BadName);
+            return refuse_unreadable(self.no_player(), Refusal::BadName);
         };
         match doors {
             Some(doors) => self.does(None, Deed::Dig(target, Some(doors))),
-            None => unread(self.no_room(&target), Refusal::BadName),
+            None => refuse_unreadable(self.no_room(&target), Refusal::BadName),
         }
     }
 
@@ -86,7 +86,7 @@ impl Actor<'_> {
     {
         match names_in(self.alloc, text)? {
             Some(names) => Ok(self.does(None, Deed::Make(names))),
-            None => Ok(unread(self.no_player(), Refusal::BadName)),
+            None => Ok(refuse_unreadable(self.no_player(), Refusal::BadName)),
         }
     }
 
@@ -105,7 +105,7 @@ impl Actor<'_> {
             Some(cost) => self.does(None, Deed::Cost { exit, cost }),
             None => {
                 let bar = self.not_his(exit, !self.world.is_exit(exit));
-                unread(bar, Refusal::BadCost)
+                refuse_unreadable(bar, Refusal::BadCost)
             }
         }
     }
@@ -123,7 +123,7 @@ impl Actor<'_> {
     {
         match names_in(self.alloc, text)? {
             Some(names) => Ok(self.does(None, Deed::Rename { object, names })),
-            None => Ok(unread(self.not_his(object, false), Refusal::BadName)),
+            None => Ok(refuse_unreadable(self.not_his(object, false), Refusal::BadName)),
         }
     }
 

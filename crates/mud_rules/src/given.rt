@@ -8,7 +8,7 @@ ghost use Rattle.mud_rules.specs.Shapes.{all_of, text_behind, object_named, obje
 
 use crate::actor::Actor;
 use crate::matching::local_match;
-use crate::outcome::{both, found};
+use crate::outcome::{both, object_meant};
 use crate::shapes::{all_of, is_pair};
 use mud_words::{Parsed, Prep};
 use mud_world::Refusal;
@@ -39,7 +39,7 @@ impl Actor<'_> {
         if text.is_empty() {
             Err(Refusal::NotUnderstood)
         } else {
-            found(local_match(self.world, self.player, text))
+            object_meant(local_match(self.world, self.player, text))
         }
     }
 
@@ -57,7 +57,7 @@ impl Actor<'_> {
         ensures { result ≡ object_before prep self.now.world.now self.now.player (line_of parsed.now) }
     {
         if is_pair(prep, parsed) {
-            found(local_match(self.world, self.player, &parsed.direct))
+            object_meant(local_match(self.world, self.player, &parsed.direct))
         } else {
             Err(Refusal::NotUnderstood)
         }
@@ -69,8 +69,8 @@ impl Actor<'_> {
     {
         if is_pair(prep, parsed) {
             both(
-                found(local_match(self.world, self.player, &parsed.direct)),
-                found(local_match(self.world, self.player, &parsed.indirect)),
+                object_meant(local_match(self.world, self.player, &parsed.direct)),
+                object_meant(local_match(self.world, self.player, &parsed.indirect)),
             )
         } else {
             Err(Refusal::NotUnderstood)

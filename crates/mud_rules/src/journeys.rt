@@ -5,14 +5,14 @@ ghost use Rattle.mud_key.specs.Parts.{parts_of};
 ghost use Rattle.mud_world.specs.State.{is_room};
 ghost use Rattle.mud_rules.specs.Matching.{room_match};
 ghost use Rattle.mud_rules.specs.Party.{all_distinct, is_party};
-ghost use Rattle.mud_rules.specs.Outcome.{found as found_one, of_kind};
+ghost use Rattle.mud_rules.specs.Outcome.{object_meant, of_kind};
 ghost use Rattle.mud_rules.specs.Journeys.{player_meant, meeting, least_refusal};
 ghost use Rattle.mud_rules.specs.inner.Parts.{route, members, meet};
 ghost use Rattle.mud_rules.specs.inner.Steps.{unfit};
 
 use crate::actor::Actor;
 use crate::matching::{player_match, room_match};
-use crate::outcome::found;
+use crate::outcome::object_meant;
 use crate::{Journey, Party};
 use mud_key::parts;
 use mud_world::limits::MOST_PARTY;
@@ -23,9 +23,9 @@ impl Actor<'_> {
     // The room that a text means.
     fn room_meant(&self, text: &str) -> Result<u32, Refusal>
         ensures { result ≡ of_kind (is_room self.now.world.now)
-            (found_one Refusal.NoSuch (room_match self.now.world.now self.now.player text.now)) }
+            (object_meant Refusal.NoSuch (room_match self.now.world.now self.now.player text.now)) }
     {
-        match found(room_match(self.world, self.player, text)) {
+        match object_meant(room_match(self.world, self.player, text)) {
             Ok(room) if !self.world.is_room(room) => Err(Refusal::WrongKind),
             other => other,
         }
@@ -43,7 +43,7 @@ impl Actor<'_> {
     fn player_meant(&self, text: &str) -> Result<u32, Refusal>
         ensures { result ≡ player_meant self.now.world.now self.now.player text.now }
     {
-        match found(player_match(self.world, self.player, text)) {
+        match object_meant(player_match(self.world, self.player, text)) {
             Ok(member) if !self.world.is_player(member) => Err(Refusal::WrongKind),
             other => other,
         }

@@ -12,7 +12,7 @@ ghost use Rattle.mud_rules.specs.declared.verb.Verb.{Verb};
 use crate::Verdict;
 use crate::actor::Actor;
 use crate::matching::local_match;
-use crate::outcome::{on_found, on_given, unread};
+use crate::outcome::{on_found, on_given, refuse_unreadable};
 use mud_key::{Key, KeyFault, Miss, Namer, read, resolve};
 use mud_words::{Parsed, Prep};
 use mud_world::{Deed, Refusal, World};
@@ -60,7 +60,7 @@ impl Actor<'_> {
             Some(key) => Ok(self.does(None, Deed::Lock { object, key })),
             None => {
                 let bar = self.not_his(object, self.world.is_player(object));
-                Ok(unread(bar, Refusal::BadKey))
+                Ok(refuse_unreadable(bar, Refusal::BadKey))
             }
         }
     }

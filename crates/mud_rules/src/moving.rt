@@ -4,7 +4,7 @@ ghost use Rattle.std.specs.Prelude.{◌≡◌, None, IfOk};
 ghost use Rattle.mud_words.specs.Line.{line_of};
 ghost use Rattle.mud_world.specs.Conditions.{shares_room};
 ghost use Rattle.mud_world.specs.declared.change.Deed.TheVariants as deed;
-ghost use Rattle.mud_rules.specs.Outcome.{found as found_one, on_found, does};
+ghost use Rattle.mud_rules.specs.Outcome.{object_meant, on_found, does};
 ghost use Rattle.mud_rules.specs.Commands.{give};
 ghost use Rattle.mud_rules.specs.inner.Parts.{drop_down, put};
 ghost use Rattle.mud_rules.specs.Table.{command};
@@ -88,7 +88,7 @@ impl Actor<'_> {
 
     // A walk by the exit that was found, where the line is no command.
     pub(crate) fn walk(&self, found: Result<u32, Match>) -> Verdict
-        ensures { result ≡ on_found (found_one Refusal.NotUnderstood found)
+        ensures { result ≡ on_found (object_meant Refusal.NotUnderstood found)
             (λ x. does self.now.world.now self.now.player None (deed.Walk x)) }
     {
         match found {

@@ -3,7 +3,7 @@
 ghost use Rattle.std.specs.Prelude.{◌≡◌, nat_lt, Option, Some, unwrap_or, if◌then◌else◌};
 ghost use Rattle.mud_world.specs.Legal.{refusal};
 ghost use Rattle.mud_world.specs.Refusals.{number, refused_if};
-ghost use Rattle.mud_rules.specs.Outcome.{outcome, found, on_found, both, if_shaped};
+ghost use Rattle.mud_rules.specs.Outcome.{outcome, object_meant, on_found, both, if_shaped};
 ghost use Rattle.mud_rules.specs.Commands.{kind_then_here};
 
 use crate::matching::Match;
@@ -40,8 +40,8 @@ pub(crate) fn kind_then_here(kind: bool, here: bool) -> Option<Refusal>
 }
 
 // The object that was found, or the refusal of a text that means none.
-pub(crate) fn found(answer: Result<u32, Match>) -> Result<u32, Refusal>
-    ensures { result ≡ found Refusal.NoSuch answer }
+pub(crate) fn object_meant(answer: Result<u32, Match>) -> Result<u32, Refusal>
+    ensures { result ≡ object_meant Refusal.NoSuch answer }
 {
     match answer {
         Ok(object) => Ok(object),
@@ -130,7 +130,7 @@ pub(crate) use on_found;
 pub(crate) use on_given;
 
 // The refusal of a text that can't be read: what bars the player already, or its own.
-pub(crate) fn unread(bar: Option<Refusal>, own: Refusal) -> Verdict
+pub(crate) fn refuse_unreadable(bar: Option<Refusal>, own: Refusal) -> Verdict
     ensures { result ≡ Verdict.Refused (unwrap_or bar own) }
 {
     Verdict::Refused(bar.unwrap_or(own))

@@ -7,7 +7,7 @@ ghost use Rattle.mud_rules.specs.declared.verb.Verb.{Verb};
 
 use crate::Verdict;
 use crate::actor::Actor;
-use crate::outcome::unread;
+use crate::outcome::refuse_unreadable;
 use mud_words::Parsed;
 use mud_world::{Deed, Refusal, Speech};
 use std::alloc::AllocError;
@@ -20,7 +20,7 @@ impl Actor<'_> {
     {
         match Speech::read(self.alloc, &parsed.rest)? {
             Some(speech) => Ok(self.does(None, Deed::Say(speech))),
-            None => Ok(unread(self.no_player(), Refusal::BadName)),
+            None => Ok(refuse_unreadable(self.no_player(), Refusal::BadName)),
         }
     }
 
@@ -31,7 +31,7 @@ impl Actor<'_> {
     {
         match Speech::read(self.alloc, &parsed.rest)? {
             Some(speech) => Ok(self.does(None, Deed::Emote(speech))),
-            None => Ok(unread(self.no_player(), Refusal::BadName)),
+            None => Ok(refuse_unreadable(self.no_player(), Refusal::BadName)),
         }
     }
 }

@@ -42,7 +42,7 @@ impl Board {
         requires { rooms < 2 ^ 32 }
         ensures { IfOk result (λ b. b ≡ replicate rooms Slot.Unknown) }
     {
-        let slots = vec![in alloc; Slot::Unknown; rooms]?;
+        let slots = unknown_slots(alloc, rooms)?;
         let order = Queue::new(alloc, rooms)?;
         Ok(Board {
             slots,
@@ -201,6 +201,15 @@ impl Board {
             false
         }
     }
+}
+
+// So many slots, all unknown.
+fn unknown_slots(alloc: Global, rooms: usize) -> Result<Vec<Slot>, AllocError>
+    ensures { IfOk result (λ slots. slots.items ≡ replicate rooms Slot.Unknown) }
+{
+    let mut slots = Vec::new(alloc);
+    slots.resize(rooms, Slot::Unknown)?;
+    Ok(slots)
 }
 
 // The label of a waiting slot.

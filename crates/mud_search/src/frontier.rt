@@ -230,11 +230,11 @@ impl<J: Job> Frontier<J> {
         ensures members { (m room : ℕ) → length J.travellers ≤ m → label_in result m room ≡ None }
         ensures bounded { AreBounded (label_in result) }
     {
-        self.found()
+        self.into_member_labels()
     }
 
     // The same; there is a list for each member.
-    pub(crate) fn found(self) -> Labels
+    pub(crate) fn into_member_labels(self) -> Labels
         ensures labels { (m room : ℕ) → label_in result m room ≡ labels_of (slot_in self m) room }
         ensures count { length (lists_in result) ≡ length J.travellers }
         ensures bounded { AreBounded (label_in result) }

@@ -58,8 +58,8 @@ impl Queue {
         let label = Label { cost: 0, exits: 0 };
         for place in 0..rooms {
             let room = place as u32;
-            entries.push(Entry { label, room })?;
-            places.push(room)?;
+            entries.push_reserved(Entry { label, room });
+            places.push_reserved(room);
         }
         Ok(Queue {
             heap: Heap {

@@ -118,5 +118,5 @@ fn together_for<J: Job + Send + Sync, R: Threads + Wait + Sync, G: Gate + Sync>(
         frontier = work_together(rt, travellers, frontier, part, gate);
     }
     frontier.finish_by(travellers, part, gate);
-    Ok(frontier.found())
+    Ok(frontier.into_member_labels())
 }

@@ -1,7 +1,7 @@
 //! The services of the program.
 
 ghost use Rattle.std.specs.Prelude.{◌≤◌};
-ghost use Rattle.mud_chron.specs.declared.limits.TheConstants.{MOST_ENTRIES};
+ghost use Rattle.mud_world.specs.declared.limits.TheConstants.{MOST_ENTRIES};
 ghost use Rattle.mud_command.specs.Service.{AreWithin};
 ghost use Rattle.mud_search.specs.declared.limits.TheConstants.{MOST_WORKERS};
 
@@ -11,7 +11,7 @@ use mud_chron::Entry;
 use mud_chron::limits::MOST_DESKS;
 use mud_command::{ChosenLimits, Listening, WebListening};
 use mud_ends::{Sink, Source};
-use mud_journal::found;
+use mud_journal::find_journal;
 use mud_listen::{Doors, Site, StopSign, WebDoor, listen_journaled, listen_on};
 use mud_load::load;
 use mud_page::PAGE;
@@ -68,7 +68,7 @@ fn tell_torn<R: Eprint>(rt: &R, torn: usize) {
 }
 
 // The listener at this address and port.
-fn bound<R: Net<Listener = TcpListener, Stream = TcpStream>>(
+fn bind<R: Net<Listener = TcpListener, Stream = TcpStream>>(
     rt: &R,
     address: &str,
     port: u16,
@@ -88,7 +88,7 @@ fn web_door<R: AllocGlobal + Net<Listener = TcpListener, Stream = TcpStream>>(
         return Err(Stop::OutOfMemory);
     };
     Ok(WebDoor {
-        listener: bound(rt, web.address, web.port)?,
+        listener: bind(rt, web.address, web.port)?,
         site: Site { origin, page: PAGE },
     })
 }
@@ -98,7 +98,7 @@ fn doors<R: AllocGlobal + Net<Listener = TcpListener, Stream = TcpStream>>(
     rt: &R,
     listening: Listening<'_>,
 ) -> Result<Doors, Stop> {
-    let telnet = bound(rt, listening.address, listening.port)?;
+    let telnet = bind(rt, listening.address, listening.port)?;
     let web = match listening.web {
         Some(web) => Some(web_door(rt, web)?),
         None => None,
@@ -190,7 +190,7 @@ fn keep_journal<
     requires from { 1 ≤ limits.capacity }
     requires to { limits.capacity ≤ MOST_ENTRIES }
 {
-    let (found, had, torn) = match found(rt, name) {
+    let (found, had, torn) = match find_journal(rt, name) {
         Ok(found) => found,
         Err(fault) => return Err(Stop::of_opening(fault)),
     };

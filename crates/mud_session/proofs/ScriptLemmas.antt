@@ -12,7 +12,7 @@ use Rattle.mud_nvt.specs.Units.{Given, units}
 use Rattle.mud_nvt.specs.History.{StandsAfter}
 use Rattle.mud_hall.specs.Desk.{DeskState}
 use Rattle.mud_session.specs.State.{SessionState, DoorState}
-use Rattle.mud_ends.specs.Ends.{Reader, Writer, unread}
+use Rattle.mud_ends.specs.Ends.{Reader, Writer, new_reader}
 use Rattle.mud_session.specs.Session.{TakingIn, Turn, Plays, Play, is_over, text_of}
 use Rattle.mud_session.specs.inner.Serving.{Serves, ServesInPart}
 use Rattle.mud_session.specs.Script.{Script, IsWhole, IsFront, IsOpen}
@@ -44,7 +44,7 @@ pub record Reached (takes_in : TakingIn) (capacity : ℕ) (start : DeskState) (r
   pub written : Appends held now (text_of turns)
 
 pub reached_none : (takes_in : TakingIn) (reader : Reader) (held : Option (List ℕ)) (state : SessionState)
-    (door : DoorState) → reader ≡ unread reader.left
+    (door : DoorState) → reader ≡ new_reader reader.left
     → StandsAfter state.terminal [] → state.out ≡ []
     → Reached takes_in door.capacity door.desk reader reader held held state door
 reached_none takes_in reader held state door fresh stands out = record {
@@ -198,7 +198,7 @@ more_front held now later xs ys n p q =
 
 -- where no door could be opened
 pub front_at_start : (takes_in : TakingIn) (capacity : ℕ) (start : DeskState) (reader : Reader) (writer : Writer)
-    → reader ≡ unread reader.left → IsFront takes_in capacity start reader reader writer writer
+    → reader ≡ new_reader reader.left → IsFront takes_in capacity start reader reader writer writer
 front_at_start takes_in capacity start reader writer fresh = record {
   script = played [] (Consumes-nil reader.left) (ap (λ (r : Reader). r.at_end) fresh)
       (record { turns = []; left = units []; units_are = refl; plays = refl });

@@ -2,8 +2,8 @@
 
 ghost use Rattle.std.specs.Prelude.{◌≡◌, ℕ, ◌≤◌, ◌⊎◌, [], true, List, OnOk, OnErr, IfOk, IfErr};
 ghost use Rattle.mud_nvt.specs.History.{StandsAfter};
-ghost use Rattle.mud_ends.specs.Ends.{new_writer, unread};
-ghost use Rattle.mud_chron.specs.declared.limits.TheConstants.{MOST_ENTRIES};
+ghost use Rattle.mud_ends.specs.Ends.{new_writer, new_reader};
+ghost use Rattle.mud_world.specs.declared.limits.TheConstants.{MOST_ENTRIES};
 ghost use Rattle.mud_hall.specs.Alone.{alone};
 ghost use Rattle.mud_hall.specs.Steps.{lone_desk};
 ghost use Rattle.mud_session.specs.Session.{TakesNone};
@@ -47,7 +47,7 @@ pub fn script<X: Threads + Wait + Sync, R: Read, W: Write>(
     capacity: u32,
     workers: u32,
 ) -> Result<(), ScriptFault>
-    requires fresh { source.old ≡ unread source.old.left }
+    requires fresh { source.old ≡ new_reader source.old.left }
     requires unwritten { sink.old ≡ new_writer sink.old.holds }
     requires capacity { capacity ≤ MOST_ENTRIES }
     ensures ok { OnOk result (IsWhole TakesNone capacity lone_desk source.old source.new sink.old sink.new) }
@@ -90,7 +90,7 @@ fn converse<X: Threads + Wait + Sync, D: Door, R: Read, W: Write>(
 ) -> Result<(), ScriptFault>
     requires terminal { StandsAfter session.old.terminal [] }
     requires sent { session.old.out ≡ [] }
-    requires fresh { source.old ≡ unread source.old.left }
+    requires fresh { source.old ≡ new_reader source.old.left }
     ensures ok { OnOk result (IsWhole D.takes_in (D.state door.old).capacity (D.state door.old).desk
         source.old source.new sink.old sink.new) }
     ensures fault { OnErr result (IsFront D.takes_in (D.state door.old).capacity (D.state door.old).desk

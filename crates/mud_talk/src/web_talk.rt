@@ -85,7 +85,12 @@ impl<J: HallName> WebTalk<J> {
     }
 
     // After it has ended: nothing is sent.
-    fn lost(alloc: Global, web: WebSession, desk: Desk<J>, parting: Parting) -> TalkStep<WebTalk<J>>
+    fn silent_step(
+        alloc: Global,
+        web: WebSession,
+        desk: Desk<J>,
+        parting: Parting,
+    ) -> TalkStep<WebTalk<J>>
         requires { has_ended web ≡ true }
     {
         WebTalk::took(alloc, web, desk, Vec::new(alloc), Some(parting))
@@ -101,7 +106,7 @@ impl<J: HallName> WebTalk<J> {
             desk,
         } = self;
         if web.ended() {
-            return WebTalk::lost(alloc, web, desk, Parting::Left);
+            return WebTalk::silent_step(alloc, web, desk, Parting::Left);
         }
         let mut replies = Vec::new(alloc);
         match web.take_in(bytes, typed, &mut replies) {
@@ -111,7 +116,7 @@ impl<J: HallName> WebTalk<J> {
             }
             Err(fault) => {
                 typed.clear();
-                WebTalk::lost(alloc, web, desk, Parting::of_channel(&fault))
+                WebTalk::silent_step(alloc, web, desk, Parting::of_channel(&fault))
             }
         }
     }
@@ -229,7 +234,7 @@ impl<J: HallName> WebTalk<J> {
             desk,
         } = self;
         if web.ended() {
-            return WebTalk::lost(alloc, web, desk, Parting::Left);
+            return WebTalk::silent_step(alloc, web, desk, Parting::Left);
         }
         let mut seat = Seat::up_to(hall, desk, workers, most);
         let before = seat.accepted_count();

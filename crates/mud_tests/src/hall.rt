@@ -2,7 +2,7 @@
 //! what lies under a lock, or whether a cell is found that another desk has set.
 
 ghost use Rattle.std.specs.Prelude.{◌≡◌, ◌≤◌};
-ghost use Rattle.mud_chron.specs.declared.limits.TheConstants.{MOST_ENTRIES};
+ghost use Rattle.mud_world.specs.declared.limits.TheConstants.{MOST_ENTRIES};
 
 use crate::histories::LAST_VERSION;
 use mud_hall::{CloseFault, Desk, Fault, Hall, HallName, NewHall};

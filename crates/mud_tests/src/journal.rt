@@ -1,7 +1,7 @@
 //! Journals on a disk in memory, of which each call fails in turn; by their own calls, and under a server.
 
 ghost use Rattle.std.specs.Prelude.{◌≤◌};
-ghost use Rattle.mud_chron.specs.declared.limits.TheConstants.{MOST_ENTRIES};
+ghost use Rattle.mud_world.specs.declared.limits.TheConstants.{MOST_ENTRIES};
 ghost use Rattle.mud_search.specs.declared.limits.TheConstants.{MOST_WORKERS};
 
 use crate::client::play;

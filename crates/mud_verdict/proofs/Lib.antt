@@ -1,2 +1,5 @@
+pub mod Legality
+mod Findings
+mod Returns
 mod Trials
 mod Pushing

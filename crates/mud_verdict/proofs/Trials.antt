@@ -9,14 +9,14 @@ use Rattle.mud_chron.specs.declared.fault.ChronFault.TheVariants.{NoEnd}
 use Rattle.mud_chron.specs.Entry.{Entry}
 use Rattle.mud_chron.specs.History.{SpellsHistory}
 use Rattle.mud_chron.specs.Replay.{changes_of, AreLegal, AreLegalFrom, HasIllegal}
-use Rattle.mud_cert.specs.declared.finding.Finding.{Finding}
-use Rattle.mud_cert.specs.declared.finding.Finding.TheVariants as findings
-use Rattle.mud_cert.specs.declared.finding.Status.TheVariants.{Accepted}
 use Rattle.mud_cert.specs.Certificate.{Certificate, IsCertificate}
 use Rattle.mud_cert.specs.Text.{cert_text}
-use Rattle.mud_cert.specs.Verdict.{status_of}
-use Rattle.mud_cert.specs.Finding.{without_returns, IsHistory, IsUnfit, IsTried, IsFinding}
-use Rattle.mud_cert.proofs.Legality.{none-illegal}
+use Rattle.mud_verdict.specs.declared.finding.Finding.{Finding}
+use Rattle.mud_verdict.specs.declared.finding.Finding.TheVariants as findings
+use Rattle.mud_verdict.specs.declared.finding.Status.TheVariants.{Accepted}
+use Rattle.mud_verdict.specs.Verdict.{status_of}
+use Rattle.mud_verdict.specs.Finding.{without_returns, IsHistory, IsUnfit, IsTried, IsFinding}
+use Rattle.mud_verdict.proofs.Legality.{none-illegal}
 
 -- a replay that fails makes the text unfit
 pub unfit : (text : List ℕ) (entries : List Entry) (fault : ChronFault) → SpellsHistory text entries

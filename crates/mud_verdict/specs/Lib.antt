@@ -1,1 +1,3 @@
+pub mod Finding
 pub mod Verdict
+pub mod Laws

@@ -1,7 +1,7 @@
 //! The ends of lines.
 
 ghost use Rattle.std.specs.Prelude.{◌≡◌, IfOk};
-ghost use Rattle.mud_cert.specs.Finding.{without_returns};
+ghost use Rattle.mud_verdict.specs.Finding.{without_returns};
 
 use std::alloc::{AllocError, Global};
 

@@ -1,13 +1,13 @@
 //! The line of a finding, and its status.
 
 ghost use Rattle.std.specs.Prelude.{◌≡◌, ◌++◌, codes, decimal, IfOk, OnOk, string_bytes};
-ghost use Rattle.mud_cert.specs.declared.finding.Status.TheVariants.{Accepted};
-ghost use Rattle.mud_cert.specs.Finding.{IsFinding};
-ghost use Rattle.mud_cert.specs.Verdict.{object_text, doubt_text, fault_text, finding_text, status_of};
+ghost use Rattle.mud_verdict.specs.declared.finding.Status.TheVariants.{Accepted};
+ghost use Rattle.mud_verdict.specs.Finding.{IsFinding};
+ghost use Rattle.mud_verdict.specs.Verdict.{object_text, doubt_text, fault_text, finding_text, status_of};
 ghost use Rattle.mud_verdict.specs.Verdict.{IsVerdict};
 
-use crate::finding::finding_of;
-use mud_cert::{Doubt, Finding, Status};
+use crate::finding::{Finding, Status, finding_of};
+use mud_cert::Doubt;
 use mud_chron::ChronFault;
 use std::alloc::{AllocError, Global};
 use std::fmt::Write;

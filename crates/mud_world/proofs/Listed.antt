@@ -1,18 +1,19 @@
--- The lists of contents and of leaving exits, in the words of places and sources.
+-- The lists of contents, and of leaving and arriving exits, in the words of places, sources and destinations.
 use Rattle.std.proofs.Common.{◌≡◌, ℕ, ◌+◌, ◌≤◌, Bool, true, false, List, [], ◌∷◌, Option, Some, None, refl, sym, ◌∙◌}
 use Rattle.std.proofs.Common.{ap, subst, arith}
 use Rattle.std.specs.Prelude.{nat_eq, IsTrue, ◌↔◌}
 use Rattle.std.specs.Option.{option_map, option_map_or, option_and_then}
 use Rattle.std.specs.List.{list_any}
 use Rattle.std.proofs.lemmas.Bool.{eq-eqb, eqb-true, true≢false, or_left}
+use Rattle.mud_world.specs.declared.record.Passage.{Passage}
 use Rattle.mud_world.specs.declared.record.Record.{Record}
 use Rattle.mud_world.specs.declared.record.Kind.{Kind}
 use Rattle.mud_world.specs.declared.record.Kind.TheVariants.{Room, Exit, Thing, Player}
 use Rattle.mud_world.specs.Kinds.{kind_place, kind_passage}
 use Rattle.mud_world.specs.Numbers.{IsRisingFrom}
-use Rattle.mud_world.specs.State.{State, record_at, is_number, is_room, source_of, leaving_of}
+use Rattle.mud_world.specs.State.{State, record_at, is_number, passage_of, is_room, source_of, leaving_of}
 use Rattle.mud_world.specs.Sound.{IsRising, IsSound, IsPlacedWell}
-use Rattle.mud_world.specs.Laws.{AreContents, AreLeaving}
+use Rattle.mud_world.specs.Laws.{AreContents, AreLeaving, AreArriving}
 use Rattle.mud_world.proofs.Records.{bool_cases, record_cases}
 use Rattle.mud_world.proofs.Numbering.{passing, passing_by}
 use Rattle.mud_world.proofs.Carrying.{listed}
@@ -56,20 +57,31 @@ contents_law = λ w sound c. (
   rising-passing (λ r. is_number c (kind_place r.kind)) 0 w.next w.objects sound.rising,
 )
 
-source-said : (v : Option Record)
-    → option_and_then (λ r. option_map (λ p. p.source) (kind_passage r.kind)) v
-    ≡ option_map (λ p. p.source) (option_and_then (λ r. kind_passage r.kind) v)
-source-said None = refl
-source-said (Some r) = refl
+end-said : (end : Passage → ℕ) (v : Option Record)
+    → option_and_then (λ r. option_map end (kind_passage r.kind)) v
+    ≡ option_map end (option_and_then (λ r. kind_passage r.kind) v)
+end-said end None = refl
+end-said end (Some r) = refl
+
+-- of the exits whose records say a number as one of their ends
+ends_law : (end : Passage → ℕ) (w : State) → IsSound w → (c : ℕ)
+    → ((n : ℕ)
+    → IsTrue (list_any (nat_eq n) (passing (λ r. is_number c (option_map end (kind_passage r.kind))) w.objects))
+    ↔ (option_map end (passage_of w n) ≡ Some c))
+    × IsRisingFrom 0 (passing (λ r. is_number c (option_map end (kind_passage r.kind))) w.objects)
+ends_law end w sound c = (
+  λ n.
+      let same = listed-said (λ r. option_map end (kind_passage r.kind)) w sound c n in
+      let said = end-said end (record_at w n) in
+      (λ among. sym said ∙ same.0 among, λ at. same.1 (said ∙ at)),
+  rising-passing (λ r. is_number c (option_map end (kind_passage r.kind))) 0 w.next w.objects sound.rising,
+)
 
 pub leaving_law : AreLeaving
-leaving_law = λ w sound c. (
-  λ n.
-      let same = listed-said (λ r. option_map (λ p. p.source) (kind_passage r.kind)) w sound c n in
-      let said = source-said (record_at w n) in
-      (λ among. sym said ∙ same.0 among, λ at. same.1 (said ∙ at)),
-  rising-passing (λ r. is_number c (option_map (λ p. p.source) (kind_passage r.kind))) 0 w.next w.objects sound.rising,
-)
+leaving_law = λ w sound c. ends_law (λ p. p.source) w sound c
+
+pub arriving_law : AreArriving
+arriving_law = λ w sound c. ends_law (λ p. p.destination) w sound c
 
 source-room : (w : State) → IsSound w → (x n : ℕ) → source_of w x ≡ Some n → is_room w n ≡ true
 source-room w sound x n at =

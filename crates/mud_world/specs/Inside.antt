@@ -27,10 +27,6 @@ leaves n r = is_number n (option_map (λ p. p.source) (kind_passage r.kind))
 abbrev pub arrives : ℕ → Record → Bool
 arrives n r = is_number n (option_map (λ p. p.destination) (kind_passage r.kind))
 
--- the exits whose destination is n
-abbrev pub arriving_of : State → ℕ → List ℕ
-arriving_of w n = numbers_with (arrives n) w
-
 -- the key of the record asks n
 abbrev pub asks_it : ℕ → Record → Bool
 asks_it n r = asked_by n r.key

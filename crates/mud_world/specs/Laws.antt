@@ -9,8 +9,8 @@ use Rattle.mud_world.specs.declared.change.Deed.TheVariants.{Player}
 use Rattle.mud_world.specs.declared.refusal.Refusal.{Refusal}
 use Rattle.mud_world.specs.Truth.{key_true}
 use Rattle.mud_world.specs.Numbers.{IsRisingFrom}
-use Rattle.mud_world.specs.State.{State, has, is_player, place_of, contents_of, within, source_of, leaving_of, key_of}
-use Rattle.mud_world.specs.State.{nests, unlocked}
+use Rattle.mud_world.specs.State.{State, has, is_player, place_of, contents_of, within, source_of, leaving_of}
+use Rattle.mud_world.specs.State.{destination_of, arriving_of, key_of, nests, unlocked}
 use Rattle.mud_world.specs.Sound.{IsSound}
 use Rattle.mud_world.specs.Nesting.{Questions}
 use Rattle.mud_world.specs.Refusals.{number}
@@ -30,6 +30,13 @@ AreLeaving =
     (w : State) → IsSound w → (c : ℕ)
     → ((n : ℕ) → IsTrue (list_any (nat_eq n) (leaving_of w c)) ↔ (source_of w n ≡ Some c))
     × IsRisingFrom 0 (leaving_of w c)
+
+-- in a sound world an exit leads to c exactly where its destination is c, and the exits that lead to c rise
+abbrev pub AreArriving : Type 0
+AreArriving =
+    (w : State) → IsSound w → (c : ℕ)
+    → ((n : ℕ) → IsTrue (list_any (nat_eq n) (arriving_of w c)) ↔ (destination_of w n ≡ Some c))
+    × IsRisingFrom 0 (arriving_of w c)
 
 -- in a sound world the levels of a key never run out: o is unlocked for c exactly where it exists and has no key, or
 -- its key is true, an object in it meaning that the object is within c, and `?x` that x is unlocked for c

@@ -1,6 +1,11 @@
--- Rising lists of numbers, and what keeps them rising.
+-- The numbers of objects, and rising lists of numbers with what keeps them rising.
 use Rattle.std.specs.Prelude.{ℕ, ◌+◌, ◌≤◌, List, [], ◌∷◌}
+use Rattle.mud_key.specs.declared.limits.TheConstants.{LAST_NUMBER}
 pub use Rattle.mud_lists.specs.Rising.{insert, without}
+
+-- the number of an object
+abbrev pub IsNumber : ℕ → Type 0
+IsNumber n = n ≤ LAST_NUMBER
 
 -- the numbers rise, from low on
 abbrev pub IsRisingFrom : ℕ → List ℕ → Type 0

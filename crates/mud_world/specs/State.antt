@@ -107,6 +107,10 @@ destination_of w n = option_map (λ p. p.destination) (passage_of w n)
 abbrev pub leaving_of : State → ℕ → List ℕ
 leaving_of w n = numbers_with (λ r. is_number n (option_map (λ p. p.source) (kind_passage r.kind))) w
 
+-- the exits whose destination is n. A reader need not look into this: `laws::arriving` says what it is in sound worlds
+abbrev pub arriving_of : State → ℕ → List ℕ
+arriving_of w n = numbers_with (λ r. is_number n (option_map (λ p. p.destination) (kind_passage r.kind))) w
+
 -- ---- keys
 
 -- the key of object n, if it has one

@@ -1,6 +1,6 @@
 //! Facts about definitions only: each contract is a law, and its function does nothing.
 
-ghost use Rattle.mud_world.specs.Laws.{AreContents, AreLeaving, AreLevelsEnough, IsNesting, CirclesNestOn};
+ghost use Rattle.mud_world.specs.Laws.{AreContents, AreLeaving, AreArriving, AreLevelsEnough, IsNesting, CirclesNestOn};
 ghost use Rattle.mud_world.specs.Laws.{IsLeastRefusal};
 ghost use Rattle.mud_world.specs.Laws.{StaysSound, WorldsAreSound, PlayersStay, NewPlayersArePlayers};
 ghost use Rattle.std.specs.Prelude.{false, Some, None, ◌≡◌, ◌↔◌};
@@ -17,6 +17,11 @@ pub fn contents()
 /// In a sound world an exit leaves an object exactly where that is its source.
 pub fn leaving()
     ensures { AreLeaving }
+{}
+
+/// In a sound world an exit leads to an object exactly where that is its destination.
+pub fn arriving()
+    ensures { AreArriving }
 {}
 
 /// In a sound world the levels of a key never run out: `?x` is true in a key exactly where x is

@@ -8,7 +8,7 @@ ghost use Rattle.mud_world.specs.inner.Parts.{in_use, is_full, is_bad_key};
 ghost use Rattle.mud_key.specs.Tree.{atoms_of};
 ghost use Rattle.std.specs.List.{list_any};
 ghost use Rattle.mud_world.specs.Kinds.{kind_needs};
-ghost use Rattle.mud_world.specs.Inside.{leaves, arrives, arriving_of};
+ghost use Rattle.mud_world.specs.Inside.{leaves, arrives};
 
 use crate::Refusal::{
     BadCost, BadKey, BadName, Denied, InUse, KeyNesting, LockedExit, LockedRoom, LockedThing,
@@ -171,19 +171,12 @@ impl World {
         }
     }
 
-    // The exits that lead to it, by rising number.
-    fn exits_to(&self, number: u32) -> &[u32]
-        ensures { result.now ≡ arriving_of self.now number }
-    {
-        self.links.arriving.get(number)
-    }
-
     // Whether an exit leaves it or leads to it.
     fn has_ends(&self, number: u32) -> bool
         ensures { result ≡ (list_any (λ e. leaves number e.1) self.now.objects
             || list_any (λ e. arrives number e.1) self.now.objects) }
     {
-        !self.leaving(number).is_empty() || !self.exits_to(number).is_empty()
+        !self.leaving(number).is_empty() || !self.arriving(number).is_empty()
     }
 
     // Whether something lies in it, or has an end at it.

@@ -8,7 +8,8 @@
 //! | Calls | Answer |
 //! |---|---|
 //! | `get`, `exists`, `is_room` and so on, `place`, `passage`, `owns` | what is kept of an object |
-//! | `contents`, `leaving`, `player_named` | the objects in it, the exits that leave it, a player |
+//! | `contents`, `player_named` | the objects in it, a player |
+//! | `leaving`, `arriving` | the exits that leave it, the exits that lead to it |
 //! | `holds`, `carried`, `in_reach` | what lies within what, and what an actor reaches |
 //! | `unlocked` | whether an object is unlocked for one whose holding is given |
 //! | `judge` | for all objects at once whether they are unlocked for him |

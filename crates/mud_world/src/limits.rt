@@ -1,4 +1,4 @@
-//! The limits of a world.
+//! The limits of a world and of its history.
 
 /// How many numbers there are for objects: as many as there can be objects (docs/WORLD.md, "Objects").
 pub const NUMBERS: usize = 8_192;
@@ -18,3 +18,6 @@ pub const KEY_LEVELS: u32 = MOST_NESTING + 1;
 /// How many players meet at most, and so how many members a search or a certificate has (docs/COMMANDS.md,
 /// "Questions").
 pub const MOST_PARTY: usize = 8;
+
+/// The most entries of a history, and so the highest version of a world (docs/HISTORY.md, "Entries").
+pub const MOST_ENTRIES: usize = 65_536;

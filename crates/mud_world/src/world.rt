@@ -1,7 +1,8 @@
 //! The world: its objects by rising number, and the number that the next will get.
 
 ghost use Rattle.std.specs.Prelude.{codes, ◌≡◌, [], ◌∷◌, IfOk, IfSome, IsTrue, option_copied};
-ghost use Rattle.mud_world.specs.State.{named_player, is_player, State, record_at, contents_of, leaving_of};
+ghost use Rattle.mud_world.specs.State.{named_player, is_player, State, record_at};
+ghost use Rattle.mud_world.specs.State.{contents_of, leaving_of, arriving_of};
 ghost use Rattle.mud_world.specs.Sound.{IsSound};
 
 use crate::links::Links;
@@ -165,6 +166,13 @@ impl World {
             self.is_sound();
             &[]
         }
+    }
+
+    /// The exits whose destination is it, by rising number.
+    pub fn arriving(&self, number: u32) -> &[u32]
+        ensures { result.now ≡ arriving_of self.now number }
+    {
+        self.links.arriving.get(number)
     }
 
     /// The player who has this name, ASCII case ignored. There is at most one.

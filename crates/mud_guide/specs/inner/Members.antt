@@ -1,6 +1,6 @@
 -- A member's line and way.
 use Rattle.std.specs.Prelude.{ℕ, List, ◌∷◌, ◌++◌, codes, Option, Some}
-use Rattle.mud_chron.specs.declared.codes.TheConstants.{LF}
+use Rattle.mud_key.specs.declared.codes.TheConstants.{LF}
 use Rattle.mud_guide.specs.Legs.{Leg}
 use Rattle.mud_guide.specs.Texts.{object, way_text}
 use Rattle.mud_roads.specs.declared.label.Step.{Step}

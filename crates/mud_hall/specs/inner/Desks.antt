@@ -1,5 +1,5 @@
 -- What a desk keeps, hears and answers, by its parts.
-use Rattle.std.specs.Prelude.{◌≡◌, ℕ, List, ◌++◌, length, take, drop, codes}
+use Rattle.std.specs.Prelude.{◌≡◌, ◌≤◌, ℕ, List, ◌++◌, length, take, drop, codes}
 use Rattle.std.specs.Prelude.{Option, Some, None, IsSomeAnd, IfSome, IsTrue}
 use Rattle.std.specs.Option.{option_map, option_and_then, option_to_list}
 use Rattle.mud_world.specs.State.{State, is_player}
@@ -7,6 +7,8 @@ use Rattle.mud_rules.specs.Hearing.{heard_line}
 use Rattle.mud_rules.specs.declared.verdict.Verdict.{Verdict}
 use Rattle.mud_rules.specs.declared.verdict.Verdict.TheVariants.{Ask}
 use Rattle.mud_rules.specs.declared.verdict.Query.TheVariants.{History}
+use Rattle.mud_roads.specs.Open.{Knowledge, IsTraveller}
+use Rattle.mud_world.specs.declared.limits.TheConstants.{MOST_ENTRIES}
 use Rattle.mud_guide.specs.declared.answer.Answer.{Answer}
 use Rattle.mud_chron.specs.Entry.{Entry}
 use Rattle.mud_cert.specs.Certificate.{Certificate}
@@ -52,3 +54,13 @@ IsResponse w v player verdict None = verdict ≡ Ask History
 IsResponse w v player verdict (Some a) =
     (a.version ≡ v)
     × ((h : List Entry) → w ≡ world_after h → v ≡ length h → Shows h player verdict (answer_shown a))
+
+-- the traveller is this player of this world
+abbrev pub Travels : State → ℕ → Knowledge → Type 0
+Travels w p t = IsTraveller w t × (t.player ≡ p)
+
+-- what a line is answered by: a world's version, a player of it or nobody, and a traveller of it, if one is known
+pub record IsSight (w : State) (v : ℕ) (player : Option ℕ) (t : Option Knowledge) : Type 0 where
+  pub few : v ≤ MOST_ENTRIES
+  pub seated : IfSome player (λ p. IsTrue (is_player w p))
+  pub known : IfSome t (IsTraveller w)

@@ -25,7 +25,7 @@ use Rattle.mud_rules.specs.declared.verdict.Journey.TheVariants.{Route}
 use Rattle.mud_rules.specs.declared.verdict.Verdict.{Verdict}
 use Rattle.mud_rules.specs.declared.verdict.Verdict.TheVariants.{Become, Refused}
 use Rattle.mud_rules.specs.Matching.{is_empty, number_in, room_match, local_match}
-use Rattle.mud_rules.specs.Outcome.{outcome, does_read, found, of_kind, does}
+use Rattle.mud_rules.specs.Outcome.{outcome, does_read, object_meant, of_kind, does}
 use Rattle.mud_rules.specs.Commands.{key_meant, doors_in, target_in, dig_between, is_bar, kind_then_here}
 use Rattle.mud_rules.specs.Shapes.{is_prep}
 use Rattle.mud_rules.specs.Journeys.{player_meant, meeting}
@@ -83,7 +83,7 @@ is_aimed prep l = is_prep prep l.prep && (is_empty l.direct && not (is_empty l.i
 
 -- route to R
 abbrev pub route : State → ℕ → List ℕ → Result Journey Refusal
-route w p text = result_map_both Route (λ f. f) (of_kind (is_room w) (found NoSuch (room_match w p text)))
+route w p text = result_map_both Route (λ f. f) (of_kind (is_room w) (object_meant NoSuch (room_match w p text)))
 
 -- those who were found
 abbrev pub members : List (Result ℕ Refusal) → List ℕ
@@ -115,7 +115,7 @@ refuses own f = option_map_or (λ g. nat_eq (number g) (number f)) own false
 -- the object that a name in a key text means to a player, if it exists; why it means none makes no difference to a line
 abbrev pub near_named : State → ℕ → List ℕ → Result ℕ Miss
 near_named w p name =
-    result_map_both (λ n. n) (λ f. MissNoSuch) (of_kind (exists w) (found NoSuch (local_match w p name)))
+    result_map_both (λ n. n) (λ f. MissNoSuch) (of_kind (exists w) (object_meant NoSuch (local_match w p name)))
 
 -- drop X: what he carries, at any depth, to his room
 abbrev pub drop_down : State → ℕ → ℕ → Verdict

@@ -1,5 +1,5 @@
 use Rattle.std.proofs.lemmas.List.{take_rest}
-use Rattle.mud_chron.proofs.Lined.{cut-at, line-whole}
+use Rattle.mud_cert.proofs.Lined.{cut-at, line-whole}
 use Rattle.mud_cert.proofs.reading.first_line.Goals as goal
 
 pub returns-in_default : goal.returns-in_default

@@ -2,7 +2,7 @@
 use Rattle.std.proofs.Common.{◌≡◌, ◌<◌, ◌+◌, ◌∷◌, length, None, Some, ap, arith, length-append, ◌∙◌}
 use Rattle.std.proofs.lemmas.Grind.{common_steps}
 use Rattle.std.proofs.lemmas.List.{nil_from_length}
-use Rattle.mud_chron.specs.declared.codes.TheConstants.{LF}
+use Rattle.mud_key.specs.declared.codes.TheConstants.{LF}
 use Rattle.mud_cert.specs.declared.stage.Stage.TheVariants.{Whole}
 use Rattle.mud_cert.specs.inner.Stages.{next}
 use Rattle.mud_cert.proofs.Progress.{reads-start, reads-more, reads-few, line-some, reads-refused, reads-unended}

@@ -1,7 +1,7 @@
 use Rattle.std.proofs.Common.{◌<◌, length, sym, subst, arith}
 use Rattle.mud_chron.specs.Faults.{Begins}
 use Rattle.mud_chron.specs.inner.Lines.{IsLine}
-use Rattle.mud_chron.specs.declared.limits.TheConstants.{MOST_ENTRIES}
+use Rattle.mud_world.specs.declared.limits.TheConstants.{MOST_ENTRIES}
 use Rattle.mud_chron.specs.declared.line.Line.TheVariants as lines
 use Rattle.mud_chron.proofs.Begun.{next_entry, too_long}
 use Rattle.mud_chron.proofs.reading.read_history.Goals as goal

@@ -6,9 +6,9 @@ use Rattle.mud_search.proofs.shared.together_for.Goals as goal
 
 pub returns : goal.returns
 returns g c = record {
-  count = c.found.ensures.count;
+  count = c.into_member_labels.ensures.count;
   least = λ m room t is.
       let P : Option Label → Type 0 = λ o. Least 1 (roads_of g.J.Job.world t.player) t.place room o in
-      subst P (sym (c.found.ensures.labels m room)) (c.finish_by.ensures m room t is);
-  bounded = c.found.ensures.bounded;
+      subst P (sym (c.into_member_labels.ensures.labels m room)) (c.finish_by.ensures m room t is);
+  bounded = c.into_member_labels.ensures.bounded;
 }

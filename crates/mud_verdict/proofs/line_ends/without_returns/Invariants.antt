@@ -1,5 +1,5 @@
 use Rattle.std.proofs.Common.{◌≡◌, ◌++◌, length}
-use Rattle.mud_cert.specs.Finding.{without_returns}
+use Rattle.mud_verdict.specs.Finding.{without_returns}
 use Rattle.mud_verdict.proofs.line_ends.without_returns.Given as goal
 
 -- what is kept, and what is to be kept of the rest

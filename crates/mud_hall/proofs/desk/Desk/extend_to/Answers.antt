@@ -11,10 +11,10 @@ pub invariant_of-self : goal.invariant_of-self
 invariant_of-self g c =
     let j = g.J.HallName in
     let d = c.self.inside in
-    held-on j.cells j.loaded d.number d.player c.deref_mut.result.now c.extend_to.new.self
-    (subst (λ (r : Standing). IsHeld j.cells j.loaded d.number d.player r)
+    held-on j.cells j.loaded d.number d.player d.traveller c.deref_mut.result.now c.extend_to.new.self
+    (subst (λ (r : Standing). IsHeld j.cells j.loaded d.number d.player d.traveller r)
     (sym c.deref_mut.ensures.value) c.self.invariant)
-    c.extend_to.ensures.longer c.extend_to.ensures.still.0
+    c.extend_to.ensures.longer c.extend_to.ensures.still c.extend_to.ensures.within
 
 pub returns-clause-state : goal.returns-clause-state
 returns-clause-state g c =

@@ -14,10 +14,10 @@ pub invariant_of-self : goal.invariant_of-self
 invariant_of-self g c =
     let j = g.J.HallName in
     let d = c.self.inside in
-    held-on j.cells j.loaded d.number d.player c.deref_mut.result.now c.learn.new.self
-    (subst (λ (r : Standing). IsHeld j.cells j.loaded d.number d.player r)
+    held-on j.cells j.loaded d.number d.player d.traveller c.deref_mut.result.now c.learn.new.self
+    (subst (λ (r : Standing). IsHeld j.cells j.loaded d.number d.player d.traveller r)
     (sym c.deref_mut.ensures.value) c.self.invariant)
-    c.learn.ensures.mine c.learn.ensures.still.0
+    c.learn.ensures.mine c.learn.ensures.still c.learn.ensures.within
 
 pub returns-clause-learns : goal.returns-clause-learns
 returns-clause-learns g c =

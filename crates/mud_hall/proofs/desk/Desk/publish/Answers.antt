@@ -1,4 +1,4 @@
-use Rattle.std.proofs.Common.{◌≡◌, ◌++◌, ◌∷◌, [], ℕ, Some, None, sym, ap, ◌∙◌, subst}
+use Rattle.std.proofs.Common.{◌≡◌, ◌≤◌, ◌++◌, ◌∷◌, [], ℕ, length, Some, None, sym, ap, ◌∙◌, subst}
 use Rattle.mud_world.specs.Legal.{refusal}
 use Rattle.mud_world.specs.declared.change.Change.{Change}
 use Rattle.mud_rules.specs.Outcome.{IsActor}
@@ -14,7 +14,8 @@ invariant_of-self-in-Ok g c =
     let was = c.self.inside.replica.value in
     let entry : Entry = c.args.entry.value in
     let Held : ℕ → Type 0 =
-    λ a. IsHeld g.J.HallName.cells g.J.HallName.loaded c.self.inside.number (Some a) c.publish.new.self in
+    λ a. IsHeld g.J.HallName.cells g.J.HallName.loaded c.self.inside.number (Some a)
+    c.self.inside.traveller c.publish.new.self in
     let own : Entry → Type 0 = λ x. c.publish.new.self.list ≡ was.list ++ x ∷ [] in
     let numbered : entry ≡ record { desk = c.self.inside.number; change = entry.change } =
     ap (λ (n : ℕ). record { desk = n; change = entry.change })
@@ -26,8 +27,11 @@ invariant_of-self-in-Ok g c =
     (sym c.self.view_is) c.requires.lawful.1 in
     subst Held (ap (λ (e : Change). e.actor)
     (sym (c.change.ensures.change ∙ ap (λ (x : Entry). x.change) c.deref.ensures)))
-    (held-stored g.J.HallName.cells g.J.HallName.loaded c.self.inside.number c.self.inside.player was c.publish.new.self
-    entry.change c.self.invariant
+    (held-stored g.J.HallName.cells g.J.HallName.loaded c.self.inside.number c.self.inside.player
+    c.self.inside.traveller was c.publish.new.self entry.change c.self.invariant
     (subst own numbered
-    (c.in-Ok.ensures.published.0 ∙ ap (λ (r : Standing). r.list ++ entry ∷ []) c.deref_mut.ensures.value))
-    (c.in-Ok.ensures.still.0 ∙ ap (λ (r : Standing). r.row) c.deref_mut.ensures.value) legal actor)
+    (c.in-Ok.ensures.published.0 ∙ ap (λ (r : Standing). r.list ++ entry ∷ []) c.deref_mut.ensures.value)) (
+      c.in-Ok.ensures.still.0 ∙ ap (λ (r : Standing). r.row) c.deref_mut.ensures.value,
+      c.in-Ok.ensures.still.1 ∙ ap (λ (r : Standing). r.at) c.deref_mut.ensures.value,
+    )
+    (subst (λ (r : Standing). r.at ≤ length r.list) c.deref_mut.ensures.value c.in-Ok.ensures.within) legal actor)

@@ -55,6 +55,7 @@ invariant_of-self-2 c =
       few = c.self.invariant.few;
       plays = subst (λ (w : State). IsTrue (is_player w e.actor)) (sym left)
           (actor-plays (world_after h) h (Some c.self.inside.player) e refl legal actor seated);
+      known = tt;
     }
 
 pub returns-clause-ok : goal.returns-clause-ok

@@ -7,4 +7,4 @@ use Rattle.mud_search.proofs.frontier.Frontier.into_labels.Goals as goal
 pub returns-clause-members : goal.returns-clause-members
 returns-clause-members g c = λ m room past.
     ap (λ row. get_or row room None)
-    (get_or_past (lists_in c.found.result) m [] (omega (arith, c.found.ensures.count, past)))
+    (get_or_past (lists_in c.into_member_labels.result) m [] (omega (arith, c.into_member_labels.ensures.count, past)))

@@ -18,6 +18,6 @@ returns-else-not-is_empty c =
     let w = c.args.self.now in
     let from = by_list (leaves n) w c.leaving.result.now c.is_empty.result c.is_empty.ensures c.leaving.ensures in
     let to = by_list
-    (arrives n) w c.exits_to.result.now c.is_empty-else-not-is_empty.result c.is_empty-else-not-is_empty.ensures
-    c.exits_to.ensures in
+    (arrives n) w c.arriving.result.now c.is_empty-else-not-is_empty.result c.is_empty-else-not-is_empty.ensures
+    c.arriving.ensures in
     sym to ∙ sym (ap (λ b. b || list_any (λ e. arrives n e.1) w.objects) (from ∙ ap not c.if-not-is_empty.false))

@@ -1,0 +1,51 @@
+//! Who asks for a route, with what is open to him.
+
+ghost use Rattle.std.specs.Prelude.{◌≡◌, Some, IfSome, IsTrue};
+ghost use Rattle.mud_world.specs.State.{is_player};
+ghost use Rattle.mud_roads.specs.Open.{IsTraveller};
+
+use mud_roads::Traveller;
+use mud_rules::{Journey, Query, Verdict};
+use mud_world::World;
+use std::alloc::{AllocError, Global};
+
+/// Finds what is open to the player who asks for a route, unless it is known. Where memory is refused, what was known
+/// stays.
+pub(crate) fn find_traveller(
+    alloc: Global,
+    world: &World,
+    player: Option<u32>,
+    traveller: &mut Option<Traveller>,
+    verdict: &Verdict,
+) -> Result<(), AllocError>
+    requires seated { IfSome player (λ p. IsTrue (is_player world.now p)) }
+    requires known { IfSome traveller.old (IsTraveller world.now) }
+    ensures { IfSome traveller.new (IsTraveller world.now) }
+{
+    let Some(player) = player else {
+        return Ok(());
+    };
+    if asks_route(verdict) && traveller_of(traveller, player).is_none() {
+        *traveller = Some(Traveller::of(alloc, world, player)?);
+    }
+    Ok(())
+}
+
+/// The traveller, if he is this player.
+pub(crate) fn traveller_of(traveller: &Option<Traveller>, player: u32) -> Option<&Traveller>
+    ensures { IfSome result (λ t. (traveller.now ≡ Some t.now) × (t.now.player ≡ player)) }
+{
+    match traveller {
+        Some(traveller) if traveller.player() == player => Some(traveller),
+        _ => None,
+    }
+}
+
+// Whether a line asks for a route, or for the proof of one.
+fn asks_route(verdict: &Verdict) -> bool {
+    match verdict {
+        Verdict::Ask(Query::Journey(Journey::Route { .. })) => true,
+        Verdict::Ask(Query::Proof(Journey::Route { .. })) => true,
+        _ => false,
+    }
+}

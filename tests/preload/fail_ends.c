@@ -1,5 +1,6 @@
 // Fails calls by which the program that it is preloaded into reads or writes: `read`, `write`, `recv` and `send`
 // (counted.h). The kind of such a call is `read` or `write`. With MOVED_BYTES=1 each call moves one byte at most.
+// After a failed write the thread shuts its next socket a moment late: so what others send there in between is seen.
 
 #define _GNU_SOURCE
 #include <dlfcn.h>
@@ -12,13 +13,19 @@ typedef ssize_t reading(int, void *, size_t);
 typedef ssize_t writing(int, const void *, size_t);
 typedef ssize_t receiving(int, void *, size_t, int);
 typedef ssize_t sending(int, const void *, size_t, int);
+typedef int shutting(int, int);
 
 static reading *real_read;
 static writing *real_write;
 static receiving *real_recv;
 static sending *real_send;
+static shutting *real_shutdown;
+
+// In microseconds.
+static const useconds_t LATE = 20000;
 
 static int is_byte_by_byte;
+static __thread int has_failed_to_write;
 
 // May run before the constructors, where another library's start reads or writes.
 static void find(void) {
@@ -26,6 +33,7 @@ static void find(void) {
     real_write = (writing *)dlsym(RTLD_NEXT, "write");
     real_recv = (receiving *)dlsym(RTLD_NEXT, "recv");
     real_send = (sending *)dlsym(RTLD_NEXT, "send");
+    real_shutdown = (shutting *)dlsym(RTLD_NEXT, "shutdown");
 }
 
 __attribute__((constructor)) static void begin_here(void) {
@@ -67,5 +75,20 @@ ssize_t send(int file, const void *bytes, size_t count, int flags) {
     if (real_send == NULL) {
         find();
     }
-    return is_failed("write", EIO) ? -1 : real_send(file, bytes, moved(count), flags);
+    if (is_failed("write", EIO)) {
+        has_failed_to_write = 1;
+        return -1;
+    }
+    return real_send(file, bytes, moved(count), flags);
+}
+
+int shutdown(int file, int how) {
+    if (real_shutdown == NULL) {
+        find();
+    }
+    if (has_failed_to_write) {
+        has_failed_to_write = 0;
+        usleep(LATE);
+    }
+    return real_shutdown(file, how);
 }

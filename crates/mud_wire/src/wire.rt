@@ -126,7 +126,8 @@ impl Wire {
         self.stream.set_read_timeout(None).is_ok()
     }
 
-    /// Sends all of a text, once what it may name is synced; what ended the session, if it was not taken.
+    /// Sends all of a text, once what it may name is synced; what ended the session, if it was not taken. Such a text
+    /// is the last one: the socket is shut, so that no other thread sends what comes after it.
     pub fn send<R: Wait, C: Clock, T: Telling>(
         &self,
         rt: &R,
@@ -140,7 +141,11 @@ impl Wire {
         let Some(pass) = gate.wait_for(rt, text.version()) else {
             return Err(Parting::JournalFault);
         };
-        self.write(rt, clock, text.open(&pass).as_slice())
+        let written = self.write(rt, clock, text.open(&pass).as_slice());
+        if written.is_err() {
+            self.shut();
+        }
+        written
     }
 
     // Writes all of a text, unless the other side takes it too slowly or is gone.

@@ -1,8 +1,15 @@
 -- The names of an object.
-use Rattle.std.specs.Prelude.{ℕ, ◌<◌, ◌≤◌, List, length}
+use Rattle.std.specs.Prelude.{ℕ, ◌<◌, ◌≤◌, List, [], ◌∷◌, length, map, string_bytes}
 use Rattle.std.specs.List.{All}
 use Rattle.mud_key.specs.declared.limits.TheConstants.{MOST_NAMES}
+use Rattle.mud_key.specs.declared.texts.Texts.{Texts}
+use Rattle.mud_key.specs.declared.texts.Texts.TheVariants.{One, Several}
 use Rattle.mud_key.specs.Name.{IsName}
+
+-- the texts of names, in their order: of one name, or of several
+abbrev pub texts_of : Texts → List (List ℕ)
+texts_of (One text) = string_bytes text ∷ []
+texts_of (Several texts) = map string_bytes texts.items
 
 -- what is true of the names of an object: there are 1 to 4 of them, and each is a name
 pub record AreNames (names : List (List ℕ)) : Type 0 where

@@ -54,6 +54,7 @@ mod operator;
 mod printing;
 mod scan;
 mod stage;
+mod texts;
 
 pub use commas::parts;
 pub use key::{Key, asks, atoms};

@@ -7,6 +7,7 @@ ghost use Rattle.mud_key.specs.inner.NamesTexts.{NamesReadAs};
 
 use crate::name::Name;
 use crate::name_reader::NameReader;
+use crate::texts::Texts;
 use std::alloc::{AllocError, Global};
 use std::marker::Model;
 use thiserror::Error;
@@ -37,19 +38,18 @@ impl From<AllocError> for NamesFault {
 /// contract sees the list of their texts.
 #[derive(Drop)]
 pub struct Names {
-    list: Vec<String>,
+    texts: Texts,
 }
 
 impl Model for Names {
-    ghost use Rattle.std.specs.Prelude.{ℕ, List, map, string_bytes};
+    ghost use Rattle.std.specs.Prelude.{ℕ, List};
+    ghost use Rattle.mud_key.specs.Names.{AreNames, texts_of};
 
     ghost Value = { List (List ℕ) };
 
-    ghost view = { λ a. map string_bytes a.list.items };
+    ghost view = { λ a. texts_of a.texts };
 
-    ghost use Rattle.mud_key.specs.Names.{AreNames};
-
-    ghost invariant = { λ a. AreNames (map string_bytes a.list.items) };
+    ghost invariant = { λ a. AreNames (texts_of a.texts) };
 }
 
 impl Names {
@@ -72,7 +72,7 @@ impl Names {
             }
         }
         match reader.settle()? {
-            Some(list) => Ok(Names { list }),
+            Some(texts) => Ok(Names { texts }),
             None => Err(NamesFault::BadName),
         }
     }
@@ -81,9 +81,10 @@ impl Names {
     pub fn of(alloc: Global, name: Name) -> Result<Names, AllocError>
         ensures { IfOk result (λ names. names ≡ name ∷ []) }
     {
-        let mut list = Vec::with_capacity(alloc, 1)?;
-        list.push(String::from_str(alloc, name.as_str())?)?;
-        Ok(Names { list })
+        let text = String::from_str(alloc, name.as_str())?;
+        Ok(Names {
+            texts: Texts::One(text),
+        })
     }
 
     /// The names, 1 to 4, in the order of their text.
@@ -91,17 +92,15 @@ impl Names {
         ensures list { map string_bytes result.now ≡ self.now }
         ensures names { AreNames self.now }
     {
-        self.list.as_slice()
+        self.texts.as_slice()
     }
 
     /// Equal names.
     pub fn copy(&self, alloc: Global) -> Result<Names, AllocError>
         ensures { IfOk result (λ names. names ≡ self.now) }
     {
-        let mut list = Vec::with_capacity(alloc, self.list.len())?;
-        for name in &self.list {
-            list.push(name.clone()?)?;
-        }
-        Ok(Names { list })
+        Ok(Names {
+            texts: self.texts.copy(alloc)?,
+        })
     }
 }

@@ -1,13 +1,14 @@
 -- What the reader of names does at each byte. Clauses of private parts cite it, and `names_in` in Reading.antt
 -- computes by it; the law `laws::names` ties that to names texts.
-use Rattle.std.specs.Prelude.{ℕ, ◌+◌, ◌-◌, List, [], ◌∷◌, ◌++◌, length, map, replicate, Option, Some, None, String, Vec}
+use Rattle.std.specs.Prelude.{ℕ, ◌+◌, ◌-◌, List, [], ◌∷◌, ◌++◌, length, map, replicate, Option, Some, None}
 use Rattle.std.specs.Prelude.{string_bytes, nat_eq, nat_lt, if◌then◌else◌}
-use Rattle.std.specs.declared.alloc.Global.{Global}
 use Rattle.mud_key.specs.declared.codes.TheConstants.{SPACE, SHARP, COMMA}
 use Rattle.mud_key.specs.declared.limits.TheConstants.{MOST_NAMES, MOST_NAME_BYTES}
 use Rattle.mud_key.specs.declared.class.Class.{Class}
 use Rattle.mud_key.specs.declared.class.Class.TheVariants.{Space, Digit, Letter, Sharp, Foreign}
 use Rattle.mud_key.specs.declared.name_reader.NameReader.{NameReader}
+use Rattle.mud_key.specs.declared.texts.Texts.{Texts}
+use Rattle.mud_key.specs.Names.{texts_of}
 use Rattle.mud_key.specs.inner.Class.{class_of}
 
 -- the names that are whole, the one that is read, and the spaces after it
@@ -26,9 +27,9 @@ next_of None = None
 next_of (Some r) = Some (stand_of r)
 
 -- the names that were found, if some were
-abbrev pub names_of : Option (Vec (String Global) Global) → Option (List (List ℕ))
+abbrev pub names_of : Option Texts → Option (List (List ℕ))
 names_of None = None
-names_of (Some v) = Some (map string_bytes v.items)
+names_of (Some texts) = Some (texts_of texts)
 
 -- more than two spaces are counted as two
 abbrev pub space_step : Stand → Stand

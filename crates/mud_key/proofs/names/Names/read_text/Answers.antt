@@ -1,6 +1,6 @@
-use Rattle.std.proofs.Common.{ap, sym, ◌∙◌, subst, map}
-use Rattle.std.specs.Prelude.{string_bytes}
+use Rattle.std.proofs.Common.{ap, sym, ◌∙◌, subst}
 use Rattle.mud_key.specs.inner.NamesTexts.{IsNamesText, IsNoNamesText}
+use Rattle.mud_key.specs.Names.{texts_of}
 use Rattle.mud_key.specs.inner.NameReader.{next_of, names_of, stand_of}
 use Rattle.mud_key.proofs.NamesSound.{names_sound}
 use Rattle.mud_key.proofs.NamesTaken.{refused_names, unsettled_names, name_run_more, name_run_end, are_names}
@@ -24,19 +24,19 @@ loop-byte-preserved c =
 
 -- ---- the names are whole
 
-taken : (c : goal.In-Some-2) → IsNamesText c.as_bytes-byte-items.result.now (map string_bytes c.in-Some-2.list.items)
+taken : (c : goal.In-Some-2) → IsNamesText c.as_bytes-byte-items.result.now (texts_of c.in-Some-2.texts)
 taken c =
-    names_sound c.as_bytes-byte-items.result.now (stand_of c.loop-byte.reader) (map string_bytes c.in-Some-2.list.items)
+    names_sound c.as_bytes-byte-items.result.now (stand_of c.loop-byte.reader) (texts_of c.in-Some-2.texts)
     (name_run_end c.as_bytes-byte-items.result.now c.loop-byte.byte-index _ c.loop-byte-test.false
     c.loop-byte.invariant)
-    (sym c.in_ok-list.ensures ∙ ap names_of c.in-Some-2.is)
+    (sym c.in_ok-texts.ensures ∙ ap names_of c.in-Some-2.is)
 
 pub invariant_of-result : goal.invariant_of-result
 invariant_of-result c = are_names c.as_bytes-byte-items.result.now _ (taken c)
 
 pub returns-in-Some-2 : goal.returns-in-Some-2
 returns-in-Some-2 c = record {
-  reads = subst (λ t. IsNamesText t (map string_bytes c.in-Some-2.list.items)) c.as_bytes-byte-items.ensures.value
+  reads = subst (λ t. IsNamesText t (texts_of c.in-Some-2.texts)) c.as_bytes-byte-items.ensures.value
       (taken c);
 }
 
@@ -48,5 +48,5 @@ returns-in-None-2 c = record {
       (unsettled_names c.as_bytes-byte-items.result.now (stand_of c.loop-byte.reader)
       (name_run_end c.as_bytes-byte-items.result.now c.loop-byte.byte-index _ c.loop-byte-test.false
       c.loop-byte.invariant)
-      (sym c.in_ok-list.ensures ∙ ap names_of c.in-None-2.is));
+      (sym c.in_ok-texts.ensures ∙ ap names_of c.in-None-2.is));
 }

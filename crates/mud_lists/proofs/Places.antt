@@ -1,13 +1,13 @@
 -- Where a number stands in a rising list.
 use Rattle.std.proofs.Common.{◌≡◌, ℕ, zero, suc, ◌+◌, ◌<◌, ◌≤◌, true, false, cond, ◌||◌, not, List, [], ◌∷◌, length}
-use Rattle.std.proofs.Common.{get_or, refl, sym, ap, inl, inr, arith}
+use Rattle.std.proofs.Common.{◌-◌, ◌++◌, ◌∙◌, get_or, refl, sym, ap, inl, inr, arith}
 use Rattle.std.specs.Prelude.{nat_eq, Ok, Err, is_ok}
 use Rattle.std.specs.declared.result.Result.{Result}
 use Rattle.std.specs.Ordering.{nat_cmp}
 use Rattle.std.specs.List.{insert as insert_at, remove, list_any}
 use Rattle.std.specs.List.Sorted.{IsNonDecreasing, IsBinarySearchResult}
 use Rattle.std.proofs.lemmas.Bool.{lt-ltb, le-ltb, eq-eqb, ne_eqb, cases_lt, or_right}
-use Rattle.std.proofs.lemmas.List.Edits.{length-remove, get_or-remove_below, get_or-remove_above}
+use Rattle.std.proofs.lemmas.List.Edits.{insert_end, length-remove, get_or-remove_below, get_or-remove_above}
 use Rattle.std.proofs.lemmas.List.Sorted.{searched}
 use Rattle.mud_lists.specs.Rising.{insert, without}
 
@@ -26,6 +26,16 @@ placed n (x ∷ xs) (suc i) at low high =
     (ap (λ v. x ∷ v)
     (placed n xs i (omega arith) (λ k before. low (suc k) (omega arith))
     (λ k behind within. high (suc k) (omega arith) (omega arith))))
+
+-- at the end, where the last is not above it
+pub at_end : (n : ℕ) (xs : List ℕ) → IsNonDecreasing xs → ((d : ℕ) → 0 < length xs → get_or xs (length xs - 1) d ≤ n)
+    → xs ++ n ∷ [] ≡ insert n xs
+at_end n xs rising above =
+    sym (insert_end xs n)
+    ∙ placed n xs (length xs) (omega arith)
+    (λ k before.
+    omega (arith, rising k (length xs - 1) 0 (omega arith) (omega arith), above 0 (omega arith)))
+    (λ k behind within. absurd (omega arith))
 
 -- ---- taken out
 

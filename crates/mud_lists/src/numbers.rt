@@ -1,6 +1,6 @@
 //! Rising lists of numbers.
 
-ghost use Rattle.std.specs.Prelude.{◌≡◌, ◌≤◌, [], length, nat_eq, OnOk, OnErr};
+ghost use Rattle.std.specs.Prelude.{◌≡◌, ◌≤◌, [], ◌∷◌, ◌++◌, length, nat_eq, IsTrue, OnOk, OnErr};
 ghost use Rattle.std.specs.List.{insert as insert_at, list_any};
 ghost use Rattle.std.specs.List.Sorted.{IsNonDecreasing};
 ghost use Rattle.mud_lists.specs.Rising.{insert, without};
@@ -33,6 +33,18 @@ fn place_for(numbers: &[u32], number: u32) -> usize
     ensures rising { IsNonDecreasing (insert number numbers.now) }
 {
     numbers.partition_point(|other| *other <= number)
+}
+
+// Whether no number of a rising list is above this one, so that it goes to the end.
+fn is_last(numbers: &[u32], number: u32) -> bool
+    requires { IsNonDecreasing numbers.now }
+    ensures at_end { IsTrue result → numbers.now ++ number ∷ [] ≡ insert number numbers.now }
+    ensures rising { IsTrue result → IsNonDecreasing (numbers.now ++ number ∷ []) }
+{
+    match numbers.last() {
+        Some(last) => *last <= number,
+        None => true,
+    }
 }
 
 // Takes the number out of a rising list, as often as it is there.
@@ -72,6 +84,11 @@ impl Rising {
         ensures ok { OnOk result (self.new ≡ insert number self.old) }
         ensures err { OnErr result (self.new ≡ self.old) }
     {
+        // a new object has the highest number, and a push is cheaper than a search
+        if is_last(&self.numbers, number) {
+            self.numbers.push(number)?;
+            return Ok(());
+        }
         let at = place_for(&self.numbers, number);
         self.numbers.insert(at, number)?;
         Ok(())

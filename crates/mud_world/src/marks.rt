@@ -71,7 +71,9 @@ impl World {
         self.opens(Bearer::Marks(&marks), object, KEY_LEVELS)
     }
 
-    // Whether an object that has a key is unlocked for the candidate.
+    // Whether an object that has a key is unlocked for the candidate. Apart, since its room on the stack is large, and
+    // each call would pay for that.
+    #[inline(never)]
     fn is_let_in(&self, candidate: u32, object: u32) -> bool
         ensures { result ≡ unlocked self.now candidate object }
     {

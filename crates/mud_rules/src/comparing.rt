@@ -1,6 +1,7 @@
 //! How two texts are compared.
 
-ghost use Rattle.std.specs.Prelude.{◌≡◌};
+ghost use Rattle.std.specs.Prelude.{◌≡◌, nat_eq};
+ghost use Rattle.std.specs.Char.{to_ascii_lowercase};
 ghost use Rattle.std.specs.Str.{str_eq_ignore_ascii_case};
 
 // Whether two texts are the same but for the case of ASCII letters. All bytes are looked at,
@@ -18,9 +19,26 @@ pub(crate) fn is_same(text: &[u8], name: &[u8]) -> bool
     same
 }
 
+// Whether two letters are the same but for their case. Most are equal as they stand, since a line's verb
+// comes in lower case, as the words of the table are.
+fn is_letter(letter: u8, other: u8) -> bool
+    ensures { result ≡ nat_eq (to_ascii_lowercase letter) (to_ascii_lowercase other) }
+{
+    letter == other || letter.eq_ignore_ascii_case(&other)
+}
+
 // Whether a text is this word, ASCII case ignored.
 pub(crate) fn is_word(text: &str, word: &str) -> bool
     ensures { result ≡ str_eq_ignore_ascii_case text.now word.now }
 {
-    text.eq_ignore_ascii_case(word)
+    let (text, word) = (text.as_bytes(), word.as_bytes());
+    if text.len() != word.len() {
+        return false;
+    }
+    for at in 0..text.len() {
+        if !is_letter(text[at], word[at]) {
+            return false;
+        }
+    }
+    true
 }

@@ -5,6 +5,7 @@ ghost use Rattle.std.specs.List.{flat_map};
 ghost use Rattle.mud_explain.specs.Listed.{bracket_all, in_brackets};
 
 use std::alloc::AllocError;
+use std::convert::AsStr;
 
 // Appends the text between brackets.
 pub(crate) fn push_bracketed(out: &mut String, text: &str) -> Result<(), AllocError>
@@ -14,9 +15,9 @@ pub(crate) fn push_bracketed(out: &mut String, text: &str) -> Result<(), AllocEr
 }
 
 // Appends each text between brackets, a space in front of each.
-fn push_others(out: &mut String, texts: &[String]) -> Result<(), AllocError>
+fn push_others<T: AsStr>(out: &mut String, texts: &[T]) -> Result<(), AllocError>
     ensures { OnOk result (string_bytes out.new
-        ≡ string_bytes out.old ++ flat_map (λ t. codes " " ++ in_brackets t) (map string_bytes texts.now)) }
+        ≡ string_bytes out.old ++ flat_map (λ t. codes " " ++ in_brackets t) (map T.text texts.now)) }
 {
     for text in texts {
         out.push(' ')?;
@@ -26,8 +27,8 @@ fn push_others(out: &mut String, texts: &[String]) -> Result<(), AllocError>
 }
 
 // Appends each text between brackets, a space between each two.
-pub(crate) fn push_listed(out: &mut String, texts: &[String]) -> Result<(), AllocError>
-    ensures { OnOk result (string_bytes out.new ≡ string_bytes out.old ++ bracket_all (map string_bytes texts.now)) }
+pub(crate) fn push_listed<T: AsStr>(out: &mut String, texts: &[T]) -> Result<(), AllocError>
+    ensures { OnOk result (string_bytes out.new ≡ string_bytes out.old ++ bracket_all (map T.text texts.now)) }
 {
     match texts {
         [] => Ok(()),

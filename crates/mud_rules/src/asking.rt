@@ -58,7 +58,7 @@ impl Actor<'_> {
         ensures { IfOk result (λ v. v
             ≡ command self.now.world.now self.now.player (line_of parsed.now) Verb.Proof) }
     {
-        let line = parse(self.alloc, &parsed.rest)?;
+        let line = parse(self.alloc, parsed.rest)?;
         Ok(asked_proof(self.journey_meant(&line)?))
     }
 

@@ -7,12 +7,13 @@ ghost use Rattle.mud_words.specs.inner.Searching.{join_words};
 ghost use Rattle.mud_rules.specs.Shapes.{all_of, looked_at, is_prep, is_pair};
 ghost use Rattle.mud_rules.specs.inner.Parts.{first_of, is_aimed};
 
+use crate::comparing::is_word;
 use mud_words::{Parsed, Prep};
 use std::alloc::{AllocError, Global};
 use std::borrow::CowStr;
 
-fn joined_text(alloc: Global, words: &[String]) -> Result<String, AllocError>
-    ensures { IfOk result (λ text. string_bytes text ≡ join_words (map string_bytes words.now)) }
+fn joined_text(alloc: Global, words: &[CowStr<'_, Global>]) -> Result<String, AllocError>
+    ensures { IfOk result (λ text. string_bytes text ≡ join_words (map cow_str_bytes words.now)) }
 {
     words.join(alloc, " ")
 }
@@ -20,9 +21,9 @@ fn joined_text(alloc: Global, words: &[String]) -> Result<String, AllocError>
 // Words joined by one space. A lone word is not copied.
 pub(crate) fn join_words<'a>(
     alloc: Global,
-    words: &'a [String],
+    words: &'a [CowStr<'a, Global>],
 ) -> Result<CowStr<'a, Global>, AllocError>
-    ensures { IfOk result (λ text. cow_str_bytes text ≡ join_words (map string_bytes words.now)) }
+    ensures { IfOk result (λ text. cow_str_bytes text ≡ join_words (map cow_str_bytes words.now)) }
 {
     match words {
         [word] => Ok(CowStr::Borrowed(word.as_str())),
@@ -54,17 +55,21 @@ pub(crate) fn whole_of(alloc: Global, parsed: &Parsed) -> Result<String, AllocEr
 }
 
 // The words that name what is looked at: without a first `at` that has more after it.
-pub(crate) fn looked_at(words: &[String]) -> &[String]
-    ensures { map string_bytes result.now ≡ looked_at (map string_bytes words.now) }
+pub(crate) fn looked_at<'a>(words: &'a [CowStr<'a, Global>]) -> &'a [CowStr<'a, Global>]
+    ensures { map cow_str_bytes result.now ≡ looked_at (map cow_str_bytes words.now) }
 {
-    match words.split_first() {
-        Some((first, others)) if !others.is_empty() && first.eq_ignore_ascii_case("at") => others,
-        _ => words,
+    let [first, others @ ..] = words else {
+        return words;
+    };
+    if !others.is_empty() && is_word(first, "at") {
+        others
+    } else {
+        words
     }
 }
 
 // The word after the verb, or the empty text.
-pub(crate) fn first_of(parsed: &Parsed) -> &str
+pub(crate) fn first_of<'a>(parsed: &'a Parsed) -> &'a str
     ensures { result.now ≡ first_of (line_of parsed.now) }
 {
     match parsed.args.first() {

@@ -18,7 +18,7 @@ impl Actor<'_> {
         ensures { IfOk result (λ v. v
             ≡ command self.now.world.now self.now.player (line_of parsed.now) Verb.Say) }
     {
-        match Speech::read(self.alloc, &parsed.rest)? {
+        match Speech::read(self.alloc, parsed.rest)? {
             Some(speech) => Ok(self.does(None, Deed::Say(speech))),
             None => Ok(refuse_unreadable(self.no_player(), Refusal::BadName)),
         }
@@ -29,7 +29,7 @@ impl Actor<'_> {
         ensures { IfOk result (λ v. v
             ≡ command self.now.world.now self.now.player (line_of parsed.now) Verb.Emote) }
     {
-        match Speech::read(self.alloc, &parsed.rest)? {
+        match Speech::read(self.alloc, parsed.rest)? {
             Some(speech) => Ok(self.does(None, Deed::Emote(speech))),
             None => Ok(refuse_unreadable(self.no_player(), Refusal::BadName)),
         }

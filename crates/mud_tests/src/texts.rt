@@ -5,6 +5,7 @@ use mud_key::{Key, Miss, Namer, Names, asks, atoms, print, read, resolve};
 use mud_nvt::{Nvt, Unit, write_line};
 use mud_words::{Parsed, parse, words};
 use std::alloc::{AllocError, Global};
+use std::convert::AsStr;
 use std::fmt::Write;
 use std::test::Fail;
 
@@ -64,12 +65,12 @@ fn push_numbers(numbers: &[u32], out: &mut String) -> Result<(), AllocError> {
     Ok(())
 }
 
-fn push_parts(alloc: Global, parts: &[String], out: &mut String) -> Result<(), AllocError> {
+fn push_parts<T: AsStr>(alloc: Global, parts: &[T], out: &mut String) -> Result<(), AllocError> {
     out.push_str(parts.join(alloc, " / ")?.as_str())
 }
 
 fn push_words(alloc: Global, text: &str, out: &mut String) -> Result<(), AllocError> {
-    push_parts(alloc, &words(alloc, text)?, out)
+    push_parts(alloc, words(alloc, text)?.as_slice(), out)
 }
 
 fn push_names(alloc: Global, text: &str, out: &mut String) -> Result<(), Fail> {
@@ -103,7 +104,7 @@ fn push_key(alloc: Global, call: &str, text: &str, out: &mut String) -> Result<(
 
 fn push_line(line: &Parsed, out: &mut String) -> Result<(), AllocError> {
     let (verb, direct) = (line.verb.as_str(), line.direct.as_str());
-    let (indirect, rest) = (line.indirect.as_str(), line.rest.as_str());
+    let (indirect, rest) = (line.indirect.as_str(), line.rest);
     write!(out, "{verb} / {direct} / {indirect} / {rest}")
 }
 

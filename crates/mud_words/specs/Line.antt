@@ -1,5 +1,6 @@
 -- A line, taken apart.
-use Rattle.std.specs.Prelude.{ℕ, List, map, Option, string_bytes}
+use Rattle.std.specs.Prelude.{ℕ, List, map, Option}
+use Rattle.std.specs.Cow.{cow_str_bytes}
 use Rattle.mud_words.specs.declared.Prep.{Prep}
 use Rattle.mud_words.specs.declared.Parsed.{Parsed}
 
@@ -15,10 +16,10 @@ pub record Line : Type 0 where
 -- what a `Parsed` is seen as
 abbrev pub line_of : Parsed → Line
 line_of p = record {
-  verb = string_bytes p.verb;
-  args = map string_bytes p.args.items;
-  direct = string_bytes p.direct;
+  verb = cow_str_bytes p.verb;
+  args = map cow_str_bytes p.args.items;
+  direct = cow_str_bytes p.direct;
   prep = p.prep;
-  indirect = string_bytes p.indirect;
-  rest = string_bytes p.rest;
+  indirect = cow_str_bytes p.indirect;
+  rest = p.rest.now;
 }

@@ -1,19 +1,21 @@
 ghost use Rattle.std.specs.Prelude.{◌≡◌, ◌∷◌, ◌++◌, [], Some, map, string_bytes, IfOk, OnOk};
+ghost use Rattle.std.specs.Cow.{cow_str_bytes};
 ghost use Rattle.mud_words.specs.Words.{pieces, plain_words, after_first_word};
 ghost use Rattle.mud_words.specs.inner.Cutting.{rest_words};
 
 use crate::piece::{Piece, Quotes};
 use crate::spaces::without_front;
 use std::alloc::{AllocError, Global};
+use std::borrow::CowStr;
 
 /// Appends the words of a text without shorthand.
-pub(crate) fn push_words(
+pub(crate) fn push_words<'a>(
     alloc: Global,
-    text: &str,
-    words: &mut Vec<String>,
+    text: &'a str,
+    words: &mut Vec<CowStr<'a, Global>>,
 ) -> Result<(), AllocError>
-    ensures { OnOk result (map string_bytes words.new.items
-        ≡ map string_bytes words.old.items ++ plain_words text.now) }
+    ensures { OnOk result (map cow_str_bytes words.new.items
+        ≡ map cow_str_bytes words.old.items ++ plain_words text.now) }
 {
     let mut text = without_front(text);
     while !text.is_empty() {
@@ -24,10 +26,14 @@ pub(crate) fn push_words(
     Ok(())
 }
 
-/// The word that a text begins with, and what stands after the space that ends it.
-pub(crate) fn first_word(alloc: Global, text: &str) -> Result<(String, &str), AllocError>
+/// The word that a text begins with, and what stands after the space that ends it. A word without
+/// quotes and backslashes is a piece of the text, and no copy.
+pub(crate) fn first_word<'a>(
+    alloc: Global,
+    text: &'a str,
+) -> Result<(CowStr<'a, Global>, &'a str), AllocError>
     ensures words { IfOk result (λ r. rest_words (Some []) (pieces text.now)
-        ≡ string_bytes r.0 ∷ plain_words r.1.now) }
+        ≡ cow_str_bytes r.0 ∷ plain_words r.1.now) }
     ensures rest { IfOk result (λ r. r.1.now ≡ after_first_word text.now) }
 {
     let bytes = text.as_bytes();
@@ -38,12 +44,15 @@ pub(crate) fn first_word(alloc: Global, text: &str) -> Result<(String, &str), Al
             continue;
         }
         match byte {
-            b' ' => return Ok((String::from_str(alloc, &text[..at])?, &text[at + 1..])),
-            b'"' | b'\\' => return marked_word(alloc, text),
+            b' ' => return Ok((CowStr::Borrowed(&text[..at]), &text[at + 1..])),
+            b'"' | b'\\' => {
+                let (word, rest) = marked_word(alloc, text)?;
+                return Ok((CowStr::Owned(word), rest));
+            }
             _ => {}
         }
     }
-    Ok((String::from_str(alloc, text)?, ""))
+    Ok((CowStr::Borrowed(text), ""))
 }
 
 // The same where quotes and backslashes may stand in the word. What lies between two marks is copied

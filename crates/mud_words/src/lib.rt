@@ -26,7 +26,7 @@
 //! assert_eq!(rt; parsed.direct.as_str(), "north|south");
 //! assert_eq!(rt; parsed.prep, Some(Prep::To));
 //! assert_eq!(rt; parsed.indirect.as_str(), "Big Library");
-//! assert_eq!(rt; parsed.rest.as_str(), "north|south  to \"Big Library\"");
+//! assert_eq!(rt; parsed.rest, "north|south  to \"Big Library\"");
 //! ```
 //!
 //! Proved: the answers are exactly those of the definitions in `specs/`, [`words`] those of
@@ -37,7 +37,8 @@
 //! a line without quotes is cut at its spaces, and which preposition counts.
 #![tactic(auto)]
 
-ghost use Rattle.std.specs.Prelude.{◌≡◌, ◌↔◌, [], ◌∷◌, IsTrue, map, string_bytes, IfOk, IfSome, MatchOption};
+ghost use Rattle.std.specs.Prelude.{◌≡◌, ◌↔◌, [], ◌∷◌, IsTrue, map, IfOk, IfSome, MatchOption};
+ghost use Rattle.std.specs.Cow.{cow_str_bytes};
 ghost use Rattle.mud_words.specs.Words.{words, plain_words, is_blank, without_front, after_first_word, spelled_out};
 ghost use Rattle.mud_words.specs.Line.{line_of};
 ghost use Rattle.mud_words.specs.Parse.{parse_of};
@@ -54,6 +55,7 @@ use crate::cut::{first_word, push_words};
 use crate::spaces::{shorthand, without_front};
 use crate::split::{blank, line_with_verb};
 use std::alloc::{AllocError, Global};
+use std::borrow::CowStr;
 
 /// A preposition: one variant for all phrases that say the same (LambdaMOO Programmer's Manual,
 /// "The Built-in Command Parser").
@@ -91,34 +93,36 @@ pub enum Prep {
     Off,
 }
 
-/// What a line says.
+/// What a line says. Its texts are pieces of the line; only where quotes or backslashes are dropped,
+/// letters lowered or words joined is a text a copy.
 ///
 /// A blank line has an empty verb and nothing else.
 #[derive(Debug, Drop)]
-pub struct Parsed {
+pub struct Parsed<'a> {
     /// The first word, its ASCII letters in lower case.
-    pub verb: String,
+    pub verb: CowStr<'a, Global>,
     /// The words after the verb, as they are typed.
-    pub args: Vec<String>,
+    pub args: Vec<CowStr<'a, Global>>,
     /// The words before the preposition that counts, joined by one space; without one all `args`.
-    pub direct: String,
+    pub direct: CowStr<'a, Global>,
     /// The preposition that counts, if one stands among `args`.
     pub prep: Option<Prep>,
     /// The words after that preposition, joined by one space; without one the empty text.
-    pub indirect: String,
+    pub indirect: CowStr<'a, Global>,
     /// What stands after the first word of the line, its quotes and backslashes as they are typed,
     /// without the spaces at its ends. Of a line that begins with `"`, `:` or `;` this is what
     /// follows that character.
-    pub rest: String,
+    pub rest: &'a str,
 }
 
 /// The words of a line, its shorthand spelled out: of `foo "bar mumble" baz` the words `foo`,
 /// `bar mumble` and `baz`, of `"hi there` the words `say`, `hi` and `there`.
 ///
-/// A blank line has none. The time is in proportion to the line.
+/// A blank line has none. A word without quotes and backslashes is a piece of the line, and no copy.
+/// The time is in proportion to the line.
 #[tactic(auto, unfolding(crate::specs::Words::words))]
-pub fn words(alloc: Global, line: &str) -> Result<Vec<String>, AllocError>
-    ensures { IfOk result (λ ws. map string_bytes ws.items ≡ words line.now) }
+pub fn words(alloc: Global, line: &str) -> Result<Vec<CowStr<'_, Global>>, AllocError>
+    ensures { IfOk result (λ ws. map cow_str_bytes ws.items ≡ words line.now) }
 {
     let mut words = Vec::new(alloc);
     if let Some((verb, text)) = verb_and_text(alloc, line)? {
@@ -135,7 +139,7 @@ pub fn words(alloc: Global, line: &str) -> Result<Vec<String>, AllocError>
 /// a preposition of several words is several words of the line, so that `"in front of"` between
 /// quotes is none. The time is in proportion to the line.
 #[tactic(auto, unfolding(crate::specs::Parse::parse_of, crate::specs::Words::words))]
-pub fn parse(alloc: Global, line: &str) -> Result<Parsed, AllocError>
+pub fn parse(alloc: Global, line: &str) -> Result<Parsed<'_>, AllocError>
     ensures { IfOk result (λ p. line_of p ≡ parse_of line.now) }
 {
     match verb_and_text(alloc, line)? {
@@ -146,9 +150,12 @@ pub fn parse(alloc: Global, line: &str) -> Result<Parsed, AllocError>
 
 // The first word of a line, its shorthand spelled out, and the text after it. A blank line has none.
 #[tactic(auto, unfolding(crate::specs::Words::words))]
-fn verb_and_text(alloc: Global, line: &str) -> Result<Option<(String, &str)>, AllocError>
+fn verb_and_text(
+    alloc: Global,
+    line: &str,
+) -> Result<Option<(CowStr<'_, Global>, &str)>, AllocError>
     ensures words { IfOk result (λ v. MatchOption v (without_front line.now ≡ [])
-        (λ v. words line.now ≡ string_bytes v.0 ∷ plain_words v.1.now)) }
+        (λ v. words line.now ≡ cow_str_bytes v.0 ∷ plain_words v.1.now)) }
     ensures rest { IfOk result (λ v. IfSome v
         (λ v. v.1.now ≡ after_first_word (spelled_out (without_front line.now)))) }
 {
@@ -157,7 +164,7 @@ fn verb_and_text(alloc: Global, line: &str) -> Result<Option<(String, &str)>, Al
         return Ok(None);
     }
     if let Some((verb, text)) = shorthand(line) {
-        return Ok(Some((String::from_str(alloc, verb)?, text)));
+        return Ok(Some((CowStr::Borrowed(verb), text)));
     }
     Ok(Some(first_word(alloc, line)?))
 }

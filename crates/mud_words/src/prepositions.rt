@@ -1,11 +1,14 @@
-ghost use Rattle.std.specs.Prelude.{◌≡◌, ◌≤◌, ℕ, List, ◌∷◌, IsTrue, IfSome, length, map, string_bytes};
+ghost use Rattle.std.specs.Prelude.{◌≡◌, ◌≤◌, ℕ, List, ◌∷◌, IsTrue, IfSome, length, map};
 ghost use Rattle.std.specs.Char.{to_ascii_lowercase};
+ghost use Rattle.std.specs.Cow.{cow_str_bytes};
 ghost use Rattle.std.specs.List.{find};
 ghost use Rattle.std.specs.Option.{option_map};
 ghost use Rattle.mud_words.specs.Prepositions.{begins, phrase_at, preposition_of};
 ghost use Rattle.mud_words.specs.inner.Searching.{row_shown, texts, spot_of, phrase_len};
 
 use crate::Prep;
+use std::alloc::Global;
+use std::borrow::CowStr;
 
 /// The words of a line that are a preposition: which, and the places before and after them.
 #[derive(Clone, Copy)]
@@ -16,8 +19,8 @@ pub(crate) struct Spot {
 }
 
 // The preposition that counts among the words of a line.
-pub(crate) fn preposition_of(args: &[String]) -> Option<Spot>
-    ensures value { result ≡ option_map spot_of (preposition_of (map string_bytes args.now)) }
+pub(crate) fn preposition_of(args: &[CowStr<'_, Global>]) -> Option<Spot>
+    ensures value { result ≡ option_map spot_of (preposition_of (map cow_str_bytes args.now)) }
     ensures order { IfSome result (λ s. s.start ≤ s.end) }
     ensures within { IfSome result (λ s. s.end ≤ length args.now) }
 {
@@ -31,8 +34,8 @@ pub(crate) fn preposition_of(args: &[String]) -> Option<Spot>
 }
 
 // The longest preposition that the words begin with, and how many words it has.
-fn phrase_at(words: &[String]) -> Option<(Prep, usize)>
-    ensures value { result ≡ option_map phrase_len (phrase_at (map string_bytes words.now)) }
+fn phrase_at(words: &[CowStr<'_, Global>]) -> Option<(Prep, usize)>
+    ensures value { result ≡ option_map phrase_len (phrase_at (map cow_str_bytes words.now)) }
     ensures within { IfSome result (λ p. p.1 ≤ length words.now) }
 {
     let [word, ..] = words else {
@@ -111,9 +114,9 @@ fn phrases_with(letter: u8) -> &'static [(Prep, &'static [&'static str])]
 }
 
 // The first of the phrases that the words begin with, and how many words it has.
-fn first_said(phrases: &[(Prep, &[&str])], words: &[String]) -> Option<(Prep, usize)>
+fn first_said(phrases: &[(Prep, &[&str])], words: &[CowStr<'_, Global>]) -> Option<(Prep, usize)>
     ensures value { result ≡ option_map phrase_len
-        (find (λ p. begins (map string_bytes words.now) p.words) (map row_shown phrases.now)) }
+        (find (λ p. begins (map cow_str_bytes words.now) p.words) (map row_shown phrases.now)) }
     ensures within { IfSome result (λ p. p.1 ≤ length words.now) }
 {
     for (prep, phrase) in phrases {
@@ -125,8 +128,8 @@ fn first_said(phrases: &[(Prep, &[&str])], words: &[String]) -> Option<(Prep, us
 }
 
 // Whether the words begin with those of a phrase, whatever the case of their letters.
-fn begins(words: &[String], phrase: &[&str]) -> bool
-    ensures value { result ≡ begins (map string_bytes words.now) (texts phrase.now) }
+fn begins(words: &[CowStr<'_, Global>], phrase: &[&str]) -> bool
+    ensures value { result ≡ begins (map cow_str_bytes words.now) (texts phrase.now) }
     ensures within { IsTrue result → length phrase.now ≤ length words.now }
 {
     let [said, more_said @ ..] = phrase else {

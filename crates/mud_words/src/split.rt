@@ -1,5 +1,7 @@
-ghost use Rattle.std.specs.Prelude.{◌≡◌, ℕ, List, [], ◌∷◌, map, string_bytes, IfOk};
+ghost use Rattle.std.specs.Prelude.{◌≡◌, ℕ, List, [], ◌∷◌, IsFalse, map, string_bytes, IfOk};
+ghost use Rattle.std.specs.Cow.{cow_str_bytes};
 ghost use Rattle.mud_words.specs.Words.{plain_words, without_front, without_back};
+ghost use Rattle.mud_words.specs.Prepositions.{lower};
 ghost use Rattle.mud_words.specs.Line.{line_of};
 ghost use Rattle.mud_words.specs.Parse.{line_of_words};
 ghost use Rattle.mud_words.specs.inner.Searching.{line_with, split, join_words};
@@ -9,41 +11,70 @@ use crate::prepositions::preposition_of;
 use crate::spaces::{without_back, without_front};
 use crate::{Parsed, Prep};
 use std::alloc::{AllocError, Global};
+use std::borrow::CowStr;
 
 /// What a line says that has a verb, and this text after it.
-pub(crate) fn line_with_verb(
+pub(crate) fn line_with_verb<'a>(
     alloc: Global,
-    mut verb: String,
-    text: &str,
-) -> Result<Parsed, AllocError>
+    verb: CowStr<'a, Global>,
+    text: &'a str,
+) -> Result<Parsed<'a>, AllocError>
     ensures { IfOk result (λ p. line_of p
-        ≡ line_of_words (string_bytes verb ∷ plain_words text.now) (without_back (without_front text.now))) }
+        ≡ line_of_words (cow_str_bytes verb.entry ∷ plain_words text.now) (without_back (without_front text.now))) }
 {
-    verb.make_ascii_lowercase();
+    let verb = lowered(alloc, verb)?;
     let mut args = Vec::new(alloc);
     push_words(alloc, text, &mut args)?;
-    let rest = String::from_str(alloc, without_back(without_front(text)))?;
-    split(alloc, verb, args, rest)
+    split(alloc, verb, args, without_back(without_front(text)))
+}
+
+// A word, its ASCII letters in lower case. One without upper case letters is not copied.
+fn lowered<'a>(alloc: Global, word: CowStr<'a, Global>) -> Result<CowStr<'a, Global>, AllocError>
+    ensures { IfOk result (λ w. cow_str_bytes w ≡ lower (cow_str_bytes word.entry)) }
+{
+    if !has_upper(&word) {
+        return Ok(word);
+    }
+    let mut word = word.into_owned(alloc)?;
+    word.make_ascii_lowercase();
+    Ok(CowStr::Owned(word))
+}
+
+// Whether a text has an upper case letter of ASCII: without one it is what it is in lower case.
+fn has_upper(text: &str) -> bool
+    ensures { IsFalse result → lower text.now ≡ text.now }
+{
+    for byte in text.as_bytes() {
+        if byte.is_ascii_uppercase() {
+            return true;
+        }
+    }
+    false
 }
 
 /// What a blank line says.
-pub(crate) fn blank(alloc: Global) -> Parsed
+pub(crate) fn blank(alloc: Global) -> Parsed<'static>
     ensures { line_of result ≡ line_of_words [] [] }
 {
     Parsed {
-        verb: String::new(alloc),
+        verb: CowStr::Borrowed(""),
         args: Vec::new(alloc),
-        direct: String::new(alloc),
+        direct: CowStr::Borrowed(""),
         prep: None,
-        indirect: String::new(alloc),
-        rest: String::new(alloc),
+        indirect: CowStr::Borrowed(""),
+        rest: "",
     }
 }
 
 /// The arguments round the preposition that counts.
-fn split(alloc: Global, verb: String, args: Vec<String>, rest: String) -> Result<Parsed, AllocError>
+fn split<'a>(
+    alloc: Global,
+    verb: CowStr<'a, Global>,
+    args: Vec<CowStr<'a, Global>>,
+    rest: &'a str,
+) -> Result<Parsed<'a>, AllocError>
     ensures { IfOk result (λ p. line_of p
-        ≡ split (string_bytes verb) (map string_bytes args.items) (string_bytes rest)) }
+        ≡ split (cow_str_bytes verb.entry) (map cow_str_bytes args.entry.items) rest.now) }
 {
     let objects = objects_of(alloc, args.as_slice())?;
     Ok(Parsed {
@@ -58,24 +89,23 @@ fn split(alloc: Global, verb: String, args: Vec<String>, rest: String) -> Result
 
 /// What stands round a preposition.
 #[derive(Drop)]
-pub(crate) struct Objects {
-    pub direct: String,
+pub(crate) struct Objects<'a> {
+    pub direct: CowStr<'a, Global>,
     pub prep: Option<Prep>,
-    pub indirect: String,
+    pub indirect: CowStr<'a, Global>,
 }
 
 /// What stands round the preposition that counts.
-fn objects_of(alloc: Global, args: &[String]) -> Result<Objects, AllocError>
+fn objects_of<'a>(alloc: Global, args: &[CowStr<'a, Global>]) -> Result<Objects<'a>, AllocError>
     ensures { IfOk result (λ o. (verb rest : List ℕ) →
-        line_with verb (map string_bytes args.now) rest o ≡ split verb (map string_bytes args.now) rest) }
+        line_with verb (map cow_str_bytes args.now) rest o ≡ split verb (map cow_str_bytes args.now) rest) }
 {
     let Some(spot) = preposition_of(args) else {
         let direct = join_words(alloc, args)?;
-        let indirect = String::new(alloc);
         return Ok(Objects {
             direct,
             prep: None,
-            indirect,
+            indirect: CowStr::Borrowed(""),
         });
     };
     let direct = join_words(alloc, &args[..spot.start])?;
@@ -87,24 +117,38 @@ fn objects_of(alloc: Global, args: &[String]) -> Result<Objects, AllocError>
     })
 }
 
-/// The words, joined by one space.
-fn join_words(alloc: Global, words: &[String]) -> Result<String, AllocError>
-    ensures { IfOk result (λ text. string_bytes text ≡ join_words (map string_bytes words.now)) }
+/// The words, joined by one space. A lone word that is a piece of the line is not copied.
+fn join_words<'a>(
+    alloc: Global,
+    words: &[CowStr<'a, Global>],
+) -> Result<CowStr<'a, Global>, AllocError>
+    ensures { IfOk result (λ text. cow_str_bytes text ≡ join_words (map cow_str_bytes words.now)) }
+{
+    match words {
+        [] => Ok(CowStr::Borrowed("")),
+        [word] => word.clone(),
+        _ => Ok(CowStr::Owned(joined_text(alloc, words)?)),
+    }
+}
+
+// The same as one new text.
+fn joined_text(alloc: Global, words: &[CowStr<'_, Global>]) -> Result<String, AllocError>
+    ensures { IfOk result (λ text. string_bytes text ≡ join_words (map cow_str_bytes words.now)) }
 {
     let [first, others @ ..] = words else {
         return Ok(String::new(alloc));
     };
     let mut text = String::with_capacity(alloc, room_for(words))?;
-    text.push_str(first.as_str())?;
+    text.push_str(first)?;
     for word in others {
         text.push_str(" ")?;
-        text.push_str(word.as_str())?;
+        text.push_str(word)?;
     }
     Ok(text)
 }
 
 // The bytes of the words and one more for each: room for them, joined.
-fn room_for(words: &[String]) -> usize {
+fn room_for(words: &[CowStr<'_, Global>]) -> usize {
     let mut room: usize = 0;
     for word in words {
         room = room.saturating_add(word.len()).saturating_add(1);

@@ -1,5 +1,6 @@
 -- What the code's own values are seen as, cited by private clauses alone.
-use Rattle.std.specs.Prelude.{ℕ, ◌+◌, List, map, length, string_bytes}
+use Rattle.std.specs.Prelude.{ℕ, ◌+◌, List, map, length}
+use Rattle.std.specs.Cow.{cow_str_bytes}
 use Rattle.std.specs.Borrow.{Bor}
 use Rattle.mud_words.specs.Prepositions.{Phrase, Found, preposition_of}
 use Rattle.mud_words.specs.Line.{Line}
@@ -31,9 +32,9 @@ abbrev pub line_with : List ℕ → List (List ℕ) → List ℕ → Objects →
 line_with verb args rest o = record {
   verb = verb;
   args = args;
-  direct = string_bytes o.direct;
+  direct = cow_str_bytes o.direct;
   prep = o.prep;
-  indirect = string_bytes o.indirect;
+  indirect = cow_str_bytes o.indirect;
   rest = rest;
 }
 

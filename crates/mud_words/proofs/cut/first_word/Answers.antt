@@ -27,5 +27,5 @@ returns-in-32-clause-rest c =
 
 pub returns-clause-words : goal.returns-clause-words
 returns-clause-words c =
-    end_words c.args.text.now [] _ 0 c.loop-at.at false false (omega arith) c.in_ok-from_str.ensures.ok
+    end_words c.args.text.now [] _ 0 c.loop-at.at false false (omega arith) refl
     c.loop-at.invariant

@@ -1,4 +1,5 @@
-use Rattle.std.proofs.Common.{◌<◌, length, string_bytes, ◌∙◌, arith}
+use Rattle.std.proofs.Common.{◌<◌, length, ◌∙◌, arith}
+use Rattle.std.specs.Cow.{cow_str_bytes}
 use Rattle.std.proofs.lemmas.Bool.Decides.{nat_tests}
 use Rattle.mud_words.proofs.ReadingLemmas.{front_taken, front_trimmed, word_taken, less_left}
 use Rattle.mud_words.proofs.cut.push_words.Goals as goal
@@ -23,7 +24,7 @@ loop-text-preserved c =
     grind (arith, nat_tests, c.is_empty.ensures, c.loop-text-test.true, c.loop-text-test.ensures) in
     record {
       words =
-          word_taken string_bytes c.loop-text.words.items c.push.new.self.items c.in_ok-word.word c.loop-text.text.now
+          word_taken cow_str_bytes c.loop-text.words.items c.push.new.self.items c.in_ok-word.word c.loop-text.text.now
           c.in_ok-word.rest.now c.without_front-text-in-loop-text.result.now c.loop-text.invariant.trimmed some
           c.in_ok-word.ensures.words c.in_ok-push.ensures.items c.without_front-text-in-loop-text.ensures
           ∙ c.loop-text.invariant.words;

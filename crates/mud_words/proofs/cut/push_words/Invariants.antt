@@ -1,4 +1,5 @@
-use Rattle.std.proofs.Common.{◌≡◌, ◌++◌, map, length, string_bytes, IsUtf8}
+use Rattle.std.proofs.Common.{◌≡◌, ◌++◌, map, length, IsUtf8}
+use Rattle.std.specs.Cow.{cow_str_bytes}
 use Rattle.mud_words.specs.Words.{plain_words}
 use Rattle.mud_words.proofs.ReadingLemmas.{Trimmed}
 use Rattle.mud_words.proofs.cut.push_words.Given as goal
@@ -6,8 +7,8 @@ use Rattle.mud_words.proofs.cut.push_words.Given as goal
 -- the words so far and those of what is left, which begins with no space
 abbrev pub invariant-loop-text : goal.invariant-loop-text
 invariant-loop-text l = record {
-  words : map string_bytes l.words.items ++ plain_words l.text
-      ≡ map string_bytes l.initial.words.items ++ plain_words l.fn.text;
+  words : map cow_str_bytes l.words.items ++ plain_words l.text
+      ≡ map cow_str_bytes l.initial.words.items ++ plain_words l.fn.text;
   trimmed : Trimmed l.text;
   utf8 : IsUtf8 l.text;
 }

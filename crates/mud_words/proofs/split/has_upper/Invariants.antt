@@ -1,0 +1,7 @@
+use Rattle.std.proofs.Common.{◌≡◌, take}
+use Rattle.mud_words.specs.Prepositions.{lower}
+use Rattle.mud_words.proofs.split.has_upper.Given as goal
+
+-- the bytes so far are as they are in lower case
+abbrev pub invariant-loop-byte : goal.invariant-loop-byte
+invariant-loop-byte l = lower (take l.byte-index l.text) ≡ take l.byte-index l.text

@@ -6,32 +6,14 @@ ghost use Rattle.mud_world.specs.declared.limits.TheConstants.{NUMBERS, MOST_PAR
 ghost use Rattle.mud_cert.specs.Certificate.{IsAccount};
 ghost use Rattle.mud_search.specs.Least.{label_in, AreBounded};
 ghost use Rattle.mud_guide.specs.Ways.{exits_of};
-ghost use Rattle.mud_guide.specs.inner.Listings.{AreEntries, IsInside, IsListed, AreListed};
+ghost use Rattle.mud_guide.specs.inner.Listings.{IsInside, IsListed, AreListed};
 
 use crate::leg::Leg;
 use crate::way::Way;
 use mud_cert::Member;
-use mud_roads::{Label, Step};
+use mud_roads::Step;
 use mud_search::Labels;
 use std::alloc::{AllocError, Global};
-
-// The labels of a member, by rising number.
-fn entries_of(
-    alloc: Global,
-    labels: &Labels,
-    member: usize,
-    next: u32,
-) -> Result<Vec<(u32, Label)>, AllocError>
-    ensures { IfOk result (λ es. AreEntries (label_in labels.now member) next es.items) }
-{
-    let mut entries = Vec::new(alloc);
-    for room in 0..next {
-        if let Some(label) = labels.get(member, room) {
-            entries.push((room, label))?;
-        }
-    }
-    Ok(entries)
-}
 
 // The exits of a walk.
 fn exits_of(alloc: Global, steps: &[Step]) -> Result<Vec<u32>, AllocError>
@@ -68,7 +50,7 @@ fn account_of(
     ensures account { IfOk result (IsListed (label_in labels.now member) next journey.now) }
     ensures limits { IfOk result IsAccount }
 {
-    let entries = entries_of(alloc, labels, member, next)?;
+    let entries = labels.below(alloc, member, next)?;
     let walk = walk_of(alloc, &journey.way)?;
     Ok(Member::new(journey.player, journey.from, entries, walk))
 }

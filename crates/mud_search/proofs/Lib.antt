@@ -1,3 +1,4 @@
+pub mod Below
 pub mod Faithful
 pub mod Firsts
 pub mod Frontiers

@@ -1,5 +1,5 @@
 -- The labels that a search finds.
-use Rattle.std.specs.Prelude.{◌≡◌, ℕ, ◌*◌, ◌≤◌, List, Option, None, Some, slice_get}
+use Rattle.std.specs.Prelude.{◌≡◌, ℕ, ◌*◌, ◌<◌, ◌≤◌, List, All, AllPairs, Contains, Option, None, Some, slice_get}
 use Rattle.mud_key.specs.declared.limits.TheConstants.{LAST_NUMBER}
 use Rattle.mud_world.specs.declared.limits.TheConstants.{MOST_COST}
 use Rattle.mud_world.specs.State.{State}
@@ -21,3 +21,9 @@ AreLeast w ts labels =
 abbrev pub AreBounded : (ℕ → ℕ → Option Label) → Type 0
 AreBounded labels =
     (m room : ℕ) (l : Label) → labels m room ≡ Some l → (l.cost ≤ MOST_COST * LAST_NUMBER) × (l.exits ≤ LAST_NUMBER)
+
+-- these are the labels of the numbers below `next` that have one, by rising number
+pub record AreLabelsBelow (labels : ℕ → Option Label) (next : ℕ) (found : List (ℕ × Label)) : Type 0 where
+  pub rising : AllPairs (λ d e. d.0 < e.0) found
+  pub inside : All (λ e. (e.0 < next) × (labels e.0 ≡ Some e.1)) found
+  pub whole : (room : ℕ) (l : Label) → room < next → labels room ≡ Some l → Contains found (room, l)

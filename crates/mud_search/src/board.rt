@@ -7,6 +7,7 @@ ghost use Rattle.mud_world.specs.declared.limits.TheConstants.{MOST_COST};
 ghost use Rattle.mud_roads.specs.declared.label.Label.{Label};
 ghost use Rattle.mud_roads.specs.Labels.{start_label};
 ghost use Rattle.mud_search.specs.Slots.{is_waiting, is_held};
+ghost use Rattle.mud_search.specs.Least.{AreLabelsBelow};
 ghost use Rattle.mud_search.specs.Boards.{IsBefore, slot_at, label_at, waiting_label, falls, offer, offers, settle};
 
 use crate::queue::Queue;
@@ -125,6 +126,26 @@ impl Board {
         } else {
             None
         }
+    }
+
+    // The labels of the rooms below a number, by rising number.
+    pub(crate) fn labels_below(
+        &self,
+        alloc: Global,
+        next: u32,
+    ) -> Result<Vec<(u32, Label)>, AllocError>
+        ensures { IfOk result (λ found. AreLabelsBelow (label_at self.now) next found.items) }
+    {
+        // as a slice, whose place need not be read again after each push
+        let slots = self.slots.as_slice();
+        let end = slots.len().min(next as usize);
+        let mut found = Vec::new(alloc);
+        for room in 0..end {
+            if let Some(label) = slots[room].label() {
+                found.push((room as u32, label))?;
+            }
+        }
+        Ok(found)
     }
 
     // Lets a room wait again that is held with this label. Says whether it was.

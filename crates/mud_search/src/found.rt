@@ -1,13 +1,13 @@
 //! The labels that were found.
 
-ghost use Rattle.std.specs.Prelude.{◌≡◌, ◌++◌, map, OnOk, OnErr};
+ghost use Rattle.std.specs.Prelude.{◌≡◌, ◌++◌, map, IfOk, OnOk, OnErr};
 ghost use Rattle.mud_search.specs.Slots.{label_of};
 ghost use Rattle.mud_search.specs.Tables.{table, lists_in};
-ghost use Rattle.mud_search.specs.Least.{label_in};
+ghost use Rattle.mud_search.specs.Least.{label_in, AreLabelsBelow};
 
 use crate::board::Board;
 use mud_roads::Label;
-use std::alloc::AllocError;
+use std::alloc::{AllocError, Global};
 use std::marker::Model;
 
 /// The labels of each member of a party at each room. A contract sees a label, or none, for each
@@ -58,6 +58,23 @@ impl Labels {
             self.boards[member].label(room)
         } else {
             None
+        }
+    }
+
+    /// The labels of a member at the numbers below `next`, each with its number, by rising number. There are none past
+    /// the last member. The only error is out of memory.
+    pub fn below(
+        &self,
+        alloc: Global,
+        member: usize,
+        next: u32,
+    ) -> Result<Vec<(u32, Label)>, AllocError>
+        ensures { IfOk result (λ found. AreLabelsBelow (label_in self.now member) next found.items) }
+    {
+        if member < self.boards.len() {
+            self.boards[member].labels_below(alloc, next)
+        } else {
+            Ok(Vec::new(alloc))
         }
     }
 }

@@ -7,6 +7,7 @@
 //! | [`labels`] | the same, by several workers, who pass a [`Gate`] with each room |
 //! | [`last_share`] | how many members, or workers, the last of several parts gets |
 //! | [`Labels::get`] | the least label of a member at a room |
+//! | [`Labels::below`] | all least labels of a member below a number, by rising number |
 //! | [`Frontier`] | the rooms of all members while a search goes on: what waits, is held, is finished |
 //!
 //! The search takes the waiting room of least label again and again, and offers its label, one step

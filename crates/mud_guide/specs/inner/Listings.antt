@@ -1,21 +1,16 @@
 -- How the accounts of a certificate are made from labels and journeys.
-use Rattle.std.specs.Prelude.{◌≡◌, ℕ, ◌+◌, ◌<◌, List, Option, Some, All, AllPairs, Contains, IfSome, length}
+use Rattle.std.specs.Prelude.{◌≡◌, ℕ, ◌+◌, ◌<◌, List, Option, All, IfSome, length}
 use Rattle.std.specs.Prelude.{slice_index_or}
 use Rattle.std.specs.Option.{option_map}
 use Rattle.std.specs.List.{AllZip}
 use Rattle.mud_world.specs.State.{State}
 use Rattle.mud_roads.specs.declared.label.Label.{Label}
 use Rattle.mud_roads.specs.Open.{Knowledge}
+use Rattle.mud_search.specs.Least.{AreLabelsBelow}
 use Rattle.mud_cert.specs.Certificate.{Account, IsAccount}
 use Rattle.mud_guide.specs.declared.lister.Listing.{Listing}
 use Rattle.mud_guide.specs.Legs.{Leg, IsJourney}
 use Rattle.mud_guide.specs.Ways.{exits_of}
-
--- the labels of the numbers below `next`, by rising number
-pub record AreEntries (labels : ℕ → Option Label) (next : ℕ) (entries : List (ℕ × Label)) : Type 0 where
-  pub rising : AllPairs (λ d e. d.0 < e.0) entries
-  pub inside : All (λ e. (e.0 < next) × (labels e.0 ≡ Some e.1)) entries
-  pub whole : (room : ℕ) (l : Label) → room < next → labels room ≡ Some l → Contains entries (room, l)
 
 -- the numbers of the journey are below `next`
 pub record IsInside (next : ℕ) (j : Leg) : Type 0 where
@@ -27,7 +22,7 @@ pub record IsInside (next : ℕ) (j : Leg) : Type 0 where
 pub record IsListed (labels : ℕ → Option Label) (next : ℕ) (j : Leg) (a : Account) : Type 0 where
   pub player : a.player ≡ j.player
   pub from : a.from ≡ j.from
-  pub entries : AreEntries labels next a.labels
+  pub entries : AreLabelsBelow labels next a.labels
   pub walk : a.walk ≡ option_map exits_of j.way
 
 -- the same of each journey, with the labels of its member

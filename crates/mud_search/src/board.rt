@@ -168,6 +168,10 @@ impl Board {
         ensures some { IfSome result (λ t. slot_at self.now t.1 ≡ Slot.Held t.0) }
         ensures none { IfNone result ((room : ℕ) (l : Label) → slot_at self.now room ≡ Slot.Held l → ⊥) }
     {
+        // the count spares a look at every slot
+        if self.held == 0 {
+            return None;
+        }
         for room in 0..self.slots.len() {
             if let Slot::Held(label) = self.slots[room] {
                 return Some((label, room as u32));

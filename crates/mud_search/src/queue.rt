@@ -289,9 +289,11 @@ fn comes_before(a: &Entry, b: &Entry) -> bool
     ensures first { OnTrue result (IsBefore a.now.label a.now.room b.now.label b.now.room) }
     ensures later { OnFalse result (IsBefore b.now.label b.now.room a.now.label a.now.room) }
 {
-    if a.label.cost == b.label.cost {
-        (a.label.exits, a.room) < (b.label.exits, b.room)
-    } else {
+    if a.label.cost != b.label.cost {
         a.label.cost < b.label.cost
+    } else if a.label.exits != b.label.exits {
+        a.label.exits < b.label.exits
+    } else {
+        a.room < b.room
     }
 }

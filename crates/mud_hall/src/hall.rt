@@ -34,9 +34,17 @@ use mud_search::Gate;
 use mud_words::{Parsed, parse};
 use mud_world::World;
 use std::alloc::{AllocError, Global};
+use std::hint::spin_loop;
 use std::marker::Model;
-use std::sync::{Mutex, Wait};
+use std::sync::atomic::AtomicU64;
+use std::sync::{Mutex, MutexGuard, Wait};
 use std::thread::Threads;
+use std::time::Duration;
+
+// How often a thread tries to take the lock of a hall before it rests, and for how many microseconds.
+const LOCK_TRIES: u32 = 500;
+
+const LOCK_REST: u64 = 50;
 
 /// A hall that has no name yet. A contract sees the names of the cells of its history, and the
 /// entries that it begins with.
@@ -224,6 +232,39 @@ impl<J: HallName> Hall<J> {
         Ok(Box::new(self.alloc, replica)?)
     }
 
+    // Takes the lock for a desk, which takes entries in as long as another has it: so it holds the lock for its own
+    // change only. Nobody sleeps for the lock itself: a lock that is handed to a thread that sleeps stays unused until
+    // that thread has woken, which takes longer than a change does.
+    fn lock_for<R: Wait>(
+        &self,
+        rt: &R,
+        desk: &mut Desk<J>,
+    ) -> Result<MutexGuard<'_, Kept<J>>, AllocError>
+        ensures { TakesIn desk.old.state desk.new.state }
+    {
+        for _ in rt.forever() {
+            if let Some(kept) = self.try_for(desk)? {
+                return Ok(kept);
+            }
+            AtomicU64::new(0).park_timeout(rt, 0, Duration::from_micros(LOCK_REST));
+        }
+        unreachable!()
+    }
+
+    // Takes the lock for a desk, unless others have it too long.
+    fn try_for(&self, desk: &mut Desk<J>) -> Result<Option<MutexGuard<'_, Kept<J>>>, AllocError>
+        ensures { TakesIn desk.old.state desk.new.state }
+    {
+        for _ in 0..LOCK_TRIES {
+            desk.take_in(self.alloc, &self.row)?;
+            if let Some(kept) = self.kept.try_lock() {
+                return Ok(Some(kept));
+            }
+            spin_loop();
+        }
+        Ok(None)
+    }
+
     // Has what new desks copy follow the history, unless somebody else has it do so now.
     fn follow(&self) {
         if let Some(mut fresh) = self.fresh.try_lock() {
@@ -247,9 +288,7 @@ impl<J: HallName> Hall<J> {
         ensures acts { Acts (length J.cells) desk.old.state (line_of said.now) (reply_shown result) desk.new.state }
         ensures told { reply_shown result ≢ Failed Fault.OutOfMemory → untold desk.new ≡ [] }
     {
-        // before the lock: so who waits for it waits only for what comes after
-        desk.take_in(self.alloc, &self.row)?;
-        let kept = self.kept.lock(rt);
+        let kept = self.lock_for(rt, desk)?;
         let reply = desk.act(self.alloc, &self.row, said);
         drop(kept);
         self.follow();

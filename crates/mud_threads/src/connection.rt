@@ -6,7 +6,7 @@ use mud_house::{Bells, House, Places, rest};
 use mud_talk::Talk;
 use mud_wire::{Ending, Entrance, Parting, Wire};
 use std::alloc::Global;
-use std::sync::atomic::{AtomicBool, Ordering};
+use std::sync::atomic::{AtomicU64, Ordering};
 use std::sync::{Arc, Mutex, Wait};
 use std::time::{Clock, Duration};
 
@@ -19,8 +19,8 @@ pub type HouseOf<J> = House<Hall<J>, Places<J>, Bells>;
 pub(crate) struct Connection<J: HallName> {
     wire: Arc<Wire>,
     talk: Mutex<Option<Talk<J>>>,
-    // Whether a line was answered since the notice thread asked last.
-    was_answered: AtomicBool,
+    // When a line was answered last, in microseconds; 0 where none was since the notice thread asked last.
+    answered: AtomicU64,
 }
 
 // How often it is tried, a second long, to close a web socket whose session is busy, and how long between two tries.
@@ -39,7 +39,7 @@ impl<J: HallName> Connection<J> {
         Connection {
             wire,
             talk: Mutex::new(None),
-            was_answered: AtomicBool::new(false),
+            answered: AtomicU64::new(0),
         }
     }
 
@@ -53,14 +53,18 @@ impl<J: HallName> Connection<J> {
         &self.talk
     }
 
-    /// A line was answered, and what others had done was told before.
-    pub(crate) fn note_answer(&self) {
-        self.was_answered.store(true, Ordering::Relaxed);
+    /// A line was answered now, and what others had done was told before.
+    pub(crate) fn note_answer(&self, now: Duration) {
+        let micros = u64::try_from(now.as_micros()).unwrap_or(u64::MAX);
+        self.answered.store(micros.max(1), Ordering::Relaxed);
     }
 
-    /// Whether a line was answered since this was asked last.
-    pub(crate) fn was_answered(&self) -> bool {
-        self.was_answered.swap(false, Ordering::Relaxed)
+    /// When a line was answered last, if one was since this was asked last.
+    pub(crate) fn last_answer(&self) -> Option<Duration> {
+        match self.answered.swap(0, Ordering::Relaxed) {
+            0 => None,
+            micros => Some(Duration::from_micros(micros)),
+        }
     }
 
     /// Lets a browser in by this answer to its head; whether it was taken.

@@ -4,7 +4,7 @@ use crate::connection::{Connection, HouseOf};
 use crossbeam_utils::sync::Parker;
 use mud_hall::HallName;
 use mud_house::rest;
-use mud_wire::Parting;
+use mud_wire::{Parting, now};
 use std::sync::Wait;
 use std::time::{Clock, Duration};
 
@@ -32,10 +32,14 @@ fn leave_to_reader<J: HallName, R: Wait + Clock>(
     connection: &Connection<J>,
 ) {
     for _ in rt.forever() {
-        if !connection.was_answered() || house.ending(rt).is_some() {
+        let Some(answered) = connection.last_answer() else {
+            return;
+        };
+        if house.ending(rt).is_some() {
             return;
         }
-        rest(rt, pause(house));
+        let since = now(rt).saturating_sub(answered);
+        rest(rt, pause(house).saturating_sub(since));
     }
 }
 

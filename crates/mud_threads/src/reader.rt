@@ -76,7 +76,7 @@ impl<'a, J: HallName, R: Threads + Wait + Log + Clock + Sync> Reading<'a, J, R> 
             return false;
         };
         self.tell_change(&said);
-        self.connection.note_answer();
+        self.connection.note_answer(now(self.rt));
         self.connection.send(self.rt, self.house, talk, said)
     }
 

@@ -319,9 +319,9 @@ impl Session {
         ensures { OnOk result (self.new ≡ sends self.old (wire_text (with_version version text.now))) }
     {
         self.out.reserve(text.len().saturating_add(NUMBERED_BYTES))?;
-        push_on_wire(&mut self.out, b"[")?;
+        self.send_bytes(b"[")?;
         push_on_wire(&mut self.out, Buffer::new().format(version).as_bytes())?;
-        push_on_wire(&mut self.out, b"] ")?;
+        self.send_bytes(b"] ")?;
         self.send(text)
     }
 

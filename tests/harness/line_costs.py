@@ -86,9 +86,9 @@ GO = Line("go X, there and back", ['@dig there|back to "Another room"'], ["go th
 RING = Line("route in a ring with chords", ring(), ring_routes(), fewer=5, more=20)
 # A line, the most instructions that it takes, and how its answer begins.
 BOUNDS = [
-    (SAY, 5_500, "said"),
-    (GO, 5_600, "went by #"),
-    (RING, 735_000, "route #0 to #"),
+    (SAY, 4_700, "said"),
+    (GO, 4_700, "went by #"),
+    (RING, 660_000, "route #0 to #"),
 ]
 
 

@@ -116,11 +116,8 @@ module _ (w : State) (sound : IsSound w) (p : ℕ) (player : IsTrue (is_player w
   account =
       let P : ℕ → Type 0 = λ q. AreLeastLabels (roads_of w q) j.from a.labels in
       record {
-        player = listed.player;
-        from = listed.from;
-        labels =
-            subst P (sym goes.player) least-labels;
-        walk = listed.walk;
+        goes = record { player = listed.player; from = listed.from; walk = listed.walk };
+        labels = subst P (sym goes.player) least-labels;
       }
 
   -- the certificate has the labels

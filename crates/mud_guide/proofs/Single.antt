@@ -96,10 +96,10 @@ labels-one roads from es fs x y =
 
 account-one : (w : State) (j : Leg) (a b : Account) → IsAccountOf w j a → IsAccountOf w j b → a ≡ b
 account-one w j a b x y =
-    let player : a.player ≡ b.player = x.player ∙ sym y.player in
-    let from : a.from ≡ b.from = x.from ∙ sym y.from in
+    let player : a.player ≡ b.player = x.goes.player ∙ sym y.goes.player in
+    let from : a.from ≡ b.from = x.goes.from ∙ sym y.goes.from in
     let labels : a.labels ≡ b.labels = labels-one (roads_of w j.player) j.from a.labels b.labels x.labels y.labels in
-    let walk : a.walk ≡ b.walk = x.walk ∙ sym y.walk in
+    let walk : a.walk ≡ b.walk = x.goes.walk ∙ sym y.goes.walk in
     let one : ℕ → Account = λ n. record { player = n; from = a.from; labels = a.labels; walk = a.walk } in
     let two : ℕ → Account = λ n. record { player = b.player; from = n; labels = a.labels; walk = a.walk } in
     let three : List Entry → Account = λ es. record { player = b.player; from = b.from; labels = es; walk = a.walk } in

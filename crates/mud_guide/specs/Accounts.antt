@@ -14,9 +14,13 @@ pub record AreLeastLabels (roads : Roads) (from : ℕ) (entries : List (ℕ × L
   pub rising : AllPairs (λ d e. d.0 < e.0) entries
   pub least : (room : ℕ) (l : Label) → Contains entries (room, l) ↔ IsLeast 1 roads from room l
 
--- who goes on the journey, from where, his least labels, and the exits of his way
-pub record IsAccountOf (w : State) (j : Leg) (a : Account) : Type 0 where
+-- who goes on the journey, from where, and the exits of his way
+pub record IsMemberFor (j : Leg) (a : Account) : Type 0 where
   pub player : a.player ≡ j.player
   pub from : a.from ≡ j.from
-  pub labels : AreLeastLabels (roads_of w j.player) j.from a.labels
   pub walk : a.walk ≡ option_map exits_of j.way
+
+-- he who goes on the journey, with his least labels
+pub record IsAccountOf (w : State) (j : Leg) (a : Account) : Type 0 where
+  pub goes : IsMemberFor j a
+  pub labels : AreLeastLabels (roads_of w j.player) j.from a.labels

@@ -3,7 +3,8 @@ use Rattle.std.proofs.Common.{◌≡◌, ◌⊎◌, inl, inr, ℕ, zero, suc, �
 use Rattle.std.proofs.Common.{◌++◌, length, take, get_or, Option, Some, None, slice_get, refl, sym, ap, ◌∙◌, subst}
 use Rattle.std.proofs.Common.{arith}
 use Rattle.std.proofs.lemmas.Bool.Decides.{nat_tests}
-use Rattle.std.proofs.lemmas.List.{get_or-take, length-take-le}
+use Rattle.std.proofs.Math.Seq.{take-append_seam}
+use Rattle.std.proofs.lemmas.List.{get_or-take, length-take-le, take-append-le}
 use Rattle.std.proofs.lemmas.List.Elements.{All-push}
 use Rattle.std.proofs.lemmas.Option.{slice_get_within, slice_get_read, slice_get-get_or, get_or_from_slice_get}
 use Rattle.std.specs.Prelude.{All, Any, ◌==◌, nat_lt}
@@ -15,7 +16,7 @@ use Rattle.mud_hall.specs.Desk.{View}
 use Rattle.mud_hall.specs.Settling.{entries_made, HasNumber, AreApart, HaveSameNumber, IsGathered, IsCloseFault}
 use Rattle.mud_hall.specs.inner.Checking.{lesser_of, IsLeast, IsUnnamed, IsCheckFault}
 use Rattle.mud_hall.proofs.Least.{least_same, least_either, lesser_none, front, last, at_or_last}
-use Rattle.mud_hall.proofs.Least.{any_at, place, any_later, any_last}
+use Rattle.mud_hall.proofs.Least.{any_later, any_last}
 use Rattle.mud_hall.proofs.Lists.{all_weaken}
 use Rattle.mud_hall.proofs.Seats.{prefix_trans}
 
@@ -26,48 +27,25 @@ abbrev Twice : List View → View → ℕ → Type 0
 Twice ds d m = HaveSameNumber ds m ⊎ (HasNumber ds m × (d.state.number ≡ m))
 
 twice_later : (ds : List View) (d : View) (m : ℕ) → Twice ds d m → HaveSameNumber (ds ++ d ∷ []) m
-twice_later ds d m (inl h) = record {
-  i = h.i;
-  j = h.j;
-  a = h.a;
-  b = h.b;
-  apart = h.apart;
-  one = front ds d h.i (slice_get_within ds h.i h.a h.one) ∙ h.one;
-  other = front ds d h.j (slice_get_within ds h.j h.b h.other) ∙ h.other;
-  one_is = h.one_is;
-  other_is = h.other_is;
-}
-twice_later ds d m (inr h) = record {
-  i = h.0.0;
-  j = length ds;
-  a = h.0.1;
-  b = d;
-  apart = h.0.2;
-  one = front ds d h.0.0 h.0.2 ∙ place (λ (x : View). x.state.number ≡ m) ds h.0;
-  other = last ds d;
-  one_is = h.0.4;
-  other_is = h.1;
-}
+twice_later ds d m (inl h) =
+    let lt : h.0 < length ds = slice_get_within ds h.0 h.1 h.2 in
+    let whole : take h.0 (ds ++ d ∷ []) ≡ take h.0 ds = take-append-le h.0 ds (d ∷ []) (omega (arith, lt)) in
+    (h.0, h.1, front ds d h.0 lt ∙ h.2, h.3, subst (λ xs. HasNumber xs m) (sym whole) h.4)
+twice_later ds d m (inr h) =
+    (length ds, d, last ds d, h.1, subst (λ xs. HasNumber xs m) (sym (take-append_seam ds (d ∷ []))) h.0)
 
 twice_cases : (ds : List View) (d : View) (m : ℕ) → HaveSameNumber (ds ++ d ∷ []) m → Twice ds d m
 twice_cases ds d m h =
-    let P : View → Type 0 = λ x. x.state.number ≡ m in
-    elim (at_or_last ds d h.b h.j h.other) [
-      | inl w ↦ inl (record {
-        i = h.i;
-        j = h.j;
-        a = h.a;
-        b = h.b;
-        apart = h.apart;
-        one = sym (front ds d h.i (omega (arith, w.0, h.apart))) ∙ h.one;
-        other = w.1;
-        one_is = h.one_is;
-        other_is = h.other_is;
-      })
-      | inr w ↦ inr (
-        any_at P ds h.i h.a (sym (front ds d h.i (omega (arith, w.0, h.apart))) ∙ h.one) h.one_is,
-        subst P (sym w.1) h.other_is,
-      )
+    let P : List View → Type 0 = λ xs. HasNumber xs m in
+    let Q : View → Type 0 = λ x. x.state.number ≡ m in
+    elim (at_or_last ds d h.1 h.0 h.2) [
+      | inl w ↦
+          let whole : take h.0 (ds ++ d ∷ []) ≡ take h.0 ds = take-append-le h.0 ds (d ∷ []) (omega (arith, w.0)) in
+          inl (h.0, h.1, w.1, h.3, subst P whole h.4)
+      | inr w ↦
+          let whole : take h.0 (ds ++ d ∷ []) ≡ ds =
+          ap (λ k. take k (ds ++ d ∷ [])) w.0 ∙ take-append_seam ds (d ∷ []) in
+          inr (subst P whole h.4, subst Q (sym w.1) h.3)
     ]
 
 -- one more desk, of a number that one before it has
@@ -92,17 +70,12 @@ twice_same ds d a least none =
 -- where no number is that of two desks each two differ
 pub all_apart : (ds : List View) → IsLeast (HaveSameNumber ds) None
     → AreApart ds
-all_apart ds none i j d lt within same = none (get_or ds i d).state.number (record {
-  i = i;
-  j = j;
-  a = get_or ds i d;
-  b = get_or ds j d;
-  apart = lt;
-  one = slice_get-get_or ds i d (omega (arith, lt, within));
-  other = slice_get-get_or ds j d within;
-  one_is = refl;
-  other_is = sym same;
-})
+all_apart ds none i j d lt within same =
+    let x : View = get_or ds i d in
+    let less : i < length (take j ds) = omega (arith, lt, length-take-le j ds (omega (arith, within))) in
+    let at : get_or (take j ds) i x ≡ x =
+    get_or-take j ds i x lt ∙ get_or_from_slice_get ds i x x (slice_get-get_or ds i d (omega (arith, lt, within))) in
+    none x.state.number (j, get_or ds j d, slice_get-get_or ds j d within, sym same, (i, x, less, at, refl))
 
 -- ---- entries that bear the number of no desk
 

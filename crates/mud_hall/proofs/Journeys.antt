@@ -14,13 +14,13 @@ use Rattle.mud_cert.specs.declared.cert.Conclusion.{Conclusion}
 use Rattle.mud_cert.specs.declared.cert.Conclusion.TheVariants.{Route, Meet}
 use Rattle.mud_cert.specs.declared.cert.Meeting.{Meeting}
 use Rattle.mud_guide.specs.declared.answer.Answer.{Answer}
-use Rattle.mud_guide.specs.Accounts.{IsAccountOf}
+use Rattle.mud_guide.specs.Accounts.{IsAccountOf, IsMemberFor}
 use Rattle.mud_guide.specs.Legs.{Leg, IsJourney, goers_of}
 use Rattle.mud_cert.specs.Valid.{IsPlace}
 use Rattle.mud_guide.specs.Ways.{cost_of, IsWayTo}
 use Rattle.mud_guide.specs.Answers.{IsCertOf, IsRouteAnswer, IsMeetAnswer}
 use Rattle.mud_guide.specs.Laws.{RouteIsLeast}
-use Rattle.mud_hall.specs.Right.{IsMemberFor, Certifies, IsBestWay, GoesBest, TellsRoute, TellsMeeting}
+use Rattle.mud_hall.specs.Right.{Certifies, IsBestWay, GoesBest, TellsRoute, TellsMeeting}
 
 -- one for each is as many as there are
 ones : (ss : List Step) → sum_by (λ (s : Step). 1) ss ≡ length ss
@@ -60,7 +60,7 @@ members-for w [] [] z = tt
 members-for w [] (a ∷ members) z = absurd z
 members-for w (j ∷ js) [] z = absurd z
 members-for w (j ∷ js) (a ∷ members) z =
-    (record { who = z.0.player; from = z.0.from; walk = z.0.walk }, members-for w js members z.1)
+    (z.0.goes, members-for w js members z.1)
 
 certifies-some : (w : State) (v : ℕ) (js : List Leg) (says : Conclusion) (o : Option Certificate)
     → IsSomeAnd o (IsCertOf w v js says) → IsSomeAnd o (Certifies js says)

@@ -106,8 +106,7 @@ one-label room l (suc k, lt, is) = absurd (omega (arith, lt))
 
 is-account : (w : State) (p : ℕ) → IsStill w p → IsAccountOf w (journey p) (account p)
 is-account w p still = record {
-  player = refl;
-  from = refl;
+  goes = record { player = refl; from = refl; walk = refl };
   labels = record {
     rising = single (λ (d : ℕ × Label) (e : ℕ × Label). d.0 < e.0) (0, start_label);
     least = λ room l. (
@@ -119,7 +118,6 @@ is-account w p still = record {
           (subst (λ (k : Label). Contains labels (0, k)) one.1 (0, omega arith, refl))),
     );
   };
-  walk = refl;
 }
 
 stated : (w : State) (p : ℕ) → IsStill w p → States w (account p) 0 []

@@ -5,7 +5,7 @@ use Rattle.std.specs.List.{AllZip}
 use mathlib.Core.List.{IsPrefix}
 use Rattle.mud_world.specs.State.{State, place_of}
 use Rattle.mud_roads.specs.declared.label.Step.{Step}
-use Rattle.mud_roads.specs.Walks.{Walk, NoWalk, HasLeast, exits_of}
+use Rattle.mud_roads.specs.Walks.{Walk, NoWalk, HasLeast}
 use Rattle.mud_roads.specs.Open.{roads_of}
 use Rattle.mud_rules.specs.declared.verdict.Journey.{Journey}
 use Rattle.mud_rules.specs.declared.verdict.Journey.TheVariants as question
@@ -13,7 +13,7 @@ use Rattle.mud_world.specs.declared.limits.TheConstants.{MOST_ENTRIES}
 use Rattle.mud_chron.specs.Entry.{Entry}
 use Rattle.mud_chron.specs.Text.{history_text}
 use Rattle.mud_chron.specs.History.{SpellsHistory}
-use Rattle.mud_cert.specs.Certificate.{Account, Certificate}
+use Rattle.mud_cert.specs.Certificate.{Certificate}
 use Rattle.mud_cert.specs.declared.cert.Conclusion.{Conclusion}
 use Rattle.mud_cert.specs.declared.cert.Conclusion.TheVariants.{Route, Meet}
 use Rattle.mud_cert.specs.Text.{cert_text}
@@ -22,6 +22,7 @@ use Rattle.mud_verdict.specs.declared.finding.Finding.TheVariants as finding
 use Rattle.mud_verdict.specs.Finding.{IsFinding}
 use Rattle.mud_cert.specs.Valid.{IsPlace}
 use Rattle.mud_guide.specs.Ways.{cost_of}
+use Rattle.mud_guide.specs.Accounts.{IsMemberFor}
 use Rattle.mud_guide.specs.Legs.{Leg, goers_of}
 use Rattle.mud_guide.specs.Texts.{route_text, meet_text}
 use Rattle.mud_hall.specs.Steps.{AreLoadable}
@@ -44,12 +45,6 @@ pub record GoesBest (w : State) (to : Option ℕ) (p : ℕ) (j : Leg) : Type 0 w
   pub who : j.player ≡ p
   pub place : place_of w p ≡ Some j.from
   pub way : IsBestWay w p j.from to j.way
-
--- the member of a certificate is he who goes, from there, by these exits
-pub record IsMemberFor (j : Leg) (a : Account) : Type 0 where
-  pub who : a.player ≡ j.player
-  pub from : a.from ≡ j.from
-  pub walk : a.walk ≡ option_map exits_of j.way
 
 -- the certificate is of those who go so, and concludes this
 pub record Certifies (journeys : List Leg) (says : Conclusion) (c : Certificate) : Type 0 where

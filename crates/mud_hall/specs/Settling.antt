@@ -1,6 +1,6 @@
 -- The settlement of a hall: the one history that its desks made.
 use Rattle.std.specs.Prelude.{◌≡◌, ◌≢◌, ℕ, ◌+◌, ◌<◌, ◌≤◌, ◌⊎◌, ◌==◌, nat_lt, if◌then◌else◌, Option, Some, None}
-use Rattle.std.specs.Prelude.{List, [], ◌∷◌, ◌++◌, length, drop, slice_get, All, Any}
+use Rattle.std.specs.Prelude.{List, [], ◌∷◌, ◌++◌, length, take, drop, slice_get, All, Any}
 use Rattle.std.specs.List.{AllPairs}
 use mathlib.Core.List.{IsPrefix}
 use Rattle.mud_chron.specs.declared.limits.TheConstants.{MOST_DESKS}
@@ -40,17 +40,10 @@ pub record IsSettled (loaded : List Entry) (desks : List View) (history : List E
   pub apart : AreApart desks
   pub named : All (λ e. HasNumber desks e.desk) (entries_made loaded history)
 
--- two desks have the number
-pub record HaveSameNumber (desks : List View) (n : ℕ) : Type 0 where
-  pub i : ℕ
-  pub j : ℕ
-  pub a : View
-  pub b : View
-  pub apart : i < j
-  pub one : slice_get desks i ≡ Some a
-  pub other : slice_get desks j ≡ Some b
-  pub one_is : a.state.number ≡ n
-  pub other_is : b.state.number ≡ n
+-- a desk has the number, and so has one before it
+abbrev pub HaveSameNumber : List View → ℕ → Type 0
+HaveSameNumber desks n =
+    (j : ℕ) × (d : View) × (slice_get desks j ≡ Some d) × (d.state.number ≡ n) × HasNumber (take j desks) n
 
 -- the least number from 1 to 64 that no desk has
 pub record IsMissing (desks : List View) (n : ℕ) : Type 0 where

@@ -1,19 +1,32 @@
 //! Names and lists of objects in texts.
 
-ghost use Rattle.std.specs.Prelude.{◌≡◌, ◌++◌, OnOk, codes, decimal, filter, not, string_bytes};
+ghost use Rattle.std.specs.Prelude.{◌≡◌, ◌++◌, ◌∷◌, [], ◌+◌, ◌<◌, OnOk, codes, decimal, filter, not, string_bytes};
+ghost use Rattle.std.specs.Prelude.{if◌then◌else◌};
 ghost use Rattle.mud_world.specs.State.{is_number};
 ghost use Rattle.mud_rules.specs.Listing.{first_name, entry_text};
 ghost use Rattle.mud_rules.specs.inner.Steps.{listed_after};
 
-use itoa::Buffer;
 use mud_world::World;
 use std::alloc::AllocError;
 
-// Digits.
+// A digit.
+fn push_digit(text: &mut String, digit: u32) -> Result<(), AllocError>
+    requires { digit < 10 }
+    ensures { OnOk result (string_bytes text.new ≡ string_bytes text.old ++ (48 + digit) ∷ []) }
+{
+    text.push((b'0' + digit as u8) as char)
+}
+
+// A number in digits: most have few, each of which is sooner there than a text of them.
+#[tactic(auto, using(std::proofs::lemmas::Fmt::decimal_digit, std::proofs::lemmas::Fmt::decimal_step))]
 fn push_number(text: &mut String, number: u32) -> Result<(), AllocError>
     ensures { OnOk result (string_bytes text.new ≡ string_bytes text.old ++ decimal number) }
 {
-    text.push_str(Buffer::new().format(number))
+    if number < 10 {
+        return push_digit(text, number);
+    }
+    push_number(text, number / 10)?;
+    push_digit(text, number % 10)
 }
 
 // Words, and a number in digits.
@@ -25,6 +38,7 @@ pub(crate) fn push_about(text: &mut String, words: &str, number: u32) -> Result<
 }
 
 // The name that is shown.
+#[inline(always)]
 pub(crate) fn first_name(world: &World, number: u32) -> &str
     ensures { result.now ≡ first_name world.now number }
 {
@@ -37,13 +51,16 @@ pub(crate) fn first_name(world: &World, number: u32) -> &str
     }
 }
 
-// NAME #n
+// NAME #n. Each object of a list comes here.
+#[inline(always)]
 pub(crate) fn push_entry(text: &mut String, world: &World, number: u32) -> Result<(), AllocError>
     ensures { OnOk result (string_bytes text.new
         ≡ string_bytes text.old ++ entry_text world.now number) }
 {
     text.push_str(first_name(world, number))?;
-    push_about(text, " #", number)
+    text.push(' ')?;
+    text.push('#')?;
+    push_number(text, number)
 }
 
 fn is_player(number: u32, player: Option<u32>) -> bool
@@ -53,6 +70,18 @@ fn is_player(number: u32, player: Option<u32>) -> bool
         Some(player) => number == player,
         None => false,
     }
+}
+
+// What stands before an object of a list: the heading before the first, a comma before any other.
+fn push_lead(text: &mut String, heading: &str, is_first: bool) -> Result<(), AllocError>
+    ensures { OnOk result (string_bytes text.new
+        ≡ string_bytes text.old ++ (if is_first then heading.now else codes ", ")) }
+{
+    if is_first {
+        return text.push_str(heading);
+    }
+    text.push(',')?;
+    text.push(' ')
 }
 
 // The objects of a list but for the player, after a heading, where there is one to list.
@@ -66,14 +95,14 @@ pub(crate) fn push_listed(
     ensures { OnOk result (string_bytes text.new ≡ string_bytes text.old
         ++ listed_after heading.now world.now (filter (λ o. not (is_number o player)) numbers.now)) }
 {
-    let mut lead = heading;
+    let mut is_first = true;
     for number in numbers {
         if is_player(*number, player) {
             continue;
         }
-        text.push_str(lead)?;
+        push_lead(text, heading, is_first)?;
         push_entry(text, world, *number)?;
-        lead = ", ";
+        is_first = false;
     }
     Ok(())
 }

@@ -42,8 +42,10 @@ pub(crate) fn respond<S: Guide>(
     ensures response { IfOk result
         (IsResponse world.now version player (decision world.now player (line_of said.now))) }
 {
-    let verdict = decide(alloc, world, player, said)?;
-    find_traveller(alloc, world, player, traveller, &verdict)?;
+    let Ok(verdict) = &decide(alloc, world, player, said) else {
+        return Err(AllocError);
+    };
+    find_traveller(alloc, world, player, traveller, verdict)?;
     let sight = Sight {
         alloc,
         world,
@@ -51,7 +53,7 @@ pub(crate) fn respond<S: Guide>(
         player,
         traveller,
     };
-    sight.answer(by, &verdict)
+    sight.answer(by, verdict)
 }
 
 // What a line is answered by: a world at its version, who asks, and the traveller that is known. The answers are its

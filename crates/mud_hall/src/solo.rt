@@ -17,11 +17,12 @@ ghost use Rattle.mud_hall.specs.Desk.{as_player, as_accepted, with_told};
 ghost use Rattle.mud_hall.specs.Replies.{reply_shown, verdict_on, Replies, Stores};
 ghost use Rattle.mud_hall.specs.Answers.{answer_shown, Answers, IsGuided};
 ghost use Rattle.mud_hall.specs.Alone.{Alone, alone};
-ghost use Rattle.mud_hall.specs.inner.Desks.{Travels};
+ghost use Rattle.mud_rules.specs.Table.{decision};
+ghost use Rattle.mud_hall.specs.inner.Desks.{IsResponse, Travels};
 
 use crate::answering;
 use crate::fault::Fault;
-use crate::guide::{Guide, Through, by_workers};
+use crate::guide::{Through, by_workers};
 use crate::reply::Reply;
 use crate::texts::history_answer;
 use mud_chron::Entry;
@@ -210,8 +211,20 @@ impl Solo {
         ensures { IfOk result (λ a. Answers self.now.state (parse_of line.now) (answer_shown a)) }
     {
         let said = parse(self.alloc, line)?;
-        let mut traveller = None;
-        self.respond(rt, &mut traveller, &said)
+        let (workers, version, mut traveller) = (self.workers, self.version(), None);
+        match respond(
+            rt,
+            workers,
+            self.alloc,
+            &self.world,
+            version,
+            self.player,
+            &mut traveller,
+            &said,
+        )? {
+            Some(answer) => Ok(answer),
+            None => self.told_history(),
+        }
     }
 
     /// Answers what a line says, as [`Solo::ask`] the line. What is open to its player is kept for the next route.
@@ -223,61 +236,14 @@ impl Solo {
         ensures same { self.new ≡ self.old }
         ensures answers { IfOk result (λ a. Answers self.old.state (line_of said.now) (answer_shown a)) }
     {
-        let mut traveller = self.traveller.take();
-        let answer = self.respond(rt, &mut traveller, said);
-        self.traveller = traveller;
-        answer
-    }
-
-    // Answers what a line says. What is open to a player who asks for a route is kept in `traveller`.
-    fn respond<R: Threads + Wait + Sync>(
-        &self,
-        rt: &R,
-        traveller: &mut Option<Traveller>,
-        said: &Parsed,
-    ) -> Result<Answer, AllocError>
-        requires { IfSome traveller.old (IsTraveller (world_after self.now.state.seen)) }
-        ensures known { IfSome traveller.new (IsTraveller (world_after self.now.state.seen)) }
-        ensures answers { IfOk result (λ a. Answers self.now.state (line_of said.now) (answer_shown a)) }
-    {
-        let workers = self.workers as usize;
-        let by = Through {
-            find: |alloc: Global, world: &World, version: u32, player: u32, traveller: Option<
-                &Traveller,
-            >, journey: &Journey| -> Result<Answer, AllocError>
-                requires { IsSync R.row × (version ≤ MOST_ENTRIES)
-                    × IsTrue (is_player world.now player) × IfSome traveller (λ t. Travels world.now player t.now)
-                    × IsJourney world.now journey.now }
-                ensures version { IfOk result (λ a. a.version ≡ version) }
-                ensures guided { IfOk result (IsGuided world.now version (Some player) journey.now) }
-            {
-                by_workers(
-                    rt, workers, &OpenGate, alloc, world, version, player, traveller, journey,
-                )
-            },
-        };
-        self.respond_by(&by, traveller, said)
-    }
-
-    // The same, where the guide's answers are found so.
-    fn respond_by<S: Guide>(
-        &self,
-        by: &S,
-        traveller: &mut Option<Traveller>,
-        said: &Parsed,
-    ) -> Result<Answer, AllocError>
-        requires ready { S.ready by.now }
-        requires known { IfSome traveller.old (IsTraveller (world_after self.now.state.seen)) }
-        ensures known { IfSome traveller.new (IsTraveller (world_after self.now.state.seen)) }
-        ensures answers { IfOk result (λ a. Answers self.now.state (line_of said.now) (answer_shown a)) }
-    {
-        let (version, player) = (self.version(), Some(self.player));
-        match answering::respond(
-            by,
+        let (workers, version, traveller) = (self.workers, self.version(), &mut self.traveller);
+        match respond(
+            rt,
+            workers,
             self.alloc,
             &self.world,
             version,
-            player,
+            self.player,
             traveller,
             said,
         )? {
@@ -320,4 +286,42 @@ fn apply(history: &mut Vec<Entry>, world: &mut World, change: &Change) -> Result
 {
     history.reserve(1)?;
     world.apply(change)
+}
+
+// Answers what a line says at the version of a world; nothing where it asks for the history. What is open to a player
+// who asks for a route is kept in `traveller`.
+fn respond<R: Threads + Wait + Sync>(
+    rt: &R,
+    workers: u32,
+    alloc: Global,
+    world: &World,
+    version: u32,
+    player: u32,
+    traveller: &mut Option<Traveller>,
+    said: &Parsed,
+) -> Result<Option<Answer>, AllocError>
+    requires version { version ≤ MOST_ENTRIES }
+    requires seated { IsTrue (is_player world.now player) }
+    requires known { IfSome traveller.old (IsTraveller world.now) }
+    ensures known { IfSome traveller.new (IsTraveller world.now) }
+    ensures response { IfOk result
+        (IsResponse world.now version (Some player) (decision world.now (Some player) (line_of said.now))) }
+{
+    let workers = workers as usize;
+    let by = Through {
+        find: |alloc: Global, world: &World, version: u32, player: u32, traveller: Option<
+            &Traveller,
+        >, journey: &Journey| -> Result<Answer, AllocError>
+            requires { IsSync R.row × (version ≤ MOST_ENTRIES)
+                × IsTrue (is_player world.now player) × IfSome traveller (λ t. Travels world.now player t.now)
+                × IsJourney world.now journey.now }
+            ensures version { IfOk result (λ a. a.version ≡ version) }
+            ensures guided { IfOk result (IsGuided world.now version (Some player) journey.now) }
+        {
+            by_workers(
+                rt, workers, &OpenGate, alloc, world, version, player, traveller, journey,
+            )
+        },
+    };
+    answering::respond(&by, alloc, world, version, Some(player), traveller, said)
 }

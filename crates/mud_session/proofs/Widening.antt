@@ -2,7 +2,9 @@
 use Rattle.std.proofs.Common.{◌≡◌, ◌≢◌, ℕ, ◌+◌, ◌-◌, ◌<◌, ◌≤◌, Bool, true, false, List, [], ◌∷◌, ◌++◌}
 use Rattle.std.proofs.Common.{length, take, drop, get_or, set, refl, sym, ap, ◌∙◌, arith}
 use Rattle.std.proofs.Common.{append_assoc, length-append, length-set, length-drop}
-use Rattle.std.specs.Prelude.{◌==◌}
+use Rattle.std.proofs.Common.{◌%◌, ◌^◌, decimal}
+use Rattle.std.proofs.lemmas.Fmt.{decimal_by_steps}
+use Rattle.std.specs.Prelude.{◌==◌, codes}
 use Rattle.std.specs.List.{flat_map}
 use Rattle.std.proofs.lemmas.Bool.Decides.{nat_tests}
 use Rattle.std.proofs.Math.Seq.{take-append_seam}
@@ -11,6 +13,7 @@ use Rattle.std.proofs.lemmas.List.Concat.{flat_map-append}
 use Rattle.std.proofs.lemmas.List.Elements.{All-head, All-tail}
 use Rattle.mud_nvt.specs.declared.codes.TheConstants.{LF, CR}
 use Rattle.mud_chron.specs.Faults.{HasNoLineFeed}
+use Rattle.mud_session.specs.Session.{wire_text, with_version}
 use Rattle.mud_session.specs.inner.Parts.{on_wire}
 
 -- the text on the wire
@@ -41,6 +44,30 @@ line-wide [] all = refl
 line-wide (b ∷ line) all =
     ap (λ (x : List ℕ). x ++ wide line) (other-wide b (All-head (λ b. b ≢ LF) b line all))
     ∙ ap (λ (x : List ℕ). b ∷ x) (line-wide line (All-tail (λ b. b ≢ LF) b line all))
+
+-- digits stay as they are
+pub digits_wide : (n : ℕ) → n < 2 ^ 64 → wide (decimal n) ≡ decimal n
+digits_wide =
+    decimal_by_steps (λ m ds. wide ds ≡ ds) (λ m few. one (48 + m) (omega arith))
+    (λ m ds few h.
+    flat_map-append on_wire ds ((48 + m % 10) ∷ []) ∙ ap (λ (x : List ℕ). x ++ wide ((48 + m % 10) ∷ [])) h
+    ∙ ap (λ (x : List ℕ). ds ++ x) (one (48 + m % 10) (omega arith)))
+  where
+    one : (b : ℕ) → 48 ≤ b → wide (b ∷ []) ≡ b ∷ []
+    one b high = ap (λ (x : List ℕ). x ++ []) (other-wide b (λ same. absurd (omega (arith, same, high))))
+
+-- a version in front stays as it is
+pub numbered_wide : (v : ℕ) (text : List ℕ) → v < 2 ^ 64
+    → with_version v [] ++ wire_text text ≡ wire_text (with_version v text)
+numbered_wide v text fits =
+    let front : List ℕ = codes "[" ++ decimal v ++ codes "] " in
+    let end : List ℕ = CR ∷ LF ∷ [] in
+    let stays : wide front ≡ front =
+    flat_map-append on_wire (codes "[" ++ decimal v) (codes "] ")
+    ∙ ap (λ (x : List ℕ). codes "[" ++ x ++ codes "] ") (digits_wide v fits) in
+    ap (λ (x : List ℕ). x ++ wire_text text) (append-nil front)
+    ∙ sym (append_assoc front (wide text) end) ∙ ap (λ (x : List ℕ). (x ++ wide text) ++ end) (sym stays)
+    ∙ ap (λ (x : List ℕ). x ++ end) (sym (flat_map-append on_wire front text))
 
 -- a line that is ended, and what stands after it
 pub cut-wide : (line rest : List ℕ) → HasNoLineFeed line → wide (line ++ LF ∷ rest) ≡ line ++ (CR ∷ LF ∷ wide rest)

@@ -8,7 +8,7 @@ ghost use Rattle.mud_nvt.specs.Shown.{unit_shown};
 
 use crate::door::Door;
 use crate::fault::SessionFault;
-use crate::wiring::{answer_on_wire, push_on_wire};
+use crate::wiring::{answer_on_wire, push_end, push_on_wire};
 use itoa::Buffer;
 use mud_hall::{Fault, Reply};
 use mud_nvt::{Nvt, Unit};
@@ -203,15 +203,10 @@ impl Session {
         if is_blank(line) {
             return Ok(());
         }
-        match parse(self.alloc, line) {
+        match &parse(self.alloc, line) {
             Err(_) => self.refuse(door),
-            Ok(parsed) => {
-                if is_question(&parsed) {
-                    self.ask(rt, door, &parsed)
-                } else {
-                    self.act(rt, door, &parsed)
-                }
-            }
+            Ok(parsed) if is_question(parsed) => self.ask(rt, door, parsed),
+            Ok(parsed) => self.act(rt, door, parsed),
         }
     }
 
@@ -318,11 +313,27 @@ impl Session {
     fn send_numbered(&mut self, version: u32, text: &str) -> Result<(), AllocError>
         ensures { OnOk result (self.new ≡ sends self.old (wire_text (with_version version text.now))) }
     {
-        self.out.reserve(text.len().saturating_add(NUMBERED_BYTES))?;
-        self.send_bytes(b"[")?;
-        push_on_wire(&mut self.out, Buffer::new().format(version).as_bytes())?;
-        self.send_bytes(b"] ")?;
+        self.make_room(text.len())?;
+        self.send_version(version)?;
         self.send(text)
+    }
+
+    // Makes room for a text of so many bytes, its number and its end.
+    fn make_room(&mut self, bytes: usize) -> Result<(), AllocError>
+        ensures { OnOk result (self.new ≡ self.old) }
+    {
+        self.out.reserve(bytes.saturating_add(NUMBERED_BYTES))
+    }
+
+    // Sends the version that a text speaks of, which stands in front of it.
+    fn send_version(&mut self, version: u32) -> Result<(), AllocError>
+        ensures { OnOk result (self.new ≡ sends self.old (with_version version [])) }
+    {
+        self.out.push(b'[')?;
+        self.send_bytes(Buffer::new().format(version).as_bytes())?;
+        self.out.push(b']')?;
+        self.out.push(b' ')?;
+        Ok(())
     }
 
     // Sends an answer. One that is long, and longer than what is to be sent before it, is made what is sent where it
@@ -343,7 +354,7 @@ impl Session {
         ensures { OnOk result (self.new ≡ sends self.old (wire_text text.now)) }
     {
         push_on_wire(&mut self.out, text.as_bytes())?;
-        self.send_bytes(b"\r\n")
+        push_end(&mut self.out)
     }
 
     // Sends bytes as they are.

@@ -1,6 +1,7 @@
 //! How a text is put on the wire: each LF as CR LF.
 
-ghost use Rattle.std.specs.Prelude.{◌≡◌, ◌++◌, ◌+◌, ◌≤◌, length, take, drop, IfOk, OnOk, string_bytes};
+ghost use Rattle.std.specs.Prelude.{◌≡◌, ◌++◌, ◌∷◌, [], ◌+◌, ◌≤◌, length, take, drop, IfOk, OnOk, string_bytes};
+ghost use Rattle.mud_nvt.specs.declared.codes.TheConstants.{LF, CR};
 ghost use Rattle.std.specs.List.{flat_map};
 ghost use Rattle.mud_session.specs.inner.Parts.{on_wire};
 
@@ -15,10 +16,19 @@ pub(crate) fn push_on_wire(out: &mut Vec<u8>, text: &[u8]) -> Result<(), AllocEr
     while let Some(at) = memchr(b'\n', rest) {
         let (line, ended) = rest.split_at(at);
         out.extend_from_slice(line)?;
-        out.extend_from_slice(b"\r\n")?;
+        push_end(out)?;
         rest = &ended[1..];
     }
     out.extend_from_slice(rest)
+}
+
+/// Appends the end of a line.
+pub(crate) fn push_end(out: &mut Vec<u8>) -> Result<(), AllocError>
+    ensures { OnOk result (out.new.items ≡ out.old.items ++ CR ∷ LF ∷ []) }
+{
+    out.push(b'\r')?;
+    out.push(b'\n')?;
+    Ok(())
 }
 
 /// Appends the number of an answer and its text, which is widened where it stands: so it is in memory only once.

@@ -20,8 +20,8 @@ loop-at-preserved c =
     let cut =
     cut-at c.loop-at.rest.now line ended c.in-Some.at c.in-Some.ensures c.split_at.ensures.front
     c.split_at.ensures.back in
-    let out : c.extend_from_slice-in-Some.new.self.items ≡ (c.loop-at.out.items ++ line) ++ CR ∷ LF ∷ [] =
-    c.in_ok-extend_from_slice-2.ensures.items
+    let out : c.push_end.new.out.items ≡ (c.loop-at.out.items ++ line) ++ CR ∷ LF ∷ [] =
+    c.in_ok-push_end.ensures
     ∙ ap (λ (x : List ℕ). x ++ CR ∷ LF ∷ []) c.in_ok-extend_from_slice.ensures.items in
     rw out (line-more c.loop-at.rest.now line ended c.loop-at.out.items cut.0 cut.1) ∙ c.loop-at.invariant
 

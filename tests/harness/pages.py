@@ -14,6 +14,9 @@ SOURCES = ["crates/*/src/**/*.rt", "crates/*/specs/**/*.antt"]
 PROOFS = ["crates/*/proofs/**/*.antt"]
 SCRIPTS = ["run", ".ci/run", "tests/run", "tests/*/*.py", "tests/*/*.c", "bench/*", "bench/*/*"]
 PAGES = ["*.md", "docs/*", "bench/*.md", "tests/*.md"]
+# The pages whose names between backquotes are all of the crates, or of parts of tests/run.
+NAMING = ["PROVED", "THEOREM", "DEFINITIONS", "WORDS", "COMMANDS", "WORLD", "KEEPING", "HISTORY", "ROADS", "GUIDE"]
+NAMING += ["HALL", "CHECKER", "CERTIFICATES", "EXPLAIN", "TELNET"]
 WRITTEN = [*PAGES, *SCRIPTS, *SOURCES]
 QUOTE = re.compile(r"^<!-- (\S+) -->\n```\w*\n(.*?)\n```$", re.M | re.S)
 FOLDERS = r"(?:crates|docs|examples|tests|bench|\.ci)"
@@ -260,5 +263,5 @@ def check_pages(count):
         tables(count, "docs/PROVED.md")
     count_clauses(count, "docs/THEOREM.md")
     known = known_names()
-    for page in ("docs/PROVED.md", "docs/THEOREM.md"):
-        count_names(count, page, known)
+    for page in NAMING:
+        count_names(count, f"docs/{page}.md", known)

@@ -86,8 +86,8 @@ GO = Line("go X, there and back", ['@dig there|back to "Another room"'], ["go th
 RING = Line("route in a ring with chords", ring(), ring_routes(), fewer=5, more=20)
 # A line, the most instructions that it takes, and how its answer begins.
 BOUNDS = [
-    (SAY, 4_700, "said"),
-    (GO, 4_700, "went by #"),
+    (SAY, 4_600, "said"),
+    (GO, 4_600, "went by #"),
     (RING, 660_000, "route #0 to #"),
 ]
 

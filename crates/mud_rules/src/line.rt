@@ -78,7 +78,7 @@ fn decision(
 }
 
 impl Actor<'_> {
-    // `decision` alone calls it, and a verdict is dear to hand on.
+    // only `decision` calls it, and a verdict is dear to hand on.
     #[inline(always)]
     fn command(&self, parsed: &Parsed, verb: Verb) -> Result<Verdict, AllocError>
         ensures { IfOk result (λ v. v ≡ command self.now.world.now self.now.player (line_of parsed.now) verb) }

@@ -3,7 +3,8 @@
 proved. `bench/hall/run` and `bench/workers/run` build theirs by it.
 
 `rt ci` refuses code that stands outside the crates of the repository, so these files end in .txt. They are laid out in
-a temporary folder under their own names, beside the libraries and what was proved of those: a repository of its own.
+a temporary folder under their own names, beside the libraries: a repository of its own, which `rt ci` proves. It takes
+what an earlier run, or the gate, proved of the libraries on this machine.
 """
 import contextlib
 import os
@@ -14,7 +15,9 @@ import tempfile
 
 BENCH = os.path.dirname(os.path.realpath(__file__))
 TOP = os.path.dirname(BENCH)
-OF_LIBRARY = ("src", "specs", "proofs", "out/rlib")
+OF_LIBRARY = ("src", "specs", "proofs")
+# What the programs end with where they are given no words, as by rt.
+OF_NO_WORDS = "2\n"
 
 
 def lines_of(path):
@@ -46,6 +49,8 @@ def lay_out_program(name, folder):
         os.makedirs(place)
         for file in files:
             shutil.copy(f"{at}/{file}", f"{place}/{file.removesuffix('.txt')}")
+    with open(f"{folder}/crates/{name}/status", "w", encoding="ascii") as file:
+        file.write(OF_NO_WORDS)
 
 
 @contextlib.contextmanager
@@ -69,22 +74,23 @@ def program(name):
     return name, PROGRAMS[name]
 
 
+def prove(folder):
+    """The status of the proof of what is laid out."""
+    return subprocess.run(["rt", "ci"], cwd=folder, stdin=subprocess.DEVNULL, stdout=sys.stderr, check=False).returncode
+
+
 @contextlib.contextmanager
 def built(name):
-    """The path of a program, which is proved and built. `rt run` also runs it, with no words: it ends at once then."""
+    """The path of a program, which is proved and built."""
     with laid_out(name) as folder:
-        crate = f"{folder}/crates/{name}"
-        subprocess.run(["rt", "run", "--jobs", "1"], cwd=crate, stdin=subprocess.DEVNULL, check=False)
-        path = f"{crate}/out/{name}"
-        if not os.path.exists(f"{path}.stamp"):
+        if prove(folder):
             sys.exit(f"{name} is not proved, or not built")
-        yield path
+        yield f"{folder}/crates/{name}/out/{name}"
 
 
 def main():
     with laid_out(*PROGRAMS) as folder:
-        ran = [subprocess.run(["rt", "check"], cwd=f"{folder}/crates/{name}") for name in PROGRAMS]
-    return max(it.returncode for it in ran)
+        return prove(folder)
 
 
 if __name__ == "__main__":

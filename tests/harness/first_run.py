@@ -1,0 +1,139 @@
+"""What `./run` proves, and when, over a small repository of its own: two libraries, a program above both, and a library
+that is none of its business.
+"""
+import contextlib
+import os
+import shutil
+import subprocess
+import tempfile
+
+from harness.parts import part
+from harness.programs import TOP
+
+SECONDS = 300
+LINES = """# The crates.
+low:
+high: low
+other: low
+tells: high
+"""
+LOW = """//! A number.
+#![tactic(auto)]
+
+/// The number.
+pub fn number() -> u32
+    ensures { result ≡ 7 }
+{
+    7
+}
+"""
+HIGH = """//! The number after it.
+#![tactic(auto)]
+
+use low::number;
+
+/// The next number.
+pub fn next() -> u32
+    ensures { result ≡ 8 }
+{
+    number() + 1
+}
+"""
+TELLS = """//! Writes a number.
+#![tactic(auto)]
+
+use high::next;
+use std::io::Print;
+use std::process::ExitCode;
+
+fn main(rt: HostRuntime) -> ExitCode {
+    match println!(rt; "{}", next()) {
+        Ok(()) => ExitCode::from(3),
+        Err(_) => ExitCode::from(1),
+    }
+}
+"""
+CLAUSES = "ghost use Rattle.std.specs.Prelude.{◌≡◌};\n"
+
+
+def with_clauses(text):
+    """The code, with what its clauses name."""
+    return text.replace("#![tactic(auto)]\n", f"#![tactic(auto)]\n\n{CLAUSES}", 1)
+
+
+FILES = {
+    "crates.txt": LINES,
+    "crates/low/src/lib.rt": with_clauses(LOW),
+    "crates/high/src/lib.rt": with_clauses(HIGH),
+    "crates/tells/src/main.rt": TELLS,
+    "crates/other/src/lib.rt": "no code",
+}
+
+
+class Repository:
+    """A repository in a folder, with `run` in it."""
+
+    def __init__(self, folder):
+        self.folder = folder
+        shutil.copy(f"{TOP}/run", folder)
+        for path, text in FILES.items():
+            self.write(path, text)
+
+    def write(self, path, text):
+        os.makedirs(os.path.dirname(f"{self.folder}/{path}"), exist_ok=True)
+        with open(f"{self.folder}/{path}", "w", encoding="utf-8") as file:
+            file.write(text)
+
+    def run(self, *words):
+        """What `./run` with these words came to: the status, what was written, and what was said of the proof."""
+        environment = {**os.environ, "XDG_CACHE_HOME": f"{self.folder}/cache"}
+        how = {"cwd": self.folder, "env": environment, "capture_output": True, "text": True, "timeout": SECONDS}
+        ran = subprocess.run(["./run", *words], stdin=subprocess.DEVNULL, check=False, **how)
+        return ran.returncode, ran.stdout, ran.stderr
+
+
+@contextlib.contextmanager
+def repository():
+    with tempfile.TemporaryDirectory() as folder:
+        yield Repository(folder)
+
+
+def ends(said, wanted):
+    """Whether the last line that was said has this."""
+    return wanted in (said.splitlines() or [""])[-1]
+
+
+@part("first-run", "what `./run` proves first and after a change, what it writes, and how it fails, on small crates")
+def first_run(count):
+    with repository() as small:
+        first = small.run("tells")
+        count("first run", first[:2] == (3, "8\n") and ends(first[2], "tells and 2 libraries, all"), str(first))
+        again = small.run("tells")
+        count("run again", again == (3, "8\n", ""), str(again))
+        count("a copy for the tests", os.path.samefile(*names_of(small, "tells")))
+        small.write("crates/high/src/lib.rt", FILES["crates/high/src/lib.rt"].replace("after it", "behind it"))
+        changed = small.run("tells")
+        count("a library changed", changed[:2] == (3, "8\n") and ends(changed[2], "and 1 library, all"), str(changed))
+        small.write("crates/low/src/lib.rt", FILES["crates/low/src/lib.rt"].replace("7", "9"))
+        wrong = small.run("tells")
+        count("another promise below", wrong[:2] == (1, "") and ends(wrong[2], "run: high is not proved"), str(wrong))
+        small.write("crates/low/src/lib.rt", FILES["crates/low/src/lib.rt"])
+        mended = small.run("tells")
+        count("mended", mended == (3, "8\n", ""), str(mended))
+
+
+def names_of(small, program):
+    """The two names of a program: that of its sum, and the one by which tests know it."""
+    out = f"{small.folder}/crates/{program}/out"
+    (proved,) = [name for name in os.listdir(out) if name.startswith(f"{program}-proved-")]
+    return f"{out}/{proved}", f"{out}/{program}"
+
+
+@part("run-words", "what `./run` says to words that name no program, and for help")
+def run_words(count):
+    with repository() as small:
+        for words in ((), ("low",), ("nothing",), ("--unproved",), ("--unproved", "low")):
+            status, written, said = small.run(*words)
+            count(f"run {' '.join(words)}", (status, written) == (2, "") and said.startswith("run PROGRAM"), said)
+        status, written, said = small.run("--help")
+        count("run --help", status == 0 and "PROGRAM: tells." in written and not said, written)

@@ -181,7 +181,7 @@ def strays(definitions, found):
 
 def counted(definitions):
     """Each definition that a reader has to believe: crate, module and name to its lines, and whether it is a law's."""
-    crates = [path for path in sorted((TOP / "crates").iterdir()) if (path / "specs").is_dir()]
+    crates = [path for path in sorted((TOP / "crates").iterdir()) if path.is_dir()]
     laws = {at for crate in crates for at in statements_of(crate, definitions)}
     reached = definitions.reached({at for crate in crates for at in roots_of(crate, definitions)})
     return {at: (len(definitions.lines[at][0]), at in laws) for at in sorted(reached)}

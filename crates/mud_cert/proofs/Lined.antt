@@ -5,7 +5,7 @@ use Rattle.std.proofs.lemmas.Grind.{common_steps}
 use Rattle.std.proofs.lemmas.List.Elements.{All-from_get_or}
 use Rattle.memchr.specs.Find.{IsFirstByte, is_byte}
 use Rattle.mud_key.specs.declared.codes.TheConstants.{LF}
-use Rattle.mud_cert.specs.Faults.{IsLine}
+use Rattle.mud_key.specs.Lines.{HasNoLineFeed}
 
 in-front : (bytes : List ℕ) (at i : ℕ) → i < length (take at bytes) → get_or (take at bytes) i 0 ≡ slice_index bytes i
 in-front bytes at i lt = grind (arith, common_steps)
@@ -13,7 +13,7 @@ in-front bytes at i lt = grind (arith, common_steps)
 -- what stands before the first LF is a line, and the bytes go on with that LF
 pub cut-at : (bytes line ended : List ℕ) (at : ℕ) → IsFirstByte (is_byte LF) bytes (Some at) → line ≡ take at bytes
     → ended ≡ drop at bytes
-    → IsLine line × (bytes ≡ line ++ LF ∷ drop 1 ended)
+    → HasNoLineFeed line × (bytes ≡ line ++ LF ∷ drop 1 ended)
 cut-at bytes line ended at first line_is ended_is = rw (line_is, ended_is) (
   All-from_get_or (λ b. b ≢ LF) (take at bytes) 0 (λ i lt is.
       first.0.before i (omega arith) (omega (arith, lt, length-take at bytes))
@@ -22,5 +22,5 @@ cut-at bytes line ended at first line_is ended_is = rw (line_is, ended_is) (
 )
 
 -- bytes without LF are a line
-pub line-whole : (bytes : List ℕ) → IsFirstByte (is_byte LF) bytes None → IsLine bytes
+pub line-whole : (bytes : List ℕ) → IsFirstByte (is_byte LF) bytes None → HasNoLineFeed bytes
 line-whole bytes none = All-from_get_or (λ b. b ≢ LF) bytes 0 (λ i lt is. none i (omega arith) lt (ap (is_byte LF) is))

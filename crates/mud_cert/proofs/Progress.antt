@@ -16,7 +16,8 @@ use Rattle.mud_cert.specs.declared.stage.Stage.TheVariants.{Nothing, Headed, Ope
 use Rattle.mud_cert.specs.Certificate.{Certificate, IsCertificate}
 use Rattle.mud_cert.specs.Text.{text_of, conclusion_line, cert_lines, cert_text}
 use Rattle.mud_cert.specs.inner.Lines.{opening_lines, with_line_feed}
-use Rattle.mud_cert.specs.Faults.{IsLine, Begins, IsBadLine}
+use Rattle.mud_cert.specs.Faults.{Begins, IsBadLine}
+use Rattle.mud_key.specs.Lines.{HasNoLineFeed}
 use Rattle.mud_cert.specs.TextLaws.{OneCertificate, OneBadLine, EndsWithLf}
 use Rattle.mud_cert.specs.inner.Reading.{after, head_at, version_at, member_at, labels_at, walk_at, route_at}
 use Rattle.mud_cert.specs.inner.Reading.{meeting_at}
@@ -31,7 +32,7 @@ use Rattle.mud_cert.proofs.Machine.{stage-begins}
 pub record Reads (bytes rest : List ℕ) (n : ℕ) (s : Stage) : Type 0 where
   pub front : List (List ℕ)
   pub parts : bytes ≡ text_of front ++ rest
-  pub lines : All IsLine front
+  pub lines : All HasNoLineFeed front
   pub place : n ≡ length front + 1
   pub runs : run Nothing front ≡ Some s
   pub same : lines_of s ≡ front
@@ -42,7 +43,7 @@ unfolding lines_of IsStage
 reads-start bytes = record {
   front = [];
   parts = refl;
-  lines = All-nil IsLine;
+  lines = All-nil HasNoLineFeed;
   place = refl;
   runs =
       run-none Nothing;
@@ -50,8 +51,8 @@ reads-start bytes = record {
   keeps = tt;
 }
 
-pub reads-more : (bytes rest : List ℕ) (n : ℕ) (s t : Stage) (line behind : List ℕ) → Reads bytes rest n s → IsLine line
-    → rest ≡ line ++ LF ∷ behind → next s line ≡ Some t → Reads bytes behind (n + 1) t
+pub reads-more : (bytes rest : List ℕ) (n : ℕ) (s t : Stage) (line behind : List ℕ) → Reads bytes rest n s
+    → HasNoLineFeed line → rest ≡ line ++ LF ∷ behind → next s line ≡ Some t → Reads bytes behind (n + 1) t
 reads-more bytes rest n s t line behind r is e f =
     let k = next-keeps s line t r.keeps f in
     record {
@@ -62,7 +63,7 @@ reads-more bytes rest n s t line behind r is e f =
           (sym (append-nil (with_line_feed line))))
           ∙ sym (append_assoc (text_of r.front) (text_of (line ∷ [])) behind)
           ∙ ap (λ (x : List ℕ). x ++ behind) (sym (flat_map-append with_line_feed r.front (line ∷ [])));
-      lines = All-push IsLine r.front line r.lines is;
+      lines = All-push HasNoLineFeed r.front line r.lines is;
       place = omega (arith, length-append r.front (line ∷ []), r.place);
       runs = run-append Nothing r.front (line ∷ []) s r.runs ∙ run-then s line [] t f ∙ run-none t;
       same = k.1 ∙ ap (λ (x : List (List ℕ)). x ++ line ∷ []) r.same;
@@ -95,9 +96,9 @@ line-some s t [] e =
     absurd (cc)
 line-some s t (b ∷ bs) e = omega arith
 
-middle : (xs : List (List ℕ)) (y : List ℕ) (ys : List (List ℕ)) → All IsLine (xs ++ y ∷ ys) → IsLine y
-middle [] y ys h = All-head IsLine y ys h
-middle (x ∷ xs) y ys h = middle xs y ys (All-tail IsLine x (xs ++ y ∷ ys) h)
+middle : (xs : List (List ℕ)) (y : List ℕ) (ys : List (List ℕ)) → All HasNoLineFeed (xs ++ y ∷ ys) → HasNoLineFeed y
+middle [] y ys h = All-head HasNoLineFeed y ys h
+middle (x ∷ xs) y ys h = middle xs y ys (All-tail HasNoLineFeed x (xs ++ y ∷ ys) h)
 
 text-is : (c : Certificate) → cert_text c ≡ text_of (cert_lines c)
 unfolding cert_text
@@ -115,7 +116,7 @@ bad-ends front s line runs none b =
 
 bad-fails : (front : List (List ℕ)) (rest : List ℕ) (s : Stage) (c : Certificate)
     → IsCertificate c → run Nothing front ≡ Some s
-    → ((line behind : List ℕ) → IsLine line → rest ≡ line ++ LF ∷ behind → next s line ≡ None)
+    → ((line behind : List ℕ) → HasNoLineFeed line → rest ≡ line ++ LF ∷ behind → next s line ≡ None)
     → ((d : Certificate) → s ≡ Whole d → rest ≡ [] → ⊥)
     → (more : List (List ℕ)) → cert_lines c ≡ front ++ more → rest ≡ text_of more ++ [] → ⊥
 bad-fails front rest s c is runs none some [] e f =
@@ -127,7 +128,7 @@ bad-fails front rest s c is runs none some (l ∷ more) e f =
     let parts : rest ≡ l ++ LF ∷ text_of more =
     f ∙ append-nil (text_of (l ∷ more)) ∙ append_assoc l (LF ∷ []) (text_of more) in
     let regrouped : cert_lines c ≡ (front ++ l ∷ []) ++ more = e ∙ sym (append_assoc front (l ∷ []) more) in
-    let line : IsLine l = middle front l more (subst (All IsLine) e (cert-lines c is)) in
+    let line : HasNoLineFeed l = middle front l more (subst (All HasNoLineFeed) e (cert-lines c is)) in
     bad-ends front s l runs (none l (text_of more) line parts)
     (record { cert = c; more = more; is_one = is; lines_are = regrouped })
 
@@ -142,7 +143,7 @@ begins front rest b =
 
 -- a stage with which no line goes on, and that is not the whole, is at a bad line
 pub reads-bad : (bytes rest : List ℕ) (n : ℕ) (s : Stage) → Reads bytes rest n s
-    → ((line behind : List ℕ) → IsLine line → rest ≡ line ++ LF ∷ behind → next s line ≡ None)
+    → ((line behind : List ℕ) → HasNoLineFeed line → rest ≡ line ++ LF ∷ behind → next s line ≡ None)
     → ((c : Certificate) → s ≡ Whole c → rest ≡ [] → ⊥)
     → IsBadLine bytes n
 reads-bad bytes rest n s r none some = (
@@ -152,7 +153,8 @@ reads-bad bytes rest n s r none some = (
     subst (λ (bs : List ℕ). Begins bs (length r.front)) (sym r.parts)
         (begins r.front rest (subst Starts r.same (stage-begins s r.keeps))),
     λ (c, is, few, (behind, parts)).
-        let lines : All IsLine (take n (cert_lines c)) = All-take IsLine n (cert_lines c) (cert-lines c is) in
+        let lines : All HasNoLineFeed (take n (cert_lines c)) =
+        All-take HasNoLineFeed n (cert_lines c) (cert-lines c is) in
         let long : length (take n (cert_lines c)) ≡ n = length-take-le n (cert_lines c) few in
         let g = split-longer r.front (take n (cert_lines c)) rest behind r.lines lines (sym r.parts ∙ parts)
         (omega (arith, long, r.place)) in
@@ -173,21 +175,21 @@ reads-bad bytes rest n s r none some = (
         ∙ append_assoc r.front (l ∷ more) (drop n (cert_lines c)) in
         let regrouped : cert_lines c ≡ (r.front ++ l ∷ []) ++ (more ++ drop n (cert_lines c)) =
         all ∙ sym (append_assoc r.front (l ∷ []) (more ++ drop n (cert_lines c))) in
-        let line : IsLine l =
-        middle r.front l (more ++ drop n (cert_lines c)) (subst (All IsLine) all (cert-lines c is)) in
+        let line : HasNoLineFeed l =
+        middle r.front l (more ++ drop n (cert_lines c)) (subst (All HasNoLineFeed) all (cert-lines c is)) in
         bad-ends r.front s l r.runs (none l (text_of more ++ behind) line (f ∙ text-then l more behind))
         (record { cert = c; more = more ++ drop n (cert_lines c); is_one = is; lines_are = regrouped })
 
 -- a line that is refused is bad
 pub reads-refused : (bytes rest : List ℕ) (n : ℕ) (s : Stage) (line behind : List ℕ) → Reads bytes rest n s
-    → IsLine line → rest ≡ line ++ LF ∷ behind → next s line ≡ None → IsBadLine bytes n
+    → HasNoLineFeed line → rest ≡ line ++ LF ∷ behind → next s line ≡ None → IsBadLine bytes n
 reads-refused bytes rest n s line behind r is e f =
     reads-bad bytes rest n s r
     (λ l b i g. let same = cut line l behind b is i (sym e ∙ g) in subst (λ (x : List ℕ). next s x ≡ None) same.0 f)
     (λ c w h. uncut [] line behind (All-nil (λ x. x ≢ LF)) (sym h ∙ e))
 
 -- a line that is not ended is bad, where something stands there or more lines are wanted
-pub reads-unended : (bytes rest : List ℕ) (n : ℕ) (s : Stage) → Reads bytes rest n s → IsLine rest
+pub reads-unended : (bytes rest : List ℕ) (n : ℕ) (s : Stage) → Reads bytes rest n s → HasNoLineFeed rest
     → ((c : Certificate) → s ≡ Whole c → rest ≡ [] → ⊥) → IsBadLine bytes n
 reads-unended bytes rest n s r is some = reads-bad bytes rest n s r (λ l b i g. absurd (uncut rest l b is g)) some
 

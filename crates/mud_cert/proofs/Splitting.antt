@@ -18,7 +18,7 @@ use Rattle.mud_cert.specs.Certificate.{Account, Certificate, IsNumber, IsAmount,
 use Rattle.mud_cert.specs.Text.{text_of, head_line, entry_text, walk_line, member_lines, conclusion_line, cert_lines}
 use Rattle.mud_cert.specs.Text.{cert_text}
 use Rattle.mud_cert.specs.inner.Lines.{version_line, member_line, labels_line, IsEntry, with_line_feed, exit_text}
-use Rattle.mud_cert.specs.Faults.{IsLine}
+use Rattle.mud_key.specs.Lines.{HasNoLineFeed}
 use Rattle.mud_cert.specs.TextLaws.{HasNoReturn}
 
 abbrev Apart : ℕ → Type 0
@@ -27,7 +27,7 @@ Apart b = b ≢ LF
 -- ---- one split
 
 -- what stands before the first LF, and after it
-pub cut : (a b x y : List ℕ) → IsLine a → IsLine b → a ++ LF ∷ x ≡ b ++ LF ∷ y → (a ≡ b) × (x ≡ y)
+pub cut : (a b x y : List ℕ) → HasNoLineFeed a → HasNoLineFeed b → a ++ LF ∷ x ≡ b ++ LF ∷ y → (a ≡ b) × (x ≡ y)
 cut [] [] x y la lb e = (refl, cc)
 cut [] (c ∷ b) x y la lb e =
     let at : c ≡ LF = cc in
@@ -42,7 +42,7 @@ cut (c ∷ a) (d ∷ b) x y la lb e =
     (cc (more.0), more.1)
 
 -- a line has no LF
-pub uncut : (rest a x : List ℕ) → IsLine rest → rest ≡ a ++ LF ∷ x → ⊥
+pub uncut : (rest a x : List ℕ) → HasNoLineFeed rest → rest ≡ a ++ LF ∷ x → ⊥
 uncut [] [] x l e = absurd cc
 uncut [] (c ∷ a) x l e = absurd cc
 uncut (b ∷ bs) [] x l e = let at : b ≡ LF = cc in All-head Apart b bs l at
@@ -60,17 +60,18 @@ pub record GoesOn (front other : List (List ℕ)) (rest behind : List ℕ) : Typ
   pub lines_are : other ≡ front ++ more
   pub rest_is : rest ≡ text_of more ++ behind
 
-pub split-longer : (front other : List (List ℕ)) (rest behind : List ℕ) → All IsLine front → All IsLine other
-    → text_of front ++ rest ≡ text_of other ++ behind → length front ≤ length other → GoesOn front other rest behind
+pub split-longer : (front other : List (List ℕ)) (rest behind : List ℕ) → All HasNoLineFeed front
+    → All HasNoLineFeed other → text_of front ++ rest ≡ text_of other ++ behind → length front ≤ length other
+    → GoesOn front other rest behind
 split-longer [] other rest behind lf lo e le = record { more = other; lines_are = refl; rest_is = e }
 split-longer (l ∷ front) [] rest behind lf lo e le = absurd (omega arith)
 split-longer (l ∷ front) (m ∷ other) rest behind lf lo e le =
     let both : l ++ LF ∷ (text_of front ++ rest) ≡ m ++ LF ∷ (text_of other ++ behind) =
     sym (text-then l front rest) ∙ e ∙ text-then m other behind in
-    let c = cut l m (text_of front ++ rest) (text_of other ++ behind) (All-head IsLine l front lf)
-    (All-head IsLine m other lo) both in
-    let r = split-longer front other rest behind (All-tail IsLine l front lf)
-    (All-tail IsLine m other lo) c.1 (omega arith) in
+    let c = cut l m (text_of front ++ rest) (text_of other ++ behind) (All-head HasNoLineFeed l front lf)
+    (All-head HasNoLineFeed m other lo) both in
+    let r = split-longer front other rest behind (All-tail HasNoLineFeed l front lf)
+    (All-tail HasNoLineFeed m other lo) c.1 (omega arith) in
     record { more = r.more; lines_are = cc (c.0, r.lines_are); rest_is = r.rest_is }
 
 -- no bytes are no lines
@@ -81,7 +82,7 @@ no-lines (l ∷ ls) r e =
     absurd (uncut [] l (text_of ls ++ r) (All-nil Apart) both)
 
 -- a whole text goes on from each front of it
-pub split-whole : (front lines : List (List ℕ)) (rest : List ℕ) → All IsLine front → All IsLine lines
+pub split-whole : (front lines : List (List ℕ)) (rest : List ℕ) → All HasNoLineFeed front → All HasNoLineFeed lines
     → text_of front ++ rest ≡ text_of lines → GoesOn front lines rest []
 split-whole front lines rest lf ll e = go (cases_lt (length lines) (length front))
   where
@@ -219,10 +220,10 @@ plain-lines c is =
     (All-cons ArePlain (codes "end") [] (plain-from (codes "end") refl) (All-nil ArePlain)))))
 
 -- what is plain has no LF
-line-of : (line : List ℕ) → ArePlain line → IsLine line
+line-of : (line : List ℕ) → ArePlain line → HasNoLineFeed line
 line-of line plain = λ i d lt. λ (same : get_or line i d ≡ LF). omega (arith, plain i d lt, same)
 
-pub cert-lines : (c : Certificate) → IsCertificate c → All IsLine (cert_lines c)
+pub cert-lines : (c : Certificate) → IsCertificate c → All HasNoLineFeed (cert_lines c)
 cert-lines c is = λ i d lt. line-of (get_or (cert_lines c) i d) (plain-lines c is i d lt)
 
 -- plain lines with their LFs have no CR

@@ -1,13 +1,8 @@
 -- The line at which a text stops being the beginning of a certificate's.
-use Rattle.std.specs.Prelude.{◌≡◌, ◌≢◌, ℕ, ◌≤◌, List, ◌++◌, length, take, All}
-use Rattle.mud_key.specs.declared.codes.TheConstants.{LF}
+use Rattle.std.specs.Prelude.{◌≡◌, ℕ, ◌≤◌, List, ◌++◌, length, take}
 use Rattle.mud_world.specs.Counts.{FailsAt}
 use Rattle.mud_cert.specs.Certificate.{Certificate, IsCertificate}
 use Rattle.mud_cert.specs.Text.{text_of, cert_lines, cert_text}
-
--- bytes without a line feed
-abbrev pub IsLine : List ℕ → Type 0
-IsLine bytes = All (λ b. b ≢ LF) bytes
 
 -- the bytes begin with the first so many lines of some certificate, each with its LF
 abbrev pub Begins : List ℕ → ℕ → Type 0

@@ -2,7 +2,7 @@
 use Rattle.std.specs.Prelude.{◌≡◌, ◌≢◌, ℕ, ◌⊎◌, List, All, AllPairs, Option, None, Some, IsTrue, option_map}
 use Rattle.mud_roads.specs.declared.label.Label.{Label}
 use Rattle.mud_roads.specs.declared.label.Step.{Step}
-use Rattle.mud_roads.specs.Walks.{Walk, exits_of, total, IsLeast, Least, IsMeeting, NoMeeting}
+use Rattle.mud_roads.specs.Walks.{Walk, exits_of, total, IsLeast, Least, Gathers, IsMeeting}
 use Rattle.mud_roads.specs.Labels.{Reaches, AreValid}
 use Rattle.mud_roads.specs.Open.{roads_of}
 use Rattle.mud_world.specs.State.{State, is_player, is_room, place_of}
@@ -32,9 +32,9 @@ abbrev pub GoesTo : State → Option ℕ → Account → Type 0
 GoesTo w None m = m.walk ≡ None
 GoesTo w (Some to) m = (ss : List Step) × States w m to ss
 
--- the meeting room and its cost, or that there is none
+-- the meeting room and its cost, or that there is no room of which each has a label
 abbrev pub IsPlace : {A : Type 0} → (A → ℕ → Option Label → Type 0) → List A → Option Meeting → Type 0
-IsPlace Has party None = NoMeeting Has party
+IsPlace Has party None = (room cost : ℕ) → Gathers Has party room cost → ⊥
 IsPlace Has party (Some p) = IsMeeting Has party p.room p.cost
 
 -- the conclusion agrees with the walks that are stated, and with what each member has: a label of a room, or none

@@ -4,7 +4,8 @@ ghost use Rattle.std.specs.Prelude.{◌≡◌, ℕ, ◌++◌, ◌∷◌, IfOk, I
 ghost use Rattle.mud_key.specs.declared.codes.TheConstants.{LF};
 ghost use Rattle.mud_cert.specs.Certificate.{IsCertificate};
 ghost use Rattle.mud_cert.specs.Text.{cert_text};
-ghost use Rattle.mud_cert.specs.Faults.{IsLine, IsBadLine};
+ghost use Rattle.mud_cert.specs.Faults.{IsBadLine};
+ghost use Rattle.mud_key.specs.Lines.{HasNoLineFeed};
 
 use crate::cert::Cert;
 use crate::fault::CertFault;
@@ -14,8 +15,8 @@ use std::alloc::Global;
 
 /// The first line, without its LF, and the bytes after it.
 fn first_line(bytes: &[u8]) -> Option<(&[u8], &[u8])>
-    ensures found { IfSome result (λ s. IsLine s.0.now × (bytes.now ≡ s.0.now ++ LF ∷ s.1.now)) }
-    ensures none { IfNone result (IsLine bytes.now) }
+    ensures found { IfSome result (λ s. HasNoLineFeed s.0.now × (bytes.now ≡ s.0.now ++ LF ∷ s.1.now)) }
+    ensures none { IfNone result (HasNoLineFeed bytes.now) }
 {
     let Some(at) = memchr(b'\n', bytes) else {
         return None;

@@ -2,7 +2,7 @@
 use Rattle.std.proofs.Common.{◌≡◌, ℕ, List, Option, Some, None, IfSome, subst}
 use Rattle.mud_verdict.specs.declared.outcome.Outcome.{Outcome}
 use Rattle.mud_verdict.specs.Verdict.{IsVerdict}
-use Rattle.mud_check.specs.inner.Split.{IsSplit}
+use Rattle.mud_check.specs.Input.{IsSplit}
 use Rattle.mud_check.specs.Said.{IsJudged}
 
 -- the verdict on the two texts of what was read is that on the bytes of the source

@@ -8,9 +8,8 @@ use Rattle.std.proofs.lemmas.Grind.{flat_map-append}
 use Rattle.mud_key.specs.declared.codes.TheConstants.{LF}
 use Rattle.mud_cert.specs.Text.{text_of}
 use Rattle.mud_cert.specs.inner.Lines.{with_line_feed}
-use Rattle.mud_cert.specs.Faults.{IsLine}
-use Rattle.mud_check.specs.Input.{begins_end, IsInner}
-use Rattle.mud_check.specs.inner.Split.{IsSplit}
+use Rattle.mud_key.specs.Lines.{HasNoLineFeed}
+use Rattle.mud_check.specs.Input.{begins_end, IsInner, IsSplit}
 
 -- the bytes are lines that begin otherwise, and this rest
 pub record IsPassed (bytes rest : List ℕ) : Type 0 where
@@ -34,8 +33,8 @@ parted front line behind =
     ap (λ t. front ++ t) (sym (append_assoc line (LF ∷ []) behind)) ∙ sym (append_assoc front (line ++ LF ∷ []) behind)
 
 -- one line more is passed
-pub one-passed : (bytes rest line behind : List ℕ) → IsPassed bytes rest → IsLine line → rest ≡ line ++ LF ∷ behind
-    → begins_end line ≡ false → IsPassed bytes behind
+pub one-passed : (bytes rest line behind : List ℕ) → IsPassed bytes rest → HasNoLineFeed line
+    → rest ≡ line ++ LF ∷ behind → begins_end line ≡ false → IsPassed bytes behind
 one-passed bytes rest line behind passed whole cut other = record {
   front = passed.front ++ line ∷ [];
   inner = All-push IsInner passed.front line passed.inner (record { whole = whole; other = other });
@@ -51,7 +50,7 @@ front-of front behind =
     ap (λ n. take n (front ++ behind)) count ∙ take-append_seam front behind
 
 -- the line is the last of the history
-pub ends : (bytes rest line behind : List ℕ) → IsPassed bytes rest → IsLine line → rest ≡ line ++ LF ∷ behind
+pub ends : (bytes rest line behind : List ℕ) → IsPassed bytes rest → HasNoLineFeed line → rest ≡ line ++ LF ∷ behind
     → begins_end line ≡ true
     → IsSplit bytes (take (length bytes - length behind) bytes) behind
 ends bytes rest line behind passed whole cut last =
@@ -60,9 +59,9 @@ ends bytes rest line behind passed whole cut last =
     passed.bytes_are ∙ ap (λ t. text_of passed.front ++ t) cut ∙ parted (text_of passed.front) line behind in
     let front : take (length bytes - length behind) bytes ≡ history =
     ap (λ b. take (length b - length behind) b) parts ∙ front-of history behind in
-    inl (passed.front, line, passed.inner, whole, last, front, parts ∙ ap (λ t. t ++ behind) (sym front))
+    (passed.front, line, passed.inner, whole, parts ∙ ap (λ t. t ++ behind) (sym front), inl (last, front))
 
 -- no further line is ended
-pub ends-not : (bytes rest : List ℕ) → IsPassed bytes rest → IsLine rest → IsSplit bytes bytes []
+pub ends-not : (bytes rest : List ℕ) → IsPassed bytes rest → HasNoLineFeed rest → IsSplit bytes bytes []
 ends-not bytes rest passed unended =
-    inr (passed.front, rest, passed.inner, unended, passed.bytes_are, refl, refl)
+    (passed.front, rest, passed.inner, unended, sym (append-nil bytes), inr (passed.bytes_are, refl))

@@ -1,18 +1,19 @@
 -- What is judged of standard input, and what is said of it.
 use Rattle.std.specs.Prelude.{◌≡◌, ◌⊎◌, ℕ, Bool, true, false, List, [], ◌∷◌, ◌++◌, codes, Option}
+use mathlib.Core.List.{IsPrefix}
 use Rattle.std.specs.Io.KnownBytes.{Appends}
 use Rattle.mud_key.specs.declared.codes.TheConstants.{LF}
 use Rattle.mud_verdict.specs.declared.outcome.Outcome.{Outcome}
 use Rattle.mud_check.specs.declared.judge.Unread.{Unread}
 use Rattle.mud_check.specs.declared.judge.Unread.TheVariants.{OutOfMemory, File}
 use Rattle.mud_verdict.specs.Verdict.{IsVerdict}
-use Rattle.mud_check.specs.Input.{EndsAtLine, EndsWithBytes}
+use Rattle.mud_check.specs.Input.{IsSplit}
 
 -- the outcome is the verdict on the two texts that the bytes hold
 pub record IsJudged (bytes : List ℕ) (outcome : Outcome) : Type 0 where
   pub history : List ℕ
   pub proof : List ℕ
-  pub split : EndsAtLine bytes history proof ⊎ EndsWithBytes bytes history proof
+  pub split : IsSplit bytes history proof
   pub verdict : IsVerdict history proof outcome
 
 -- why standard input has no verdict: its reader failed, or else memory ran out
@@ -20,15 +21,9 @@ abbrev pub IsInputFault : Bool → Unread → Type 0
 IsInputFault has_failed OutOfMemory = has_failed ≡ false
 IsInputFault has_failed (File name) = (has_failed ≡ true) × (name.now ≡ codes "-")
 
--- a front of the text was written
-pub record IsCut (held now_held : Option (List ℕ)) (text : List ℕ) : Type 0 where
-  pub front : List ℕ
-  pub rest : List ℕ
-  pub whole : front ++ rest ≡ text
-  pub written : Appends held now_held front
-
 -- the line was written and the status is its own; or the writer failed, which left a front of it, and the status is 2
 abbrev pub Says : Option (List ℕ) → Option (List ℕ) → List ℕ → ℕ → Bool → ℕ → Type 0
 Says held now_held text code has_failed status =
     ((status ≡ code) × Appends held now_held (text ++ LF ∷ []))
-    ⊎ ((status ≡ 2) × (has_failed ≡ true) × IsCut held now_held (text ++ LF ∷ []))
+    ⊎ ((status ≡ 2) × (has_failed ≡ true)
+    × ((front : List ℕ) × IsPrefix front (text ++ LF ∷ []) × Appends held now_held front))

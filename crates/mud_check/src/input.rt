@@ -2,7 +2,7 @@
 
 ghost use Rattle.std.specs.Prelude.{◌≡◌, codes};
 ghost use Rattle.mud_check.specs.Input.{begins_end};
-ghost use Rattle.mud_check.specs.inner.Split.{IsSplit};
+ghost use Rattle.mud_check.specs.Input.{IsSplit};
 
 use memchr::memchr;
 

@@ -15,10 +15,11 @@ use Rattle.mud_chron.specs.declared.format.Format.TheVariants.{One, Two}
 use Rattle.mud_world.specs.declared.limits.TheConstants.{MOST_ENTRIES}
 use Rattle.mud_chron.specs.Entry.{Entry, IsEntry}
 use Rattle.mud_chron.specs.Text.{line_feed, head_line, entry_line, entries_text, end_line, journal_text}
-use Rattle.mud_chron.specs.inner.Texts.{entry_text}
+use Rattle.mud_chron.specs.inner.Texts.{IsBad, entry_text}
 use Rattle.mud_chron.specs.History.{IsEntryOf, AreEntriesOf}
-use Rattle.mud_chron.specs.Faults.{HasNoLineFeed, IsNoHistory, Begins, IsNoEntryLine}
-use Rattle.mud_chron.specs.Fronts.{BeginsHead, EndsInHead, EndsInLine, Recovers, HasOtherLine}
+use Rattle.mud_chron.specs.Faults.{IsNoHistory, Begins, IsNoEntryLine, HasOtherLine, HasBadLine}
+use Rattle.mud_key.specs.Lines.{HasNoLineFeed}
+use Rattle.mud_chron.specs.Fronts.{BeginsHead, EndsInHead, EndsInLine, Recovers}
 use Rattle.mud_chron.specs.Laws.{AreWhole, FaultsAreNoFronts, NothingIsLost}
 use Rattle.mud_chron.specs.inner.Reader.{entry_in}
 use Rattle.mud_chron.proofs.Cutting.{lacks_all}
@@ -295,44 +296,41 @@ more_to_come head bytes more unended whole none =
 whole_head : (format found : Format) (entries got : List Entry) (n keep : ℕ) (bytes : List ℕ)
     → bytes ≡ take n (journal_text format entries) → EndsInHead bytes found got keep
     → AreWhole format entries n found got keep
-whole_head format found entries got n keep bytes cut new =
-    let head : Format = new.begins.0 in
-    let more : List ℕ = new.begins.1.0 in
-    let whole : bytes ++ more ≡ head_text head = new.begins.1.1 in
+whole_head format found entries got n keep bytes cut (unended, (head, (more, whole)), format_is, none, keep_is) =
     let few : n < length (head_text format) =
     short_front (head_text head) (head_text format) (entries_text 1 entries) bytes more n
-    (length_head head ∙ sym (length_head format)) (more_to_come head bytes more new.unended whole) whole cut in
+    (length_head head ∙ sym (length_head format)) (more_to_come head bytes more unended whole) whole cut in
     record {
       left_out = entries;
-      front = ap (λ g. g ++ entries) (sym new.none);
+      front = ap (λ g. g ++ entries) (sym none);
       next = λ f rest is. omega (arith, few, one_more format got f, length_journal format got);
-      fits = omega (arith, new.keep_is);
-      kept = inl (few, new.none, new.keep_is);
+      fits = omega (arith, keep_is);
+      kept = inl (few, none, keep_is);
     }
 
 whole_line : (format found : Format) (entries got : List Entry) (n keep : ℕ) (bytes : List ℕ)
     → AreEntriesOf format entries → AreEntriesOf found got → bytes ≡ take n (journal_text format entries)
     → EndsInLine bytes found got keep → AreWhole format entries n found got keep
-whole_line format found entries got n keep bytes allowed these cut s =
+whole_line format found entries got n keep bytes allowed these cut (torn, spelled, unended, keep_is) =
     let p =
-    begun_front format found entries got bytes s.torn n allowed (record { allowed = these; spelled = s.spelled }) cut in
+    begun_front format found entries got bytes torn n allowed (record { allowed = these; spelled = spelled }) cut in
     let c = p.cut in
     let head : length (head_text format) ≤ n = p.head in
     let fits : length (entries_text 1 got) ≤ n - length (head_text format) = c.fits in
     let long : keep ≡ length (journal_text format got) =
-    s.keep_is ∙ ap (λ x. length (journal_text x got)) (sym p.same) in
+    keep_is ∙ ap (λ x. length (journal_text x got)) (sym p.same) in
     let at : ℕ = n - length (head_text format) - length (entries_text 1 got) in
     record {
       left_out = c.more;
       front = c.front;
       next = λ f rest is.
-          let torn : s.torn ≡ take at (entry_line (1 + length got) f ++ LF ∷ entries_text (1 + length got + 1) rest) =
+          let is_torn : torn ≡ take at (entry_line (1 + length got) f ++ LF ∷ entries_text (1 + length got + 1) rest) =
           c.behind ∙ ap (λ m. take at (entries_text (1 + length got) m)) is
           ∙ ap (take at) (entry_front (1 + length got) f (entries_text (1 + length got + 1) rest)) in
           omega (
             arith,
-            torn_line s.torn (entry_line (1 + length got) f) (entries_text (1 + length got + 1) rest) at
-                (plain_of s.torn s.unended) torn,
+            torn_line torn (entry_line (1 + length got) f) (entries_text (1 + length got + 1) rest) at
+                (plain_of torn unended) is_torn,
             one_more format got f,
             length_journal format got,
           );
@@ -496,7 +494,7 @@ pub found_in_head : (bytes : List ℕ) (got : List Entry) → IsNoHistory bytes 
 found_in_head bytes got unended begins none = record {
   allowed = subst (AreEntriesOf Two) (sym none) (record { each = tt; few = omega arith });
   within = omega arith;
-  ends = inl (record { unended = unended; begins = begins; format_is = refl; none = none; keep_is = refl });
+  ends = inl (unended, begins, refl, none, refl);
 }
 
 pub found_in_line : (found : Format) (bytes torn : List ℕ) (got : List Entry) (keep : ℕ)
@@ -505,15 +503,15 @@ pub found_in_line : (found : Format) (bytes torn : List ℕ) (got : List Entry) 
 found_in_line found bytes torn got keep b unended is = record {
   allowed = b.allowed;
   within = omega (arith, is);
-  ends = inr (record {
-    torn = torn;
-    spelled = b.spelled;
-    unended = unended;
-    keep_is = omega (arith, is, ap length b.spelled, length-append (journal_text found got) torn);
-  });
+  ends = inr (
+    torn,
+    b.spelled,
+    unended,
+    omega (arith, is, ap length b.spelled, length-append (journal_text found got) torn),
+  );
 }
 
-pub other_line : (g : Format) (got : List Entry) (bytes rest line more : List ℕ) (count n : ℕ)
+abbrev pub other_line : (g : Format) (got : List Entry) (bytes rest line more : List ℕ) (count n : ℕ)
     → Begins g got bytes rest → rest ≡ line ++ line_feed ++ more → HasNoLineFeed line → count ≡ length got
     → IsNoEntryLine g (count + 1) line → n ≡ count + 2 → HasOtherLine bytes n
 other_line g got bytes rest line more count n begins cut plain counted other number = record {
@@ -525,6 +523,15 @@ other_line g got bytes rest line more count n begins cut plain counted other num
   whole = plain;
   other = subst (λ c. IsNoEntryLine g (c + 1) line) counted other;
   number = number ∙ ap (λ c. c + 2) counted;
+}
+
+-- a line that is neither that of a next entry nor the last one
+pub bad_line : (g : Format) (got : List Entry) (bytes rest line more : List ℕ) (count n : ℕ)
+    → Begins g got bytes rest → rest ≡ line ++ line_feed ++ more → HasNoLineFeed line → count ≡ length got
+    → IsBad g count line → n ≡ count + 2 → HasBadLine bytes n
+bad_line g got bytes rest line more count n begins cut plain counted is number = record {
+  stands = other_line g got bytes rest line more count n begins cut plain counted is.0 number;
+  no_end = subst (λ c. line ≢ end_line c) counted is.1;
 }
 
 -- the last line of a history is that of no entry

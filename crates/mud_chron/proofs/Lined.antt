@@ -5,7 +5,7 @@ use Rattle.std.proofs.lemmas.Grind.{common_steps}
 use Rattle.std.proofs.lemmas.List.Elements.{All-from_get_or}
 use Rattle.memchr.specs.Find.{IsFirstByte, is_byte}
 use Rattle.mud_key.specs.declared.codes.TheConstants.{LF}
-use Rattle.mud_chron.specs.Faults.{HasNoLineFeed as IsLine}
+use Rattle.mud_key.specs.Lines.{HasNoLineFeed as IsLine}
 
 in-front : (bytes : List ℕ) (at i : ℕ) → i < length (take at bytes) → get_or (take at bytes) i 0 ≡ slice_index bytes i
 in-front bytes at i lt = grind (arith, common_steps)

@@ -30,7 +30,8 @@ use Rattle.mud_world.specs.declared.limits.TheConstants.{MOST_SPEECH}
 use Rattle.mud_world.specs.Speech.{is_trimmed, is_speech}
 use Rattle.mud_world.specs.inner.Parts.{is_printable}
 use Rattle.mud_chron.specs.declared.codes.TheConstants.{QUOTE}
-use Rattle.mud_chron.specs.Text.{with_commas, in_quotes}
+use Rattle.mud_chron.specs.inner.Fields.{with_commas}
+use Rattle.mud_chron.specs.Text.{in_quotes}
 use Rattle.mud_chron.specs.inner.Fields.{Lacks, is_digit}
 use Rattle.mud_chron.specs.inner.Reader.{◌>>=◌, cut, without_miss, number_key_in, speech_in, meaning, names_before}
 use Rattle.mud_chron.specs.inner.Reader.{quoted_in, quoted_name_in}

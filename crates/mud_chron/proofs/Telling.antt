@@ -23,7 +23,7 @@ use Rattle.mud_chron.specs.Text.{line_feed, head_line, entry_line, entries_text,
 use Rattle.mud_chron.specs.Text.{history_text}
 use Rattle.mud_chron.specs.inner.Texts.{change_text, entry_text, begun_text, IsBad}
 use Rattle.mud_chron.specs.History.{HasLine, IsEntryOf, AreEntriesOf, SpellsHistory}
-use Rattle.mud_chron.specs.Faults.{IsNoHistory, Begins, HasFault}
+use Rattle.mud_chron.specs.Faults.{IsNoHistory, Begins, HasOtherLine, HasFault}
 use Rattle.mud_chron.specs.Laws.{SpellsOne, HasOneFault, FaultsAreNoTexts, IsWrittenAgain}
 use Rattle.mud_chron.specs.inner.Fields.{is_digit}
 use Rattle.mud_chron.specs.inner.Reader.{cut, entry_in}
@@ -233,13 +233,14 @@ told_fault : (bytes : List ℕ) (fault : ChronFault) → HasFault bytes fault �
 told_fault bytes OutOfMemory h = absurd h
 told_fault bytes (BadChange n) h = absurd h
 told_fault bytes NotHistory h = inl h
-told_fault bytes (BadLine n) (inl h) = inr (record {
-  format = h.format;
-  entries = h.entries;
-  rest = h.line ++ line_feed ++ h.rest;
-  begins = h.begins;
-  view = bad h.line h.rest n
-      (line_cut h.line h.rest (lacks_from LF h.line (recursion_from_All (λ b. b ≢ LF) h.line h.whole))) h.bad h.number;
+told_fault bytes (BadLine n) (inl h) = let s : HasOtherLine bytes n = h.stands in inr (record {
+  format = s.format;
+  entries = s.entries;
+  rest = s.line ++ line_feed ++ s.rest;
+  begins = s.begins;
+  view = bad s.line s.rest n
+      (line_cut s.line s.rest (lacks_from LF s.line (recursion_from_All (λ b. b ≢ LF) s.line s.whole)))
+      (s.other, h.no_end) s.number;
 })
 told_fault bytes (BadLine n) (inr h) =
     let few : length h.entries ≤ MOST_ENTRIES = h.begins.allowed.few in
@@ -334,7 +335,7 @@ alone bytes NotHistory none h = refl
 alone bytes (BadLine n) none (inl h) = absurd (go (told_fault bytes (BadLine n) (inl h)))
   where
     go : IsNoHistory bytes ⊎ Told bytes (Err (BadLine n)) → ⊥
-    go (inl z) = begun_at h.begins
+    go (inl z) = begun_at h.stands.begins
       where
         begun_at : {f : Format} {es : List Entry} {r : List ℕ} → Begins f es bytes r → ⊥
         begun_at {f = f} {es = es} {r = r} b =

@@ -1,17 +1,13 @@
 -- The faults of bytes that are no text of a history.
-use Rattle.std.specs.Prelude.{◌≡◌, ◌≢◌, ◌⊎◌, ℕ, ◌+◌, List, [], ◌++◌, length, All}
+use Rattle.std.specs.Prelude.{◌≡◌, ◌≢◌, ◌⊎◌, ℕ, ◌+◌, List, [], ◌++◌, length}
 use Rattle.mud_chron.specs.declared.fault.ChronFault.{ChronFault}
 use Rattle.mud_chron.specs.declared.fault.ChronFault.TheVariants.{NotHistory, BadLine, TooLong, NoEnd}
 use Rattle.mud_chron.specs.declared.format.Format.{Format}
-use Rattle.mud_key.specs.declared.codes.TheConstants.{LF}
+use Rattle.mud_key.specs.Lines.{HasNoLineFeed}
 use Rattle.mud_world.specs.declared.limits.TheConstants.{MOST_ENTRIES}
 use Rattle.mud_chron.specs.Entry.{Entry}
 use Rattle.mud_chron.specs.Text.{line_feed, head_line, entry_line, end_line, journal_text}
 use Rattle.mud_chron.specs.History.{IsEntryOf, AreEntriesOf}
-
--- bytes without a line feed
-abbrev pub HasNoLineFeed : List ℕ → Type 0
-HasNoLineFeed bytes = All (λ b. b ≢ LF) bytes
 
 -- the bytes begin with no first line
 abbrev pub IsNoHistory : List ℕ → Type 0
@@ -26,16 +22,21 @@ pub record Begins (format : Format) (entries : List Entry) (bytes rest : List �
 abbrev pub IsNoEntryLine : Format → ℕ → List ℕ → Type 0
 IsNoEntryLine format version line = (e : Entry) → IsEntryOf format e → line ≢ entry_line version e
 
--- after the lines of some entries stands line n, which is neither that of a next entry nor the last line after them
-pub record HasBadLine (bytes : List ℕ) (n : ℕ) : Type 0 where
+-- after the lines of some entries stands a whole line, line n, that is not the line of a next entry
+pub record HasOtherLine (bytes : List ℕ) (n : ℕ) : Type 0 where
   pub format : Format
   pub entries : List Entry
   pub line : List ℕ
   pub rest : List ℕ
   pub begins : Begins format entries bytes (line ++ line_feed ++ rest)
   pub whole : HasNoLineFeed line
-  pub bad : IsNoEntryLine format (length entries + 1) line × (line ≢ end_line (length entries))
+  pub other : IsNoEntryLine format (length entries + 1) line
   pub number : n ≡ length entries + 2
+
+-- line n is such a line, and it is not the last line after those entries either
+pub record HasBadLine (bytes : List ℕ) (n : ℕ) : Type 0 where
+  pub stands : HasOtherLine bytes n
+  pub no_end : stands.line ≢ end_line (length stands.entries)
 
 -- after a whole text stands at least one byte more, in line n
 pub record HasMore (bytes : List ℕ) (n : ℕ) : Type 0 where

@@ -1,6 +1,6 @@
 -- The text of a history: each value has one spelling, line by line.
 use Rattle.std.specs.Prelude.{ℕ, ◌+◌, List, [], ◌∷◌, ◌++◌, length, codes}
-use Rattle.std.specs.List.{flat_map}
+use Rattle.std.specs.List.{join_by}
 use Rattle.std.specs.Fmt.{decimal}
 use Rattle.mud_key.specs.Printed.{number_text, by_text, printed}
 use Rattle.mud_world.specs.declared.change.Target.{Target}
@@ -17,14 +17,9 @@ use Rattle.std.specs.Option.{option_map_or}
 abbrev pub line_feed : List ℕ
 line_feed = codes "\n"
 
--- the names with a comma between each two
-abbrev pub with_commas : List (List ℕ) → List ℕ
-with_commas [] = []
-with_commas (name ∷ names) = name ++ flat_map (λ other. codes "," ++ other) names
-
--- the names in double quotes
+-- the names, a comma between each two, in double quotes
 abbrev pub in_quotes : List (List ℕ) → List ℕ
-in_quotes names = codes "\"" ++ with_commas names ++ codes "\""
+in_quotes names = codes "\"" ++ join_by (λ name. name) (codes ",") names ++ codes "\""
 
 -- where a dig leads: to a new room, or to an old one
 abbrev pub target_text : Target → List ℕ

@@ -9,8 +9,7 @@ ghost use Rattle.mud_key.specs.Tree.{Tree, IsKey};
 ghost use Rattle.mud_key.specs.Printed.{number_text, by_text, printed};
 ghost use Rattle.mud_world.specs.Speech.{is_speech};
 ghost use Rattle.mud_chron.specs.Entry.{IsNumber};
-ghost use Rattle.mud_chron.specs.Text.{with_commas};
-ghost use Rattle.mud_chron.specs.inner.Fields.{Gives, digits_on, object_in};
+ghost use Rattle.mud_chron.specs.inner.Fields.{Gives, with_commas, digits_on, object_in};
 ghost use Rattle.mud_key.specs.Reading.{names_in, name_in};
 ghost use Rattle.mud_chron.specs.inner.Reader.{Tells, cut, number_up_to, object_before, speech_in, number_key_in};
 

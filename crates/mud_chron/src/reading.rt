@@ -3,7 +3,8 @@
 ghost use Rattle.std.specs.Prelude.{◌≡◌, ◌≢◌, ◌++◌, IfOk, IfErr, MatchOption};
 ghost use Rattle.mud_chron.specs.Text.{line_feed, head_line};
 ghost use Rattle.mud_chron.specs.History.{SpellsHistory};
-ghost use Rattle.mud_chron.specs.Faults.{HasNoLineFeed, IsNoHistory, HasFault};
+ghost use Rattle.mud_chron.specs.Faults.{IsNoHistory, HasFault};
+ghost use Rattle.mud_key.specs.Lines.{HasNoLineFeed};
 
 use crate::entry::Entry;
 use crate::fault::ChronFault;

@@ -7,7 +7,8 @@ ghost use Rattle.std.specs.List.{flat_map};
 ghost use Rattle.mud_key.specs.Printed.{number_text, by_text, printed};
 ghost use Rattle.mud_chron.specs.declared.format.Format.TheVariants.{Two};
 ghost use Rattle.mud_world.specs.declared.limits.TheConstants.{MOST_ENTRIES};
-ghost use Rattle.mud_chron.specs.Text.{with_commas, in_quotes, target_text, deed_text, entry_line, line_feed};
+ghost use Rattle.mud_chron.specs.Text.{in_quotes, target_text, deed_text, entry_line, line_feed};
+ghost use Rattle.mud_chron.specs.inner.Fields.{with_commas};
 ghost use Rattle.mud_chron.specs.Text.{entries_text, end_line, history_text};
 ghost use Rattle.mud_chron.specs.inner.Texts.{back_text, doors_text, change_text};
 

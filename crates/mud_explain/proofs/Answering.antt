@@ -2,7 +2,8 @@
 use Rattle.std.proofs.Common.{◌≡◌, ℕ, ◌<◌, List, [], ◌∷◌, ◌++◌, length, sym, ◌∙◌, ap, subst, append_assoc}
 use Rattle.std.proofs.lemmas.List.{append-nil}
 use Rattle.mud_nvt.specs.declared.codes.TheConstants.{LF}
-use Rattle.mud_explain.specs.Lines.{IsLine, Answers, at_end, last, next, AnswersOne}
+use Rattle.mud_explain.specs.Lines.{Answers, at_end, last, next, AnswersOne}
+use Rattle.mud_key.specs.Lines.{HasNoLineFeed}
 
 -- what is answered to the whole input once the rest of it is answered
 abbrev pub GoesOn : (List ℕ → List ℕ → Type 0) → List ℕ → List ℕ → List ℕ → Type 0
@@ -10,7 +11,7 @@ GoesOn Says input rest out = (later : List ℕ) → Answers Says rest later → 
 
 -- one more line is answered
 pub goes_on-next : (Says : List ℕ → List ℕ → Type 0) (input rest line behind old new : List ℕ)
-    → GoesOn Says input rest old → IsLine line → rest ≡ line ++ LF ∷ behind → AnswersOne Says line old new
+    → GoesOn Says input rest old → HasNoLineFeed line → rest ≡ line ++ LF ∷ behind → AnswersOne Says line old new
     → GoesOn Says input behind new
 goes_on-next Says input rest line behind old new on whole cut one later answers =
     let P : List ℕ → Type 0 = λ r. Answers Says r (one.answer ++ LF ∷ later) in
@@ -31,7 +32,8 @@ goes_on-end Says input rest out on empty =
 
 -- the last line has no LF after it
 pub goes_on-last : (Says : List ℕ → List ℕ → Type 0) (input rest old new : List ℕ)
-    → GoesOn Says input rest old → 0 < length rest → IsLine rest → AnswersOne Says rest old new → Answers Says input new
+    → GoesOn Says input rest old → 0 < length rest → HasNoLineFeed rest → AnswersOne Says rest old new
+    → Answers Says input new
 goes_on-last Says input rest old new on some whole one =
     let Q : List ℕ → Type 0 = λ o. Answers Says input o in
     subst Q (sym one.appended) (on (one.answer ++ LF ∷ []) (last some whole one.says))

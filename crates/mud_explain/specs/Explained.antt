@@ -1,5 +1,6 @@
 -- What is explained, and how.
-use Rattle.std.specs.Prelude.{◌≡◌, ℕ, List, ◌++◌, Option, Some, None, codes}
+use Rattle.std.specs.Prelude.{◌≡◌, ℕ, List, ◌++◌, Option, codes}
+use mathlib.Core.List.{IsPrefix}
 use Rattle.std.specs.Io.KnownBytes.{Appends}
 use Rattle.std.specs.Str.{IsUtf8}
 use Rattle.mud_nvt.specs.Units.{units}
@@ -35,13 +36,11 @@ abbrev pub Explains : Subject → List ℕ → List ℕ → Type 0
 Explains Units input out = out ≡ flat_map (λ unit. unit_text unit ++ codes "\n") (units input)
 Explains (Lines reading) input out = Answers (Says reading) input out
 
--- where the reader tells its bytes, exactly what explains them was written
-abbrev pub Writes : Subject → Option (List ℕ) → Option (List ℕ) → Option (List ℕ) → Type 0
-Writes subject None held now_held = Unit {0}
-Writes subject (Some input) held now_held = (out : List ℕ) × (Explains subject input out × Appends held now_held out)
+-- what explains the input was written
+abbrev pub Writes : Subject → List ℕ → Option (List ℕ) → Option (List ℕ) → Type 0
+Writes subject input held now_held = (out : List ℕ) × Explains subject input out × Appends held now_held out
 
--- where the reader tells its bytes, a front of what explains them was written
-abbrev pub WritesFront : Subject → Option (List ℕ) → Option (List ℕ) → Option (List ℕ) → Type 0
-WritesFront subject None held now_held = Unit {0}
-WritesFront subject (Some input) held now_held =
-    (front : List ℕ) × (rest : List ℕ) × (Explains subject input (front ++ rest) × Appends held now_held front)
+-- a front of what explains the input was written
+abbrev pub WritesFront : Subject → List ℕ → Option (List ℕ) → Option (List ℕ) → Type 0
+WritesFront subject input held now_held =
+    (out : List ℕ) × (front : List ℕ) × Explains subject input out × IsPrefix front out × Appends held now_held front

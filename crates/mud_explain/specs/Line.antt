@@ -1,28 +1,13 @@
 -- How the words of a line, and what the line says, are told.
-use Rattle.std.specs.Prelude.{ℕ, List, ◌++◌, codes}
+use Rattle.std.specs.Prelude.{ℕ, List, [], ◌++◌, codes, get_or}
 use Rattle.mud_words.specs.declared.Prep.{Prep}
-use Rattle.mud_words.specs.declared.Prep.TheVariants.{With, To, InFrontOf, In, OnTopOf, OutOf, Over, Through}
-use Rattle.mud_words.specs.declared.Prep.TheVariants.{Under, Behind, Beside, For, Is, As, Off}
+use Rattle.mud_words.specs.Prepositions.{phrases_of}
 use Rattle.mud_words.specs.Line.{Line}
 use Rattle.std.specs.Option.{option_map_or}
 
 -- a preposition by the first phrase that says it
 abbrev pub prep_text : Prep → List ℕ
-prep_text With = codes "with"
-prep_text To = codes "at"
-prep_text InFrontOf = codes "in front of"
-prep_text In = codes "in"
-prep_text OnTopOf = codes "on top of"
-prep_text OutOf = codes "out of"
-prep_text Over = codes "over"
-prep_text Through = codes "through"
-prep_text Under = codes "under"
-prep_text Behind = codes "behind"
-prep_text Beside = codes "beside"
-prep_text For = codes "for"
-prep_text Is = codes "is"
-prep_text As = codes "as"
-prep_text Off = codes "off"
+prep_text prep = get_or (phrases_of prep) 0 []
 
 -- what a line says
 abbrev pub line_text : Line → List ℕ

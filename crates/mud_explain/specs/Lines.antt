@@ -1,14 +1,14 @@
 -- An input that is read line by line.
 use Rattle.std.specs.Prelude.{ℕ, ◌<◌, ◌≡◌, List, [], ◌∷◌, ◌++◌, length}
 use Rattle.mud_nvt.specs.declared.codes.TheConstants.{LF}
-pub use Rattle.mud_chron.specs.Faults.{HasNoLineFeed as IsLine}
+use Rattle.mud_key.specs.Lines.{HasNoLineFeed}
 
 -- each line of the input is answered by one line; a line ends at LF, and a last one without LF counts
 pub data Answers (Says : List ℕ → List ℕ → Type 0) : List ℕ → List ℕ → Type 0 where
   at_end : Answers Says [] []
-  last : {line answer : List ℕ} → 0 < length line → IsLine line → Says line answer
+  last : {line answer : List ℕ} → 0 < length line → HasNoLineFeed line → Says line answer
       → Answers Says line (answer ++ LF ∷ [])
-  next : {line answer rest out : List ℕ} → IsLine line → Says line answer → Answers Says rest out
+  next : {line answer rest out : List ℕ} → HasNoLineFeed line → Says line answer → Answers Says rest out
       → Answers Says (line ++ LF ∷ rest) (answer ++ LF ∷ out)
 
 -- one more line is answered; only a clause of a private part cites it

@@ -1,6 +1,6 @@
 -- Texts between brackets.
-use Rattle.std.specs.Prelude.{ℕ, List, [], ◌∷◌, ◌++◌, codes}
-use Rattle.std.specs.List.{flat_map}
+use Rattle.std.specs.Prelude.{ℕ, List, ◌++◌, codes}
+use Rattle.std.specs.List.{join_by}
 
 -- a text between brackets
 abbrev pub in_brackets : List ℕ → List ℕ
@@ -8,5 +8,4 @@ in_brackets text = codes "[" ++ text ++ codes "]"
 
 -- texts, each between brackets, with one space between each two
 abbrev pub bracket_all : List (List ℕ) → List ℕ
-bracket_all [] = []
-bracket_all (text ∷ texts) = in_brackets text ++ flat_map (λ t. codes " " ++ in_brackets t) texts
+bracket_all texts = join_by in_brackets (codes " ") texts

@@ -71,12 +71,13 @@ pub(crate) fn explain<R: Read, W: Write>(
     sink: &mut Sink<W>,
 ) -> Result<(), ExplainFault>
     requires no_end { source.old.at_end ≡ false }
-    ensures ok { OnOk result (Writes subject source.old.left sink.old.holds sink.new.holds) }
+    ensures ok { OnOk result
+        (IfSome source.old.left (λ input. Writes subject input sink.old.holds sink.new.holds)) }
     ensures end { OnOk result (IsAtEnd source.new.left) }
     ensures read { result ≡ Err ExplainFault.Read ↔ source.new.has_failed ≡ true }
     ensures write { result ≡ Err ExplainFault.Write → sink.new.has_failed ≡ true }
     ensures front { result ≡ Err ExplainFault.Write →
-        WritesFront subject source.old.left sink.old.holds sink.new.holds }
+        IfSome source.old.left (λ input. WritesFront subject input sink.old.holds sink.new.holds) }
     ensures nothing { result ≡ Err ExplainFault.Read ⊎ result ≡ Err ExplainFault.OutOfMemory →
         Keeps sink.old.holds sink.new.holds }
 {

@@ -84,7 +84,7 @@ right below known f (Some p) (verdict.Ask (query.Proof j)) a version (g, guided,
     let i : IsTold w (length f) p j g = told known w (length f) p j g guided in
     let R : Option Certificate → Type 0 =
     λ c. TellsJourney w p j (string_bytes g.text) c × TellsProof c a.text × IsCertified f c in
-    let r : R a.cert = subst R (sym is.cert_is) (i.told, is.text, certified below f g.cert i.good) in
+    let r : R a.cert = subst R (sym is.1) (i.told, is.0, certified below f g.cert i.good) in
     (string_bytes g.text, version, r.0, r.1, r.2)
 right below known f (Some p) (verdict.Ask (query.View view)) a version h = tt
 right below known f (Some p) (verdict.Ask query.History) a version h = tt

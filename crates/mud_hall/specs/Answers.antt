@@ -40,9 +40,8 @@ IsGuided w v (Some p) (Route to) g = IsRouteAnswer w v p to g
 IsGuided w v (Some p) (Meet party) g = IsMeetAnswer w v party g
 
 -- the answer is the text of this certificate; its last line has no end
-pub record IsProof (cert : Option Certificate) (a : Answered) : Type 0 where
-  pub text : IsSomeAnd cert (λ c. a.text ++ codes "\n" ≡ codes "proof\n" ++ cert_text c)
-  pub cert_is : a.cert ≡ cert
+abbrev pub IsProof : Option Certificate → Answered → Type 0
+IsProof cert a = IsSomeAnd cert (λ c. a.text ++ codes "\n" ≡ codes "proof\n" ++ cert_text c) × (a.cert ≡ cert)
 
 -- the answer is the text of the certificate of the guide's answer
 abbrev pub IsProven : State → ℕ → Option ℕ → Journey → Answer → Type 0

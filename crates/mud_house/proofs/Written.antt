@@ -19,8 +19,7 @@ use Rattle.mud_journal.specs.Disk.{Kept, Holds}
 use Rattle.mud_house.specs.declared.fault.ListenFault.{ListenFault}
 use Rattle.mud_house.specs.declared.fault.ListenFault.TheVariants.{OutOfMemory, Write}
 use Rattle.mud_house.specs.declared.limits.Limits.{Limits}
-use Rattle.mud_house.specs.Listening.{MayEnd, Opening, Settles, SettlesInPart, IsListenFault, lines_of}
-use Rattle.mud_house.specs.Listening.{opening_lines, web_line}
+use Rattle.mud_house.specs.Listening.{MayEnd, Opening, Settles, SettlesInPart, IsListenFault, lines_of, opening_lines}
 
 abbrev number_of : View → ℕ
 number_of d = d.state.number
@@ -54,11 +53,12 @@ pub two_lines : (telnet web : ℕ)
     → codes "listening on " ++ (decimal telnet ++ (codes "\nweb on " ++ (decimal web ++ codes "\n")))
     ≡ opening_lines telnet (Some web)
 two_lines telnet web =
-    ap (λ (l : List ℕ). codes "listening on " ++ l) (sym (append_assoc (decimal telnet) line_feed (web_line web)))
+    let web_line : List ℕ = codes "web on " ++ decimal web ++ line_feed in
+    ap (λ (l : List ℕ). codes "listening on " ++ l) (sym (append_assoc (decimal telnet) line_feed web_line))
 
 -- the lines of these ports
 abbrev pub opened : (has_web : Bool) (port : ℕ) (web : Option ℕ) → is_some web ≡ has_web → Opening has_web
-opened has_web port web named = record { port = port; web = web; named = named }
+opened has_web port web named = (port, web, named)
 
 some_opening : (has_web : Bool) → Opening has_web
 some_opening true = opened true 0 (Some 0) refl

@@ -15,18 +15,11 @@ use Rattle.mud_house.specs.declared.limits.Limits.{Limits}
 use Rattle.mud_house.specs.declared.fault.ListenFault.{ListenFault}
 use Rattle.mud_house.specs.declared.fault.ListenFault.TheVariants.{Write, Load}
 
--- the line that names the port
-abbrev pub listening_line : ℕ → List ℕ
-listening_line port = codes "listening on " ++ decimal port ++ line_feed
-
--- the line that names the port of the door on the web
-abbrev pub web_line : ℕ → List ℕ
-web_line port = codes "web on " ++ decimal port ++ line_feed
-
 -- the lines that name the ports: first that of Telnet, and then that of the door on the web, if there is one
 abbrev pub opening_lines : ℕ → (web : Option ℕ) → List ℕ
-opening_lines port None = listening_line port
-opening_lines port (Some web) = listening_line port ++ web_line web
+opening_lines port None = codes "listening on " ++ decimal port ++ line_feed
+opening_lines port (Some web) =
+    (codes "listening on " ++ decimal port ++ line_feed) ++ (codes "web on " ++ decimal web ++ line_feed)
 
 -- a history to end with: a hall can begin with it, and after what was loaded come no more desks than sessions at once
 pub record MayEnd (limits : Limits) (loaded history : List Entry) : Type 0 where
@@ -36,14 +29,12 @@ pub record MayEnd (limits : Limits) (loaded history : List Entry) : Type 0 where
   pub few : length desks ≤ limits.sessions
   pub of_desks : All (λ e. Contains desks e.desk) (entries_made loaded history)
 
--- the lines of some ports: one is of the web exactly where there is a door on the web
-pub record Opening (has_web : Bool) : Type 0 where
-  pub port : ℕ
-  pub web : Option ℕ
-  pub named : is_some web ≡ has_web
+-- some ports: one is of the web exactly where there is a door on the web
+abbrev pub Opening : Bool → Type 0
+Opening has_web = (port : ℕ) × (web : Option ℕ) × (is_some web ≡ has_web)
 
 abbrev pub lines_of : (has_web : Bool) → Opening has_web → List ℕ
-lines_of has_web opening = opening_lines opening.port opening.web
+lines_of has_web opening = opening_lines opening.0 opening.1
 
 -- the lines of some ports were written, and after them the whole text of a history that a server may end with
 pub record Settles (limits : Limits) (has_web : Bool) (loaded : List Entry)

@@ -57,7 +57,7 @@ pub goes_on : GoesOn
 goes_on disk got keep r = go r.ends
   where
     go : EndsInHead disk.appended Two got keep ⊎ EndsInLine disk.appended Two got keep → Begins (Some disk) keep got
-    go (inl new) = inr (new.keep_is, new.none)
-    go (inr line) =
-        inl (ap (take keep) line.spelled ∙ ap (λ n. take n (journal_text Two got ++ line.torn)) line.keep_is
-        ∙ take-append_seam (journal_text Two got) line.torn)
+    go (inl (unended, begins, format_is, none, keep_is)) = inr (keep_is, none)
+    go (inr (torn, spelled, unended, keep_is)) =
+        inl (ap (take keep) spelled ∙ ap (λ n. take n (journal_text Two got ++ torn)) keep_is
+        ∙ take-append_seam (journal_text Two got) torn)

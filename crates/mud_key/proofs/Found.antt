@@ -18,7 +18,7 @@ use Rattle.mud_key.specs.inner.NameReader.{Stand, name_run, name_start, names_at
 use Rattle.mud_key.specs.KeyText.{SpellsKey, ReadsAs}
 use Rattle.mud_key.specs.inner.Machine.{run, start, State, Mode, chain_at_end}
 use Rattle.mud_key.specs.inner.Builder.{outer_settled}
-use Rattle.mud_key.specs.Reading.{names_in, name_in, key_in, is_within_limits, FindsNames, FindsName, FindsKey}
+use Rattle.mud_key.specs.Reading.{names_in, name_in, key_in, is_within_limits, Finds, FindsKey}
 use Rattle.mud_key.specs.Laws.{IsTheName, IsTheKey}
 use Rattle.mud_key.proofs.NamesSound.{names_sound}
 use Rattle.mud_key.proofs.NamesTaken.{names_taken, each_name, one_list}
@@ -40,7 +40,7 @@ names_law = λ text names. (
 )
 
 pub names_found : (text : List ℕ) (result : Result (List (List ℕ)) NamesFault) → NamesReadAs text result
-    → FindsNames text result
+    → Finds (names_in text) result
 names_found text (Ok names) h = (names_law text names).1 h
 names_found text (Err NoMemory) h = tt
 names_found text (Err BadName) h = none (names_in text) refl
@@ -49,7 +49,7 @@ names_found text (Err BadName) h = none (names_in text) refl
     none None e = e
     none (Some names) e = absurd (h names ((names_law text names).0 e))
 
-pub names_read : (text : List ℕ) (result : Result (List (List ℕ)) NamesFault) → FindsNames text result
+pub names_read : (text : List ℕ) (result : Result (List (List ℕ)) NamesFault) → Finds (names_in text) result
     → NamesReadAs text result
 names_read text (Ok names) found = (names_law text names).0 found
 names_read text (Err NoMemory) found = tt
@@ -105,7 +105,8 @@ name_law = λ text name. (
       ∙ ap Some (sym is.0)),
 )
 
-pub name_found : (text : List ℕ) (result : Result (List ℕ) NamesFault) → NameReadsAs text result → FindsName text result
+pub name_found : (text : List ℕ) (result : Result (List ℕ) NamesFault) → NameReadsAs text result
+    → Finds (name_in text) result
 name_found text (Ok name) h = (name_law text name).1 h
 name_found text (Err NoMemory) h = tt
 name_found text (Err BadName) h = none (name_in text) refl

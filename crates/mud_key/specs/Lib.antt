@@ -2,6 +2,7 @@ pub mod Tree
 pub mod TreeCode
 pub mod Name
 pub mod Names
+pub mod Lines
 pub mod Parts
 pub mod Node
 pub mod KeyText

@@ -32,17 +32,13 @@ key_in text =
     option_and_then (λ key. if is_within_limits key then Some key else None)
     (option_and_then (λ s. outer_settled s.0 s.1) (machine.run machine.start text))
 
--- unless memory ran out, the names that were found, or a fault where none were
-abbrev pub FindsNames : List ℕ → Result (List (List ℕ)) NamesFault → Type 0
-FindsNames text (Ok names) = names_in text ≡ Some names
-FindsNames text (Err NoMemory) = Unit {0}
-FindsNames text (Err BadName) = names_in text ≡ None
+-- unless memory ran out, what is in the text was found, or a fault where nothing is
+abbrev pub Finds : {A : Type 0} → Option A → Result A NamesFault → Type 0
+Finds found (Ok it) = found ≡ Some it
+Finds found (Err NoMemory) = Unit {0}
+Finds found (Err BadName) = found ≡ None
 
-abbrev pub FindsName : List ℕ → Result (List ℕ) NamesFault → Type 0
-FindsName text (Ok name) = name_in text ≡ Some name
-FindsName text (Err NoMemory) = Unit {0}
-FindsName text (Err BadName) = name_in text ≡ None
-
+-- unless memory ran out, the key that was found, or a fault where there is none
 abbrev pub FindsKey : List ℕ → Result (Tree (List ℕ)) KeyFault → Type 0
 FindsKey text (Ok key) = key_in text ≡ Some key
 FindsKey text (Err OutOfMemory) = Unit {0}

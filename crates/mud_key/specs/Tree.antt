@@ -24,13 +24,6 @@ nots_of (Asks o) = 0
 nots_of (Not k) = nots_of k + 1
 nots_of (Join op a b) = nots_of a + nots_of b
 
--- how many nodes the key has
-abbrev pub size_of : {O : Type 0} → Tree O → ℕ
-size_of (Has o) = 1
-size_of (Asks o) = 1
-size_of (Not k) = size_of k + 1
-size_of (Join op a b) = size_of a + size_of b + 1
-
 -- P holds of each object of the key
 abbrev pub AllObjects : {O : Type 0} → (O → Type 0) → Tree O → Type 0
 AllObjects P (Has o) = P o

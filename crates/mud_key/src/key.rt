@@ -1,7 +1,7 @@
 //! A key over objects.
 
-ghost use Rattle.std.specs.Prelude.{◌≡◌, ◌≤◌, ◌++◌, IfOk, OnOk};
-ghost use Rattle.mud_key.specs.Tree.{Not, Join, IsKey, size_of, atoms_of, asks_of};
+ghost use Rattle.std.specs.Prelude.{◌≡◌, ◌++◌, IfOk, OnOk};
+ghost use Rattle.mud_key.specs.Tree.{Not, Join, IsKey, atoms_of, asks_of};
 ghost use Rattle.mud_key.specs.Node.{key_of};
 
 use crate::node::Node;
@@ -40,12 +40,10 @@ impl Key {
         Key { tree }
     }
 
-    /// The node on top, from which a recursion goes down. By `small` such a recursion and one over
-    /// levels of keys have a measure together: 96 times the levels, and the size.
+    /// The node on top, from which a recursion goes down.
     pub fn node(&self) -> &Node<u32>
         ensures node { key_of result.now ≡ self.now }
         ensures key { IsKey self.now }
-        ensures small { size_of self.now ≤ 95 }
     {
         &self.tree
     }

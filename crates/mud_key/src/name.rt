@@ -3,7 +3,7 @@
 ghost use Rattle.std.specs.Prelude.{◌≡◌, IfOk, map, string_bytes};
 ghost use Rattle.mud_key.specs.Name.{IsName};
 ghost use Rattle.mud_key.specs.inner.NamesTexts.{is_only};
-ghost use Rattle.mud_key.specs.Reading.{FindsName};
+ghost use Rattle.mud_key.specs.Reading.{name_in, Finds};
 
 use crate::names::{Names, NamesFault};
 use std::alloc::{AllocError, Global};
@@ -31,7 +31,7 @@ impl Name {
     /// The name that a text is. No space is dropped, and no comma parts it: exactly the names are
     /// read.
     pub fn read(alloc: Global, text: &str) -> Result<Name, NamesFault>
-        ensures finds { FindsName text.now result }
+        ensures finds { Finds (name_in text.now) result }
     {
         let names = match Names::read(alloc, text) {
             Ok(names) => names,

@@ -1,7 +1,7 @@
 //! The names of an object.
 
 ghost use Rattle.std.specs.Prelude.{◌≡◌, [], ◌∷◌, IfOk, map, string_bytes};
-ghost use Rattle.mud_key.specs.Reading.{FindsNames};
+ghost use Rattle.mud_key.specs.Reading.{names_in, Finds};
 ghost use Rattle.mud_key.specs.Names.{AreNames};
 ghost use Rattle.mud_key.specs.inner.NamesTexts.{NamesReadAs};
 
@@ -56,7 +56,7 @@ impl Names {
     /// The names of a text: separated by commas, with spaces round each, which are dropped.
     /// Exactly the names texts are read (docs/KEYS.md, "Names"); any other text is `BadName`.
     pub fn read(alloc: Global, text: &str) -> Result<Names, NamesFault>
-        ensures finds { FindsNames text.now result }
+        ensures finds { Finds (names_in text.now) result }
     {
         Names::read_text(alloc, text)
     }

@@ -1,16 +1,11 @@
 -- A list for each number.
-use Rattle.std.specs.Prelude.{◌≡◌, ◌⊎◌, IsTrue, ℕ, ◌+◌, Bool, List, [], ◌∷◌, nat_eq, if◌then◌else◌}
+use Rattle.std.specs.Prelude.{◌≡◌, ◌⊎◌, IsTrue, ℕ, Bool, List, [], nat_eq, if◌then◌else◌}
 use Rattle.std.specs.Option.{unwrap_or}
 use Rattle.std.specs.Map.{lookup}
 
 -- the list of holder n
 abbrev pub list_at : List (ℕ × List ℕ) → ℕ → List ℕ
 list_at lists n = unwrap_or (lookup (nat_eq n) lists) []
-
--- the lists with their numbers, of which n is the first. A reader need not look into this: `list_at` is what is asked
-abbrev pub with_numbers : ℕ → List (List ℕ) → List (ℕ × List ℕ)
-with_numbers n [] = []
-with_numbers n (list ∷ lists) = (n, list) ∷ with_numbers (n + 1) lists
 
 -- each number has the same list
 abbrev pub AreSame : List (ℕ × List ℕ) → List (ℕ × List ℕ) → Type 0

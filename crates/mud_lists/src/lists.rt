@@ -29,11 +29,11 @@ impl Drop for Lists {
 
 impl Model for Lists {
     ghost use Rattle.std.specs.Prelude.{ℕ, List};
-    ghost use Rattle.mud_lists.specs.Lists.{with_numbers};
+    ghost use Rattle.std.specs.List.{enumerate_from};
 
     ghost Value = { List (ℕ × List ℕ) };
 
-    ghost view = { λ a. with_numbers 0 a.lists.items };
+    ghost view = { λ a. enumerate_from 0 a.lists.items };
 }
 
 // The list at a place; the empty list, where there is no such place.

@@ -7,7 +7,7 @@ use Rattle.mud_world.specs.Legal.{refusal, after as world_after}
 use Rattle.mud_roads.specs.declared.label.Label.{Label}
 use Rattle.mud_roads.specs.declared.label.Step.{Step}
 use Rattle.mud_roads.specs.Walks.{Roads, Walk, total, IsLeast, NoWalk, Least, IsRoute, Goer, HasLeast, IsMeeting}
-use Rattle.mud_roads.specs.Walks.{NoMeeting}
+use Rattle.mud_roads.specs.Walks.{Gathers}
 use Rattle.mud_roads.specs.Labels.{AreValid}
 use Rattle.mud_roads.specs.Open.{passable, roads_of}
 
@@ -63,4 +63,5 @@ abbrev pub MeetingIsAlike : Type 0
 MeetingIsAlike =
     (hop hop' : ℕ) (party : List Goer)
     → ((room cost : ℕ) → IsMeeting (HasLeast hop) party room cost → IsMeeting (HasLeast hop') party room cost)
-    × (NoMeeting (HasLeast hop) party → NoMeeting (HasLeast hop') party)
+    × (((room cost : ℕ) → Gathers (HasLeast hop) party room cost → ⊥)
+    → (room cost : ℕ) → Gathers (HasLeast hop') party room cost → ⊥)

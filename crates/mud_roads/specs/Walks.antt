@@ -79,7 +79,3 @@ pub record Gathers {A : Type 0} (Has : A → ℕ → Option Label → Type 0) (p
 pub record IsMeeting {A : Type 0} (Has : A → ℕ → Option Label → Type 0) (party : List A) (room cost : ℕ) : Type 0 where
   pub gathers : Gathers Has party room cost
   pub best : (r c : ℕ) → Gathers Has party r c → (cost < c) ⊎ ((cost ≡ c) × (room ≤ r))
-
--- there is no room of which each has a label
-abbrev pub NoMeeting : {A : Type 0} → (A → ℕ → Option Label → Type 0) → List A → Type 0
-NoMeeting Has party = (r c : ℕ) → Gathers Has party r c → ⊥

@@ -46,7 +46,7 @@ use Rattle.mud_rules.specs.declared.verdict.View.TheVariants.{Look, LookAt}
 use Rattle.mud_rules.specs.declared.verdict.Query.TheVariants as query
 use Rattle.mud_rules.specs.declared.verdict.Verdict.{Verdict}
 use Rattle.mud_rules.specs.declared.verdict.Verdict.TheVariants as verdict
-use Rattle.mud_rules.specs.Matching.{is_empty, number_in, local_match, room_match, object_number}
+use Rattle.mud_rules.specs.Matching.{is_empty, number_in, local_match, match_among, object_number}
 use Rattle.mud_rules.specs.Outcome.{outcome, does, does_read, object_meant, of_kind, on_found, if_shaped}
 use Rattle.mud_rules.specs.Outcome.{IsActor, IsJourney, IsQuestion, IsLawful}
 use Rattle.mud_rules.specs.declared.verdict.Journey.{Journey}
@@ -340,7 +340,7 @@ journey-is : (w : State) (p : ℕ) (l : Line) (o : Option Verb) → IfOk (journe
 journey-is w p l None = tt
 journey-is w p l (Some verb.Route) =
     journey-if w (is_aimed To l) (route w p l.indirect) (Err NotUnderstood)
-    (route-of w _ (kind-is (is_room w) (object_meant NoSuch (room_match w p l.indirect)))) tt
+    (route-of w _ (kind-is (is_room w) (object_meant NoSuch (match_among (is_room w) w p l.indirect)))) tt
 journey-is w p l (Some verb.Meet) =
     journey-if w (is_empty (all_of l)) (Err NotUnderstood) (meet w p (all_of l)) tt (meet-lawful w p (all_of l))
 journey-is w p l (Some other) = tt

@@ -11,7 +11,7 @@ use Rattle.mud_world.specs.declared.refusal.Refusal.{Refusal}
 use Rattle.mud_world.specs.declared.refusal.Refusal.TheVariants.{NoSuch, WrongKind, PartyBad}
 use Rattle.mud_world.specs.Refusals.{number, lesser, refused_if}
 use Rattle.mud_world.specs.State.{State, is_player}
-use Rattle.mud_rules.specs.Matching.{player_match}
+use Rattle.mud_rules.specs.Matching.{match_among}
 use Rattle.mud_rules.specs.Party.{IsParty, all_distinct, is_party}
 use Rattle.mud_rules.specs.Journeys.{player_meant, least_refusal}
 use Rattle.mud_rules.specs.inner.Parts.{members, meet}
@@ -68,7 +68,8 @@ pub members_are_players : (w : State) (p : ℕ) (texts : List (List ℕ))
     → All (λ n. IsTrue (is_player w n)) (members (map (player_meant w p) texts))
 members_are_players w p [] = All-nil (λ n. IsTrue (is_player w n))
 members_are_players w p (text ∷ texts) =
-    one_more w (meant NoSuch (player_match w p text)) (map (player_meant w p) texts) (members_are_players w p texts)
+    one_more w (meant NoSuch (match_among (is_player w) w p text)) (map (player_meant w p) texts)
+    (members_are_players w p texts)
 
 never_none : (f : Refusal) (other : Option Refusal) → lesser (Some f) other ≡ None → ⊥
 never_none f None is = cc

@@ -9,13 +9,13 @@ use Rattle.mud_world.specs.Refusals.{refused_if, lesser}
 use Rattle.mud_world.specs.State.{State, is_player}
 use Rattle.mud_rules.specs.declared.verdict.Journey.{Journey}
 use Rattle.mud_rules.specs.declared.verdict.Journey.TheVariants.{Meet}
-use Rattle.mud_rules.specs.Matching.{player_match}
+use Rattle.mud_rules.specs.Matching.{match_among}
 use Rattle.mud_rules.specs.Outcome.{object_meant, of_kind}
 use Rattle.mud_rules.specs.Party.{is_party}
 
 -- the player that a text means
 abbrev pub player_meant : State → ℕ → List ℕ → Result ℕ Refusal
-player_meant w p text = of_kind (is_player w) (object_meant NoSuch (player_match w p text))
+player_meant w p text = of_kind (is_player w) (object_meant NoSuch (match_among (is_player w) w p text))
 
 -- the least refusal of the parts, where one of them has any
 abbrev pub least_refusal : List (Result ℕ Refusal) → Option Refusal

@@ -9,7 +9,7 @@ use Rattle.std.specs.Str.{str_eq_ignore_ascii_case}
 use Rattle.mud_key.specs.declared.codes.TheConstants.{SHARP}
 use Rattle.mud_key.specs.declared.limits.TheConstants.{MOST_DIGITS}
 pub use Rattle.mud_words.specs.Laws.{is_empty}
-use Rattle.mud_world.specs.State.{State, has, exists, is_room, is_player, place_of, contents_of, leaving_of}
+use Rattle.mud_world.specs.State.{State, has, exists, place_of, contents_of, leaving_of}
 use Rattle.mud_rules.specs.declared.matching.Likeness.{Likeness}
 use Rattle.mud_rules.specs.declared.matching.Likeness.TheVariants.{Equal, Prefix}
 use Rattle.mud_rules.specs.declared.matching.Match.{Match}
@@ -73,10 +73,6 @@ candidates w player =
 abbrev pub local_match : State → ℕ → List ℕ → Result ℕ Match
 local_match w player text = match_with w player (candidates w player) text
 
--- the same with all rooms as candidates
-abbrev pub room_match : State → ℕ → List ℕ → Result ℕ Match
-room_match w player text = match_with w player (filter (is_room w) (range_with_len 0 w.next)) text
-
--- the same with all players as candidates
-abbrev pub player_match : State → ℕ → List ℕ → Result ℕ Match
-player_match w player text = match_with w player (filter (is_player w) (range_with_len 0 w.next)) text
+-- the same with all objects that pass the test as candidates
+abbrev pub match_among : (ℕ → Bool) → State → ℕ → List ℕ → Result ℕ Match
+match_among test w player text = match_with w player (filter test (range_with_len 0 w.next)) text

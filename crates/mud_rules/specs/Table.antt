@@ -25,7 +25,7 @@ use Rattle.mud_rules.specs.declared.verdict.Journey.{Journey}
 use Rattle.mud_rules.specs.declared.verdict.Query.TheVariants as query
 use Rattle.mud_rules.specs.declared.verdict.Verdict.{Verdict}
 use Rattle.mud_rules.specs.declared.verdict.Verdict.TheVariants.{Ask, Refused, Become}
-use Rattle.mud_rules.specs.Matching.{is_empty, sole_like, number_in, room_match}
+use Rattle.mud_rules.specs.Matching.{is_empty, sole_like, number_in, match_among}
 use Rattle.mud_rules.specs.Outcome.{does, object_meant, on_found, if_shaped, outcome, does_read, of_kind}
 use Rattle.mud_rules.specs.Commands.{give, key_meant, doors_in, target_in, dig_between, is_bar, kind_then_here}
 use Rattle.mud_rules.specs.Shapes.{all_of, looked_at, is_pair, text_behind, is_prep}
@@ -79,7 +79,7 @@ connect_line w l =
 abbrev pub journey_of : State → ℕ → Line → Option Verb → Result Journey Refusal
 journey_of w p l (Some verb.Route) =
     if is_prep To l.prep && (is_empty l.direct && not (is_empty l.indirect)) then
-    result_map_both Route (λ f. f) (of_kind (is_room w) (object_meant NoSuch (room_match w p l.indirect)))
+    result_map_both Route (λ f. f) (of_kind (is_room w) (object_meant NoSuch (match_among (is_room w) w p l.indirect)))
     else Err NotUnderstood
 journey_of w p l (Some verb.Meet) =
     if is_empty (all_of l) then Err NotUnderstood else meeting (map (player_meant w p) (parts_of (all_of l)))

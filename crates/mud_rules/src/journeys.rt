@@ -3,7 +3,7 @@
 ghost use Rattle.std.specs.Prelude.{◌≡◌, map, IfOk};
 ghost use Rattle.mud_key.specs.Parts.{parts_of};
 ghost use Rattle.mud_world.specs.State.{is_room};
-ghost use Rattle.mud_rules.specs.Matching.{room_match};
+ghost use Rattle.mud_rules.specs.Matching.{match_among};
 ghost use Rattle.mud_rules.specs.Party.{all_distinct, is_party};
 ghost use Rattle.mud_rules.specs.Outcome.{object_meant, of_kind};
 ghost use Rattle.mud_rules.specs.Journeys.{player_meant, meeting, least_refusal};
@@ -23,7 +23,8 @@ impl Actor<'_> {
     // The room that a text means.
     fn room_meant(&self, text: &str) -> Result<u32, Refusal>
         ensures { result ≡ of_kind (is_room self.now.world.now)
-            (object_meant Refusal.NoSuch (room_match self.now.world.now self.now.player text.now)) }
+            (object_meant Refusal.NoSuch
+            (match_among (is_room self.now.world.now) self.now.world.now self.now.player text.now)) }
     {
         match object_meant(room_match(self.world, self.player, text)) {
             Ok(room) if !self.world.is_room(room) => Err(Refusal::WrongKind),

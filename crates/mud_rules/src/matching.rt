@@ -6,9 +6,9 @@ ghost use Rattle.mud_key.specs.declared.limits.TheConstants.{MOST_DIGITS};
 ghost use Rattle.mud_rules.specs.declared.matching.Likeness.TheVariants.{Equal, Prefix};
 ghost use Rattle.mud_rules.specs.Matching.{is_like, sole_like, or_else, number_in, object_number};
 ghost use Rattle.mud_rules.specs.inner.Parts.{is_named, digits_value};
-ghost use Rattle.mud_rules.specs.Matching.{candidates, match_with, local_match, room_match, player_match};
+ghost use Rattle.mud_rules.specs.Matching.{candidates, match_with, local_match, match_among};
 ghost use Rattle.mud_rules.specs.inner.Steps.{direct_match, fits, sole_fit, together, is_sort};
-ghost use Rattle.mud_world.specs.State.{exists, place_of};
+ghost use Rattle.mud_world.specs.State.{exists, is_room, is_player, place_of};
 
 use crate::comparing::is_same;
 use mud_key::codes::SHARP;
@@ -60,7 +60,7 @@ pub fn local_match(world: &World, player: u32, text: &str) -> Result<u32, Match>
 /// The room that a text means to a player: as [`local_match`], with all rooms as candidates. By
 /// `#n`, `me` or `here` it may be an object of another kind.
 pub fn room_match(world: &World, player: u32, text: &str) -> Result<u32, Match>
-    ensures { result ≡ room_match world.now player text.now }
+    ensures { result ≡ match_among (is_room world.now) world.now player text.now }
 {
     sort_match(world, Sort::Rooms, player, text)
 }
@@ -68,15 +68,14 @@ pub fn room_match(world: &World, player: u32, text: &str) -> Result<u32, Match>
 /// The player that a text means to a player: as [`local_match`], with all players as candidates. By
 /// `#n` or `here` it may be an object of another kind.
 pub fn player_match(world: &World, player: u32, text: &str) -> Result<u32, Match>
-    ensures { result ≡ player_match world.now player text.now }
+    ensures { result ≡ match_among (is_player world.now) world.now player text.now }
 {
     sort_match(world, Sort::Players, player, text)
 }
 
 // The same with all objects of a sort as candidates.
 fn sort_match(world: &World, sort: Sort, player: u32, text: &str) -> Result<u32, Match>
-    ensures { result ≡ match_with world.now player
-        (filter (is_sort sort world.now) (range_with_len 0 world.now.next)) text.now }
+    ensures { result ≡ match_among (is_sort sort world.now) world.now player text.now }
 {
     if let Some(answer) = direct_match(world, player, text) {
         return answer;

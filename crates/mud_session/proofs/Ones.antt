@@ -67,7 +67,7 @@ shown-one h player (query.Journey j) a b x y =
     ap (λ (z : Answered). z.text) x.2 ∙ (guided-one h player j x.0 y.0 x.1 y.1).1
     ∙ sym (ap (λ (z : Answered). z.text) y.2)
 shown-one h player (query.Proof j) a b x y =
-    proof-one a.text b.text x.0.cert y.0.cert (guided-one h player j x.0 y.0 x.1 y.1).2 x.2.text y.2.text
+    proof-one a.text b.text x.0.cert y.0.cert (guided-one h player j x.0 y.0 x.1 y.1).2 x.2.0 y.2.0
 shown-one h player query.History a b x y = append_cancel_right a.text b.text (codes "\n") (x.0 ∙ sym y.0)
 
 shows-one : (h : List Entry) (player : Option ℕ) (v : Verdict) (a b : Answered) → Shows h player v a

@@ -12,7 +12,7 @@ use Rattle.std.proofs.lemmas.List.{take_all, take_more, take-set-le, drop-set, a
 use Rattle.std.proofs.lemmas.List.Concat.{flat_map-append}
 use Rattle.std.proofs.lemmas.List.Elements.{All-head, All-tail}
 use Rattle.mud_nvt.specs.declared.codes.TheConstants.{LF, CR}
-use Rattle.mud_chron.specs.Faults.{HasNoLineFeed}
+use Rattle.mud_key.specs.Lines.{HasNoLineFeed}
 use Rattle.mud_session.specs.Session.{wire_text, with_version}
 use Rattle.mud_session.specs.inner.Parts.{on_wire}
 

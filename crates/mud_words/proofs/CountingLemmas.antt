@@ -9,7 +9,8 @@ use Rattle.std.specs.List.{list_all}
 use Rattle.std.proofs.lemmas.List.{take-map, length-map, length-drop, length-take}
 use Rattle.std.proofs.lemmas.Bool.{false≢true}
 use Rattle.std.proofs.lemmas.Bool.Decides.{nat_tests}
-use Rattle.mud_words.specs.Prepositions.{Phrase, Found, Stands, Counts, table, of_length, lower, begins, phrase_at}
+use Rattle.std.specs.Str.{str_to_ascii_lowercase as lower}
+use Rattle.mud_words.specs.Prepositions.{Phrase, Found, Stands, Counts, table, of_length, begins, phrase_at}
 use Rattle.mud_words.specs.Prepositions.{or_later, preposition_of}
 
 -- a phrase is one of a list

@@ -12,7 +12,8 @@ use Rattle.std.proofs.lemmas.List.{take_rest, drop-map, drop-drop, drop_all, len
 use Rattle.std.proofs.lemmas.List.{nil_from_length}
 use Rattle.std.proofs.lemmas.Slice.Eq.{bytes_eq-Decides}
 use Rattle.mud_words.specs.declared.Prep.{Prep}
-use Rattle.mud_words.specs.Prepositions.{Phrase, Found, lower, begins, of_length, phrase_at, or_later, preposition_of}
+use Rattle.std.specs.Str.{str_to_ascii_lowercase as lower}
+use Rattle.mud_words.specs.Prepositions.{Phrase, Found, begins, of_length, phrase_at, or_later, preposition_of}
 use Rattle.mud_words.specs.inner.Searching.{spot_of, phrase_len}
 
 -- the same phrase, so many words further on

@@ -5,7 +5,8 @@ use Rattle.std.specs.List.{join_with_byte}
 use Rattle.mud_words.specs.declared.codes.TheConstants.{SPACE}
 use Rattle.mud_words.specs.Words.{words, after_first_word, without_front, without_back, spelled_out}
 use Rattle.mud_words.specs.Line.{Line}
-use Rattle.mud_words.specs.Prepositions.{Found, lower, preposition_of}
+use Rattle.std.specs.Str.{str_to_ascii_lowercase as lower}
+use Rattle.mud_words.specs.Prepositions.{Found, preposition_of}
 
 -- the objects round a preposition: the words before it are direct, those after it indirect; without one all are direct
 abbrev pub round : List ℕ → List (List ℕ) → List ℕ → Option Found → Line

@@ -1,9 +1,8 @@
 -- The prepositions, and which one counts among the words of a line.
 use Rattle.std.specs.Prelude.{◌≡◌, ℕ, ◌+◌, ◌≤◌, ◌==◌, Bool, List, [], ◌∷◌, ◌++◌, length, take, drop, filter, map, codes}
 use Rattle.std.specs.Prelude.{Option, None, Some}
-use Rattle.std.specs.Char.{to_ascii_lowercase}
-use Rattle.std.specs.List.{slice_split, starts_with, find, Contains}
-use Rattle.std.specs.Str.{bytes_eq}
+use Rattle.std.specs.List.{slice_split, flat_map, starts_with, find, Contains}
+use Rattle.std.specs.Str.{bytes_eq, str_to_ascii_lowercase as lower}
 use Rattle.mud_words.specs.Words.{is_space}
 use Rattle.mud_words.specs.declared.Prep.{Prep}
 use Rattle.mud_words.specs.declared.Prep.TheVariants.{With, To, InFrontOf, In, OnTopOf, OutOf, Over, Through, Under}
@@ -14,32 +13,29 @@ pub record Phrase : Type 0 where
   pub prep : Prep
   pub words : List (List ℕ)
 
--- a preposition and the phrases that say it
-abbrev pub row : Prep → List (List ℕ) → List Phrase
-row prep phrases = map (λ phrase. record { prep = prep; words = slice_split is_space phrase }) phrases
+-- the phrases that say a preposition
+abbrev pub phrases_of : Prep → List (List ℕ)
+phrases_of With = codes "with" ∷ codes "using" ∷ []
+phrases_of To = codes "at" ∷ codes "to" ∷ []
+phrases_of InFrontOf = codes "in front of" ∷ []
+phrases_of In = codes "in" ∷ codes "inside" ∷ codes "into" ∷ []
+phrases_of OnTopOf = codes "on top of" ∷ codes "on" ∷ codes "onto" ∷ codes "upon" ∷ []
+phrases_of OutOf = codes "out of" ∷ codes "from inside" ∷ codes "from" ∷ []
+phrases_of Over = codes "over" ∷ []
+phrases_of Through = codes "through" ∷ []
+phrases_of Under = codes "under" ∷ codes "underneath" ∷ codes "beneath" ∷ []
+phrases_of Behind = codes "behind" ∷ []
+phrases_of Beside = codes "beside" ∷ []
+phrases_of For = codes "for" ∷ codes "about" ∷ []
+phrases_of Is = codes "is" ∷ []
+phrases_of As = codes "as" ∷ []
+phrases_of Off = codes "off" ∷ codes "off of" ∷ []
 
--- the table of prepositions: a row a preposition
+-- the table of prepositions: each with each of its phrases
 abbrev pub table : List Phrase
 table =
-    row With (codes "with" ∷ codes "using" ∷ [])
-    ++ row To (codes "at" ∷ codes "to" ∷ [])
-    ++ row InFrontOf (codes "in front of" ∷ [])
-    ++ row In (codes "in" ∷ codes "inside" ∷ codes "into" ∷ [])
-    ++ row OnTopOf (codes "on top of" ∷ codes "on" ∷ codes "onto" ∷ codes "upon" ∷ [])
-    ++ row OutOf (codes "out of" ∷ codes "from inside" ∷ codes "from" ∷ [])
-    ++ row Over (codes "over" ∷ [])
-    ++ row Through (codes "through" ∷ [])
-    ++ row Under (codes "under" ∷ codes "underneath" ∷ codes "beneath" ∷ [])
-    ++ row Behind (codes "behind" ∷ [])
-    ++ row Beside (codes "beside" ∷ [])
-    ++ row For (codes "for" ∷ codes "about" ∷ [])
-    ++ row Is (codes "is" ∷ [])
-    ++ row As (codes "as" ∷ [])
-    ++ row Off (codes "off" ∷ codes "off of" ∷ [])
-
--- the letters of a word in lower case
-abbrev pub lower : List ℕ → List ℕ
-lower word = map to_ascii_lowercase word
+    flat_map (λ prep. map (λ phrase. record { prep = prep; words = slice_split is_space phrase }) (phrases_of prep))
+    (With ∷ To ∷ InFrontOf ∷ In ∷ OnTopOf ∷ OutOf ∷ Over ∷ Through ∷ Under ∷ Behind ∷ Beside ∷ For ∷ Is ∷ As ∷ Off ∷ [])
 
 -- a phrase and the place among the words of a line where it stands
 pub record Found : Type 0 where

@@ -3,7 +3,7 @@ use Rattle.std.proofs.Common.{◌≡◌, ℕ, zero, suc, ◌+◌, ◌≤◌, Boo
 use Rattle.std.proofs.Common.{None, refl, sym, ◌∙◌, ap, subst, arith}
 use Rattle.std.specs.Prelude.{nat_eq, is_some, IfSome}
 use Rattle.std.specs.Option.{option_map_or, option_and_then}
-use Rattle.std.specs.List.{list_all}
+use Rattle.std.specs.List.{enumerate_from, list_all}
 use Rattle.std.specs.Map.{lookup}
 use Rattle.std.proofs.lemmas.Bool.{and_from, and_parts, true≢false, ne_eqb}
 use Rattle.mud_key.specs.Tree.{IsKey}
@@ -15,7 +15,7 @@ use Rattle.mud_world.specs.Kinds.{kind_place, is_room_kind, is_exit_kind}
 use Rattle.mud_world.specs.State.{State, record_at, exists, has, is_room, is_exit, place_of, key_of, nests, follow}
 use Rattle.mud_world.specs.Sound.{IsSound, IsRising, IsPlacedWell}
 use Rattle.mud_world.specs.inner.Parts.{AreNamedApart}
-use Rattle.mud_world.specs.Legal.{with_new, numbered_from}
+use Rattle.mud_world.specs.Legal.{with_new}
 use Rattle.mud_world.specs.inner.CanGo.{IsNew}
 use Rattle.mud_world.proofs.Records.{record_cases, in_bounds, lookup-append_left, lookup-append_right}
 use Rattle.mud_world.proofs.Records.{option_map_or-agree_keys, list_all-agree}
@@ -32,11 +32,11 @@ IsRising-append low mid high [] fs first second = weaker fs first second
 IsRising-append low mid high (e ∷ es) fs first second =
     (first.0, IsRising-append (e.0 + 1) mid high es fs first.1 second)
 
-IsRising-numbered : (n : ℕ) (rs : List Record) → IsRising n (numbered_from n rs) (n + length rs)
+IsRising-numbered : (n : ℕ) (rs : List Record) → IsRising n (enumerate_from n rs) (n + length rs)
 IsRising-numbered n [] = omega arith
 IsRising-numbered n (r ∷ rs) = (
   omega arith,
-  subst (λ (m : ℕ). IsRising (n + 1) (numbered_from (n + 1) rs) m) (omega arith)
+  subst (λ (m : ℕ). IsRising (n + 1) (enumerate_from (n + 1) rs) m) (omega arith)
       (IsRising-numbered (n + 1) rs),
 )
 
@@ -44,12 +44,12 @@ module _ (w : State) (sound : IsSound w) (rs : List Record) (room : w.next + len
   abbrev w' : State
   w' = with_new w rs
 
-  module _ (new : (n : ℕ) (r : Record) → lookup (nat_eq n) (numbered_from w.next rs) ≡ Some r → IsNew w w' r) where
+  module _ (new : (n : ℕ) (r : Record) → lookup (nat_eq n) (enumerate_from w.next rs) ≡ Some r → IsNew w w' r) where
     old_at : (n : ℕ) (r : Record) → record_at w n ≡ Some r → record_at w' n ≡ Some r
-    old_at n r at = lookup-append_left n r w.objects (numbered_from w.next rs) at
+    old_at n r at = lookup-append_left n r w.objects (enumerate_from w.next rs) at
 
-    new_at : (n : ℕ) → record_at w n ≡ None → record_at w' n ≡ lookup (nat_eq n) (numbered_from w.next rs)
-    new_at n at = lookup-append_right n w.objects (numbered_from w.next rs) at
+    new_at : (n : ℕ) → record_at w n ≡ None → record_at w' n ≡ lookup (nat_eq n) (enumerate_from w.next rs)
+    new_at n at = lookup-append_right n w.objects (enumerate_from w.next rs) at
 
     -- an object of the new world is old, or new
     either_at : {P : Type 0} (n : ℕ) (r : Record) → record_at w' n ≡ Some r → (record_at w n ≡ Some r → P)
@@ -153,18 +153,18 @@ module _ (w : State) (sound : IsSound w) (rs : List Record) (room : w.next + len
         (λ r e. ap (option_and_then (λ r. r.key)) (old_at o r e) ∙ sym (ap (option_and_then (λ r. r.key)) e))
 
     nest_new : (m : ℕ) (fs : List Record)
-        → ((n : ℕ) (r : Record) → lookup (nat_eq n) (numbered_from m fs) ≡ Some r → r.key ≡ None)
-        → list_all (λ e. option_map_or (nests w' 3) e.1.key true) (numbered_from m fs) ≡ true
+        → ((n : ℕ) (r : Record) → lookup (nat_eq n) (enumerate_from m fs) ≡ Some r → r.key ≡ None)
+        → list_all (λ e. option_map_or (nests w' 3) e.1.key true) (enumerate_from m fs) ≡ true
     nest_new m [] none = refl
     nest_new m (r ∷ fs) none =
         and_from _ _
         (ap (λ v. option_map_or (nests w' 3) v true)
-        (none m r (ap (λ b. cond b (Some r) (lookup (nat_eq m) (numbered_from (m + 1) fs))) (eq_self m))))
+        (none m r (ap (λ b. cond b (Some r) (lookup (nat_eq m) (enumerate_from (m + 1) fs))) (eq_self m))))
         (nest_new (m + 1) fs (λ n s at.
         let above =
-        (in_bounds (m + 1) (m + 1 + length fs) n s (numbered_from (m + 1) fs) (IsRising-numbered (m + 1) fs) at).0
+        (in_bounds (m + 1) (m + 1 + length fs) n s (enumerate_from (m + 1) fs) (IsRising-numbered (m + 1) fs) at).0
         in
-        none n s (ap (λ b. cond b (Some r) (lookup (nat_eq n) (numbered_from (m + 1) fs)))
+        none n s (ap (λ b. cond b (Some r) (lookup (nat_eq n) (enumerate_from (m + 1) fs)))
         (ne_eqb n m (λ same. omega (arith, above, same))) ∙ at)))
       where
         eq_self : (m : ℕ) → nat_eq m m ≡ true
@@ -179,7 +179,7 @@ module _ (w : State) (sound : IsSound w) (rs : List Record) (room : w.next + len
 
     pub sound-new : AreNamedApart w' → IsSound w'
     sound-new named = record {
-      rising = IsRising-append 0 w.next (w.next + length rs) w.objects (numbered_from w.next rs) sound.rising
+      rising = IsRising-append 0 w.next (w.next + length rs) w.objects (enumerate_from w.next rs) sound.rising
           (IsRising-numbered w.next rs);
       limit = room;
       placed = λ n r at. either_at n r at (λ old. kept_well r.kind (sound.placed n r old)) (λ gone is. is.well);
@@ -188,7 +188,7 @@ module _ (w : State) (sound : IsSound w) (rs : List Record) (room : w.next + len
       locked = λ n r at. either_at n r at (λ old. sound.locked n r old)
           (λ gone is. subst (λ k. IfSome k IsKey) (sym is.keyless) tt);
       nesting =
-          list_all-append _ w.objects (numbered_from w.next rs)
+          list_all-append _ w.objects (enumerate_from w.next rs)
           (list_all-agree _ _ (λ e. option_map_or-agree_keys w w' same_key 3 e.1.key) w.objects ∙ sound.nesting)
           (nest_new w.next rs (λ n r at. (new n r at).keyless));
       named = named;

@@ -3,7 +3,7 @@ use Rattle.std.proofs.Common.{◌≡◌, ℕ, ◌+◌, ◌-◌, ◌<◌, ◌≤�
 use Rattle.std.proofs.Common.{Some, None, refl, sym, ◌∙◌, ap, subst, arith}
 use Rattle.std.specs.Prelude.{nat_eq, unwrap_or}
 use Rattle.std.specs.Option.{option_map_or, option_and_then}
-use Rattle.std.specs.List.{AllByRecursion}
+use Rattle.std.specs.List.{AllByRecursion, enumerate_from}
 use Rattle.std.specs.Map.{remove_entry}
 use Rattle.std.proofs.lemmas.Bool.{or_parts, not-false, true≢false, ltb-false, eq-eqb, ne_eqb}
 use Rattle.std.proofs.lemmas.List.{append_assoc}
@@ -18,7 +18,7 @@ use Rattle.mud_world.specs.declared.change.Doors.{Doors}
 use Rattle.mud_world.specs.Kinds.{kind_place, is_room_kind, is_player_kind}
 use Rattle.mud_world.specs.State.{State, record_at, has, is_room, is_player, place_of}
 use Rattle.mud_world.specs.Sound.{IsSound, IsRising, IsPlacedWell}
-use Rattle.mud_world.specs.Legal.{with_new, numbered_from, new_record, new_exit, dug, refusal, refusals, fails}
+use Rattle.mud_world.specs.Legal.{with_new, new_record, new_exit, dug, refusal, refusals, fails}
 use Rattle.mud_world.specs.inner.Parts.{without_object}
 use Rattle.mud_world.specs.inner.CanGo.{CanAdd, CanJoin}
 use Rattle.mud_world.proofs.Records.{record_cases, lookup-append_left, lookup-append_right}
@@ -30,7 +30,7 @@ pub has-grown : (w : State) (rs : List Record) (test : Record → Bool) (n : ℕ
 has-grown w rs test n is =
     record_cases (record_at w n)
     (λ e. absurd (true≢false (sym is ∙ ap (λ v. option_map_or test v false) e)))
-    (λ r e. ap (λ v. option_map_or test v false) (lookup-append_left n r w.objects (numbered_from w.next rs) e)
+    (λ r e. ap (λ v. option_map_or test v false) (lookup-append_left n r w.objects (enumerate_from w.next rs) e)
     ∙ sym (ap (λ v. option_map_or test v false) e) ∙ is)
 
 pub CanAdd-exit : (w : State) (actor : ℕ) (names : List (List ℕ)) (a b : ℕ) → CanJoin w a b → w.next < NUMBERS
@@ -72,7 +72,7 @@ CanJoin-flip w a b join = record { from = join.to; to = join.from }
 pub with_new-more : (w : State) (r : Record) (rs : List Record)
     → with_new (with_new w (r ∷ [])) rs ≡ with_new w (r ∷ rs)
 with_new-more w r rs = λ i. record {
-  objects = (append_assoc w.objects ((w.next, r) ∷ []) (numbered_from (w.next + 1) rs)) i;
+  objects = (append_assoc w.objects ((w.next, r) ∷ []) (enumerate_from (w.next + 1) rs)) i;
   next = (one_more) i;
 }
   where

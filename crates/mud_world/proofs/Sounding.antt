@@ -17,7 +17,8 @@ use Rattle.mud_world.specs.declared.change.Target.TheVariants.{New, Old}
 use Rattle.mud_world.specs.Kinds.{kind_place, is_player_kind}
 use Rattle.mud_world.specs.State.{State, record_at, is_player, place_of, destination_of}
 use Rattle.mud_world.specs.Sound.{IsSound}
-use Rattle.mud_world.specs.Legal.{with_new, numbered_from, new_record, new_exit, new_exits, refusal, deed_result}
+use Rattle.std.specs.List.{enumerate_from}
+use Rattle.mud_world.specs.Legal.{with_new, new_record, new_exit, new_exits, refusal, deed_result}
 use Rattle.mud_world.specs.inner.Parts.{with_place}
 use Rattle.mud_world.specs.inner.CanGo.{CanGo, CanAdd, CanJoin, IsNew}
 use Rattle.mud_world.specs.Laws.{StaysSound}
@@ -41,7 +42,7 @@ sound-added w sound r can =
     sound-new w sound (r ∷ []) (omega (arith, below)) only_new
     (named-added w r sound.named (next_missing w sound) can.free)
   where
-    only_new : (n : ℕ) (s : Record) → lookup (nat_eq n) (numbered_from w.next (r ∷ [])) ≡ Some s
+    only_new : (n : ℕ) (s : Record) → lookup (nat_eq n) (enumerate_from w.next (r ∷ [])) ≡ Some s
         → IsNew w (with_new w (r ∷ [])) s
     only_new n s at =
         bool_cases (nat_eq n w.next)

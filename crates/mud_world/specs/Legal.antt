@@ -16,7 +16,7 @@ pub use Rattle.mud_world.specs.Kinds.{kind_at, kind_costing, kind_needs}
 pub use Rattle.mud_world.specs.Reach.{InReach, arrives, in_reach}
 pub use Rattle.mud_world.specs.Conditions.{owns, shares_room, is_offered}
 pub use Rattle.mud_world.specs.Conditions.{of_old}
-pub use Rattle.mud_world.specs.Results.{with_record_changed, numbered_from, with_new}
+pub use Rattle.mud_world.specs.Results.{with_record_changed, with_new}
 pub use Rattle.mud_world.specs.Results.{new_record, new_exit, new_exits, dug, deed_result, after}
 use Rattle.mud_world.specs.State.{State, exists, is_room, is_exit, is_thing, is_player, place_of, is_number, within}
 use Rattle.mud_world.specs.State.{source_of}

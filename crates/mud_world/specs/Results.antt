@@ -1,5 +1,6 @@
 -- What each kind of change leaves.
 use Rattle.std.specs.Prelude.{ℕ, ◌+◌, nat_eq, List, [], ◌∷◌, ◌++◌, length, Option, Some, None, unwrap_or}
+use Rattle.std.specs.List.{enumerate_from}
 use Rattle.std.specs.Option.{option_map_or}
 use Rattle.std.specs.Map.{set_value, remove_entry}
 use Rattle.mud_world.specs.declared.record.Kind.{Kind}
@@ -22,14 +23,9 @@ abbrev pub with_record_changed : State → ℕ → (Record → Record) → State
 with_record_changed w n f =
     option_map_or (λ r. record w { objects = set_value (nat_eq n) w.objects (f r) }) (record_at w n) w
 
--- the records with the numbers n, n + 1, n + 2 and so on
-abbrev pub numbered_from : ℕ → List Record → List (ℕ × Record)
-numbered_from n [] = []
-numbered_from n (r ∷ rs) = (n, r) ∷ numbered_from (n + 1) rs
-
 -- new objects have come, with the next numbers
 abbrev pub with_new : State → List Record → State
-with_new w rs = record { objects = w.objects ++ numbered_from w.next rs; next = w.next + length rs }
+with_new w rs = record { objects = w.objects ++ enumerate_from w.next rs; next = w.next + length rs }
 
 -- ---- new objects
 

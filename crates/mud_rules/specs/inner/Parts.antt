@@ -24,7 +24,7 @@ use Rattle.mud_rules.specs.declared.verdict.Journey.{Journey}
 use Rattle.mud_rules.specs.declared.verdict.Journey.TheVariants.{Route}
 use Rattle.mud_rules.specs.declared.verdict.Verdict.{Verdict}
 use Rattle.mud_rules.specs.declared.verdict.Verdict.TheVariants.{Become, Refused}
-use Rattle.mud_rules.specs.Matching.{is_empty, number_in, room_match, local_match}
+use Rattle.mud_rules.specs.Matching.{is_empty, number_in, match_among, local_match}
 use Rattle.mud_rules.specs.Outcome.{outcome, does_read, object_meant, of_kind, does}
 use Rattle.mud_rules.specs.Commands.{key_meant, doors_in, target_in, dig_between, is_bar, kind_then_here}
 use Rattle.mud_rules.specs.Shapes.{is_prep}
@@ -83,7 +83,8 @@ is_aimed prep l = is_prep prep l.prep && (is_empty l.direct && not (is_empty l.i
 
 -- route to R
 abbrev pub route : State → ℕ → List ℕ → Result Journey Refusal
-route w p text = result_map_both Route (λ f. f) (of_kind (is_room w) (object_meant NoSuch (room_match w p text)))
+route w p text =
+    result_map_both Route (λ f. f) (of_kind (is_room w) (object_meant NoSuch (match_among (is_room w) w p text)))
 
 -- those who were found
 abbrev pub members : List (Result ℕ Refusal) → List ℕ

@@ -1,6 +1,6 @@
 use Rattle.std.proofs.Common.{ap, sym, refl, ◌∙◌, arith}
 use Rattle.std.specs.Cow.{cow_str_bytes}
-use Rattle.mud_words.specs.Prepositions.{lower}
+use Rattle.std.specs.Str.{str_to_ascii_lowercase as lower}
 use Rattle.mud_words.proofs.PrepositionLemmas.{begins_more}
 use Rattle.mud_words.proofs.prepositions.+begins.Goals as goal
 

@@ -1,5 +1,5 @@
 use Rattle.std.proofs.Common.{◌≡◌, take}
-use Rattle.mud_words.specs.Prepositions.{lower}
+use Rattle.std.specs.Str.{str_to_ascii_lowercase as lower}
 use Rattle.mud_words.proofs.split.has_upper.Given as goal
 
 -- the bytes so far are as they are in lower case

@@ -11,8 +11,5 @@ returns-clause-proven g c =
     λ o. IsSomeAnd o (λ k. string_bytes c.in_ok-text-in-Some.text ++ codes "\n" ≡ codes "proof\n" ++ cert_text k) in (
       c.in_ok-answer.answer,
       c.in_ok-answer.ensures.guided,
-      record {
-        text = subst proves (sym c.in-Some.is) c.in_ok-text-in-Some.ensures;
-        cert_is = refl;
-      },
+      (subst proves (sym c.in-Some.is) c.in_ok-text-in-Some.ensures, refl),
     )

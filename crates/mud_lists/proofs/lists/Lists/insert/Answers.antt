@@ -1,9 +1,10 @@
 use Rattle.std.proofs.Common.{ℕ, List, sym, subst, arith}
+use Rattle.std.specs.List.{enumerate_from}
 use Rattle.std.specs.Prelude.{nat_eq, Ok, Err, OnErr}
 use Rattle.std.specs.declared.result.Result.{Result}
 use Rattle.std.proofs.lemmas.Result.{on_ok_weaker, on_err_weaker}
 use Rattle.mud_lists.specs.Rising.{insert}
-use Rattle.mud_lists.specs.Lists.{AreSame, AreChanged, with_numbers}
+use Rattle.mud_lists.specs.Lists.{AreSame, AreChanged}
 use Rattle.mud_lists.proofs.Seen.{changed_later, same_seen}
 use Rattle.mud_lists.proofs.lists.Lists.insert.Goals as goal
 
@@ -14,7 +15,7 @@ on_any_err (Err e) is = is
 pub returns-in_err-fill-clause-err : goal.returns-in_err-fill-clause-err
 returns-in_err-fill-clause-err c =
     on_any_err c.from_residual.result
-    (subst (λ (v : List (ℕ × List ℕ)). AreSame v (with_numbers 0 c.fill.new.lists.items)) c.self.view_is
+    (subst (λ (v : List (ℕ × List ℕ)). AreSame v (enumerate_from 0 c.fill.new.lists.items)) c.self.view_is
     (same_seen c.self.inside.lists.items c.fill.new.lists.items c.fill.ensures.same))
 
 pub returns-clause-ok : goal.returns-clause-ok
@@ -24,8 +25,10 @@ returns-clause-ok c =
     let new = c.insert_at.new.lists.items in
     on_ok_weaker c.insert_at.result
     (λ is.
-    subst (λ (v : List (ℕ × List ℕ)). AreChanged (λ n. nat_eq n c.args.holder) f v (with_numbers 0 new)) c.self.view_is
-    (subst (λ (v : List (List ℕ)). AreChanged (λ n. nat_eq n c.args.holder) f (with_numbers 0 old) (with_numbers 0 v))
+    subst (λ (v : List (ℕ × List ℕ)). AreChanged (λ n. nat_eq n c.args.holder) f v (enumerate_from 0 new))
+    c.self.view_is
+    (subst
+    (λ (v : List (List ℕ)). AreChanged (λ n. nat_eq n c.args.holder) f (enumerate_from 0 old) (enumerate_from 0 v))
     (sym is)
     (changed_later old c.fill.new.lists.items c.args.holder f c.fill.ensures.same
     (omega (arith, c.in_ok-fill.ensures.len)))))
@@ -36,7 +39,7 @@ returns-clause-err c =
     let old = c.self.inside.lists.items in
     on_err_weaker c.insert_at.result
     (λ is.
-    subst (λ (v : List (ℕ × List ℕ)). AreSame v (with_numbers 0 c.insert_at.new.lists.items)) c.self.view_is
-    (subst (λ (v : List (List ℕ)). AreSame (with_numbers 0 old) (with_numbers 0 v)) (sym is)
+    subst (λ (v : List (ℕ × List ℕ)). AreSame v (enumerate_from 0 c.insert_at.new.lists.items)) c.self.view_is
+    (subst (λ (v : List (List ℕ)). AreSame (enumerate_from 0 old) (enumerate_from 0 v)) (sym is)
     (same_seen old c.fill.new.lists.items c.fill.ensures.same)))
     c.insert_at.ensures.err

@@ -1,7 +1,8 @@
 use Rattle.std.proofs.Common.{ℕ, List, sym, subst, arith}
+use Rattle.std.specs.List.{enumerate_from}
 use Rattle.std.specs.Prelude.{nat_eq}
 use Rattle.mud_lists.specs.Rising.{without}
-use Rattle.mud_lists.specs.Lists.{AreChanged, with_numbers}
+use Rattle.mud_lists.specs.Lists.{AreChanged}
 use Rattle.mud_lists.proofs.Seen.{changed_seen, unchanged_past}
 use Rattle.mud_lists.proofs.lists.Lists.remove.Goals as goal
 
@@ -10,8 +11,10 @@ returns-then-at-len c =
     let f = without c.args.number in
     let old = c.self.inside.lists.items in
     let new = c.remove_at.new.lists.items in
-    subst (λ (v : List (ℕ × List ℕ)). AreChanged (λ n. nat_eq n c.args.holder) f v (with_numbers 0 new)) c.self.view_is
-    (subst (λ (v : List (List ℕ)). AreChanged (λ n. nat_eq n c.args.holder) f (with_numbers 0 old) (with_numbers 0 v))
+    subst (λ (v : List (ℕ × List ℕ)). AreChanged (λ n. nat_eq n c.args.holder) f v (enumerate_from 0 new))
+    c.self.view_is
+    (subst
+    (λ (v : List (List ℕ)). AreChanged (λ n. nat_eq n c.args.holder) f (enumerate_from 0 old) (enumerate_from 0 v))
     (sym c.remove_at.ensures)
     (changed_seen old c.args.holder f (omega arith)))
 

@@ -1,5 +1,6 @@
-use Rattle.std.proofs.Common.{true, ap, sym, ◌∙◌}
+use Rattle.std.proofs.Common.{true, ap, sym, ◌∙◌, arith}
 use Rattle.std.specs.Option.{option_map_or, option_and_then}
+use Rattle.mud_key.proofs.Sizes.{size_of, size_within}
 use Rattle.mud_world.specs.State.{record_at, key_of, nests}
 use Rattle.mud_world.specs.inner.Parts.{with_lock}
 use Rattle.mud_world.proofs.Locking.{key_of-locked_same, key_of-locked_other, key_of-locked_gone}
@@ -33,3 +34,12 @@ asked_nests_with-returns-in-Some-key t c =
     ∙ sym (ap (λ v. option_map_or (nests w c.args.levels) v true)
     (key_of-locked_other c.args.self.now c.args.object c.args.key.now c.args.asked c.if-asked-object.false
     ∙ ap (option_and_then (λ r. r.key)) (sym c.in-Some.ensures) ∙ c.in-Some-key.is))
+
+pub asked_nests_with-nests_with-requires : goal.asked_nests_with-nests_with-requires
+asked_nests_with-nests_with-requires t c =
+    (omega (arith, c.decreases, size_within _ c.node.ensures.key.limits, ap size_of c.node.ensures.node), tt)
+
+pub asked_nests_with-nests_with-requires-in-Some-key : goal.asked_nests_with-nests_with-requires-in-Some-key
+asked_nests_with-nests_with-requires-in-Some-key t c =
+    let small = size_within _ c.node-in-Some-key.ensures.key.limits in
+    (omega (arith, c.decreases, small, ap size_of c.node-in-Some-key.ensures.node), tt)

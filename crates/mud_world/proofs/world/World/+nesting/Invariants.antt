@@ -1,5 +1,5 @@
 use Rattle.std.proofs.Common.{◌+◌, ◌*◌}
-use Rattle.mud_key.specs.Tree.{size_of}
+use Rattle.mud_key.proofs.Sizes.{size_of}
 use Rattle.mud_key.specs.Node.{key_of as tree_of}
 use Rattle.mud_world.proofs.world.World.+nesting.Given as goal
 

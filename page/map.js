@@ -1,7 +1,7 @@
 // The map: rooms on a grid, the ways between them, and labels that overlap neither rooms nor each other. Nothing here
 // touches the page. Sizes are those of the picture.
 
-const MOST_DRAWN = 150; // Rooms on the picture; the list has all.
+const MOST_DRAWN = 150; // Rooms on the picture; the list has more.
 const LETTER = 6.8, TALL = 14; // A letter's width, and a line's height.
 const MOST_LETTERS = 18; // Letters of a label.
 const CELL = { wide: 220, tall: 110 }, BOX = { wide: 150, tall: 34 };
@@ -9,15 +9,16 @@ const STUB = 62; // How far a way is drawn whose end is not known.
 const APART = 5; // How far a way is drawn beside the middle, so that the way back has a line of its own.
 const NEAR = 7, MOST_TRIED = 40; // How many cells away a room is put at most, and how many cells are tried.
 
-// Where the names of ways lead, on the grid.
-const STEPS = {
+// Where the names of ways lead, on the grid. A map, since a plain object also has what every object has: a way may be
+// named `constructor`.
+const STEPS = new Map(Object.entries({
   north: [0, -1], south: [0, 1], east: [1, 0], west: [-1, 0], northeast: [1, -1], northwest: [-1, -1],
   southeast: [1, 1], southwest: [-1, 1], up: [1, -1], down: [-1, 1], n: [0, -1], s: [0, 1], e: [1, 0], w: [-1, 0],
   ne: [1, -1], nw: [-1, -1], se: [1, 1], sw: [-1, 1], u: [1, -1], d: [-1, 1],
-};
+}));
 
 function stepOf(exit) {
-  return STEPS[(exit.name ?? "").toLowerCase()] ?? [1, 0];
+  return STEPS.get((exit.name ?? "").toLowerCase()) ?? [1, 0];
 }
 
 function short(text) {
@@ -98,22 +99,22 @@ class Grid {
 
 // The cells of the rooms that are drawn: from the room where the player is, way by way, and then from each other room.
 function cells(world) {
-  const grid = new Grid(world), { at } = grid;
+  const grid = new Grid(world), { at } = grid, exits = world.exitsByRoom();
   const starts = [...world.rooms.keys()].sort((a, b) => (b === world.here) - (a === world.here) || a - b);
   for (const start of starts) {
     if (at.has(start) || at.size >= MOST_DRAWN) continue;
     grid.put(start, 0, at.size ? Math.max(...[...at.values()].map(([, y]) => y)) + 1 : 0);
-    spread(world, grid, start);
+    spread(world, exits, grid, start);
   }
   return at;
 }
 
 // Puts the rooms that can be reached from one that was put.
-function spread(world, grid, start) {
+function spread(world, exits, grid, start) {
   const queue = [start];
   while (queue.length) {
     const room = queue.shift(), [x, y] = grid.at.get(room);
-    for (const number of world.exitsOf(room)) {
+    for (const number of exits.get(room) ?? []) {
       const exit = world.exits.get(number);
       if (exit.to === undefined || grid.at.has(exit.to) || grid.at.size >= MOST_DRAWN) continue;
       const [dx, dy] = stepOf(exit);
@@ -187,9 +188,10 @@ function picture(world) {
 }
 
 // The same in words, a line for each room: { room, text }.
-function listOf(world) {
-  return [...world.rooms.keys()].sort((a, b) => a - b).map((room) => {
-    const ways = world.exitsOf(room).map((number) => wayText(world, number));
+function listOf(world, most) {
+  const exits = world.exitsByRoom();
+  return [...world.rooms.keys()].sort((a, b) => a - b).slice(0, most).map((room) => {
+    const ways = (exits.get(room) ?? []).map((number) => wayText(world, number));
     const here = room === world.here ? ", you are here" : "";
     const name = `${world.rooms.get(room) ?? "a room"} #${room}`;
     return { room, text: name + here + (ways.length ? ": " + ways.join(", ") : "") };

@@ -24,12 +24,16 @@ function toEnd() {
   if (isAtEnd) log.scrollTop = log.scrollHeight;
 }
 
-function show(text, kind) {
+function add(text, kind) {
   const line = document.createElement("span");
   line.className = kind;
   line.textContent = text + "\n";
   log.append(line);
   while (log.childNodes.length > MOST_LINES) log.firstChild.remove();
+}
+
+function show(text, kind) {
+  add(text, kind);
   toEnd();
 }
 
@@ -51,8 +55,9 @@ function connect() {
     wait = FIRST_WAIT;
   };
   socket.onmessage = (event) => {
-    for (const { text, kind } of conversation.take(event.data)) show(text, kind);
-    draw();
+    for (const { text, kind } of conversation.take(event.data)) add(text, kind);
+    toEnd();
+    drawSoon();
   };
   socket.onclose = closed;
 }
@@ -111,7 +116,19 @@ function draw() {
   part("picture").replaceChildren(...(boxes.length ? [svg] : []));
   const here = boxes.find((box) => box.isHere);
   if (here) part("picture").scrollLeft = (here.x + here.wide / 2) * scale - part("picture").clientWidth / 2;
-  part("rooms").replaceChildren(...listOf(conversation.world).slice(0, MOST_LISTED).map(roomItem));
+  part("rooms").replaceChildren(...listOf(conversation.world, MOST_LISTED).map(roomItem));
+}
+
+let isDrawn = true;
+
+// Draws once before the screen changes next, however many messages come until then.
+function drawSoon() {
+  if (!isDrawn) return;
+  isDrawn = false;
+  requestAnimationFrame(() => {
+    isDrawn = true;
+    draw();
+  });
 }
 
 function roomItem({ room, text }) {

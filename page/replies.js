@@ -34,9 +34,20 @@ class World {
     if (to !== undefined && !this.rooms.has(to)) this.room(to);
   }
 
-  // The numbers of the exits that leave a room, by rising number.
+  // The numbers of the exits that leave each room, by rising number.
+  exitsByRoom() {
+    const found = new Map();
+    for (const number of [...this.exits.keys()].sort((a, b) => a - b)) {
+      const { from } = this.exits.get(number);
+      if (!found.has(from)) found.set(from, []);
+      found.get(from).push(number);
+    }
+    return found;
+  }
+
+  // Those of one room.
   exitsOf(room) {
-    return [...this.exits].filter(([, exit]) => exit.from === room).map(([number]) => number).sort((a, b) => a - b);
+    return this.exitsByRoom().get(room) ?? [];
   }
 
   // An object is gone, and the exits to it with it.
@@ -210,8 +221,9 @@ class Conversation {
     this.begin();
   }
 
-  // A connection begins: nothing was typed in it yet.
+  // A connection begins: nothing was typed in it yet. What the last one answered is kept.
   begin() {
+    this.end();
     this.tail = "";
     this.asked = [];
     this.answer = undefined;

@@ -133,4 +133,15 @@ test("a great world is drawn in part, from where the player is, and listed whole
   assert.equal(boxes.length, logic.MOST_DRAWN);
   assert.ok(boxes.some(({ isHere }) => isHere));
   assert.equal(logic.listOf(great).length, 1000);
+  assert.deepEqual(logic.listOf(great, 500), logic.listOf(great).slice(0, 500));
+});
+
+test("a way may have any name, also one that every object of the language has", () => {
+  for (const name of ["constructor", "__proto__", "toString", "hasOwnProperty"]) {
+    const made = new logic.World();
+    made.exit(3, { name, from: 0, to: 2 });
+    made.exit(4, { name, from: 2 });
+    const { boxes, ways } = logic.picture(made);
+    assert.deepEqual([boxes.length, ways.length], [2, 2], name);
+  }
 });

@@ -127,6 +127,12 @@ test("the history and the proofs are kept as the checker reads them", () => {
   ]);
 });
 
+test("what came last is kept when another connection begins", () => {
+  const talk = after(["@history", "[11] history", ...TALE]);
+  talk.begin();
+  assert.deepEqual(talk.files(), [{ name: "history-11.txt", text: TALE.join("\n") + "\n" }]);
+});
+
 test("who has left is not to come back", () => {
   assert.equal(after(["quit", "[4] bye"]).hasLeft, true);
   assert.equal(after(["quit now", "[4] I couldn't understand that."]).hasLeft, false);

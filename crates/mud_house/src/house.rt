@@ -142,21 +142,32 @@ impl<J: HallName> House<Hall<J>, Places<J>, Bells> {
         })
     }
 
-    /// Takes the free place of the lowest number for a session of this address.
+    /// Takes the free place of the lowest number for a session of this address. The sessions of an address are counted
+    /// with this one: so there are never too many, but of two that come at once for the last place of their address
+    /// both may be refused.
     pub fn take_place<R: Wait>(&self, rt: &R, address: IpAddr) -> Result<usize, NoPlace> {
+        let Some(at) = self.take_free(rt, address) else {
+            return Err(NoPlace::Full);
+        };
         let most = self.limits.per_address;
-        if 0 < most && most <= self.sessions_of(rt, address) {
+        if 0 < most && most < self.sessions_of(rt, address) {
+            self.free(rt, at);
             return Err(NoPlace::TooMany);
         }
+        Ok(at)
+    }
+
+    // Takes the free place of the lowest number, if there is one.
+    fn take_free<R: Wait>(&self, rt: &R, address: IpAddr) -> Option<usize> {
         for (at, place) in self.places.list.iter().enumerate() {
             let mut place = place.lock(rt);
             if place.address().is_none() {
                 place.take(address);
                 self.taken.fetch_add(1, Ordering::SeqCst);
-                return Ok(at);
+                return Some(at);
             }
         }
-        Err(NoPlace::Full)
+        None
     }
 
     // How many sessions are of this address.

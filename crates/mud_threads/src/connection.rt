@@ -23,7 +23,7 @@ pub(crate) struct Connection<J: HallName> {
     answered: AtomicU64,
 }
 
-// How often it is tried, a second long, to close a web socket whose session is busy, and how long between two tries.
+// How often it is tried, a second long, to say the last to a session that is busy, and how long between two tries.
 const CLOSE_TRIES: u32 = 20;
 
 const CLOSE_MILLISECONDS: u64 = 50;
@@ -156,10 +156,22 @@ impl<J: HallName> Connection<J> {
     pub(crate) fn tell_ending<R: Wait>(&self, rt: &R, ending: Ending) {
         match self.wire.entrance() {
             Entrance::Telnet => {
-                self.wire.tell_ending(rt, ending);
+                self.say_ending(rt, ending);
                 self.wire.shut();
             }
             Entrance::Web => self.part(rt, Parting::of_all(ending)),
+        }
+    }
+
+    // By Telnet says why all sessions end, if the session's lock is free within a second: else it would stand within a
+    // text that is being sent.
+    fn say_ending<R: Wait>(&self, rt: &R, ending: Ending) {
+        for _ in 0..CLOSE_TRIES {
+            if let Some(_guard) = self.talk.try_lock() {
+                self.wire.tell_ending(rt, ending);
+                return;
+            }
+            rest(rt, Duration::from_millis(CLOSE_MILLISECONDS));
         }
     }
 

@@ -198,17 +198,22 @@ def why_full():
 
 
 def why_unnamed():
-    """Who does not say who he is leaves his place; who has said it keeps his."""
+    """Who does not say who he is leaves his place; who has said it keeps his, also by the name of an old player."""
     with listening("--unnamed", "1") as server:
-        player, nobody = named(server.port), greeted(server.port)
+        player, nobody, old = named(server.port), greeted(server.port), greeted(server.port)
+        old.send(b"connect Wizard")
+        welcome = old.line()
         took = seconds_to_end(nobody, lambda: nobody.send(b"look"))
         word = parting(server, nobody)
         time.sleep(0.5)
-        player.send(b"@version")
-        answer = player.line()
+        answers = []
+        for client in (player, old):
+            client.send(b"@version")
+            answers.append(client.line())
         is_soon_enough = took is not None and NOTICED[0] < took < NOTICED[1]
-        is_right = is_soon_enough and (word, answer) == ("unnamed", b"[1] version")
-        return "" if is_right else f"{took}, {word}, {answer}"
+        given = welcome, word, answers
+        is_right = is_soon_enough and given == (b"[1] welcome #1", "unnamed", [b"[1] version"] * 2)
+        return "" if is_right else f"{took}, {given}"
 
 
 def why_idle(sent):

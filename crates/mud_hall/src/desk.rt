@@ -1,7 +1,7 @@
 //! One caller's side of a hall.
 
-ghost use Rattle.std.specs.Prelude.{◌≡◌, ◌++◌, ◌∷◌, [], ◌<◌, ◌≤◌, ◌+◌, ◌⊎◌, length, max};
-ghost use Rattle.std.specs.Prelude.{map, Some, None, IfOk, IfErr, OnErr, OnOk, MatchBool, string_bytes};
+ghost use Rattle.std.specs.Prelude.{◌≡◌, ◌++◌, ◌<◌, ◌≤◌, ◌+◌, length, max};
+ghost use Rattle.std.specs.Prelude.{map, is_some, Some, None, IfOk, OnErr, OnOk, MatchBool, string_bytes};
 ghost use Rattle.std.specs.Prelude.{vec_len, vec_capacity};
 ghost use Rattle.std.specs.Option.{option_to_list};
 ghost use mathlib.Core.List.{IsPrefix};
@@ -9,7 +9,7 @@ ghost use Rattle.mud_world.specs.declared.limits.TheConstants.{MOST_ENTRIES};
 ghost use Rattle.mud_chron.specs.declared.limits.TheConstants.{MOST_DESKS};
 ghost use Rattle.mud_hall.specs.Told.{notice_text};
 ghost use Rattle.mud_hall.specs.inner.Desks.{notice_in};
-ghost use Rattle.mud_hall.specs.Desk.{View, DeskState, TakesIn, Learns, IsNew, as_guest, untold, with_told};
+ghost use Rattle.mud_hall.specs.Desk.{View, TakesIn, Learns, IsNew, as_guest, untold, with_told};
 
 use crate::name::HallName;
 use mud_chron::Entry;
@@ -89,6 +89,13 @@ impl<J: HallName> Desk<J> {
         ensures { result ≡ self.now.state.number }
     {
         self.number
+    }
+
+    /// Whether it is a player's; else it is a guest's.
+    pub fn has_player(&self) -> bool
+        ensures { result ≡ is_some self.now.state.player }
+    {
+        self.player.is_some()
     }
 
     /// How many entries it has seen.

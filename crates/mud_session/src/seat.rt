@@ -1,6 +1,6 @@
 //! A desk of a hall as a door.
 
-ghost use Rattle.std.specs.Prelude.{◌≡◌, ◌≤◌, length};
+ghost use Rattle.std.specs.Prelude.{◌≡◌, ◌≤◌, length, is_some};
 ghost use Rattle.mud_hall.specs.Desk.{untold};
 ghost use Rattle.mud_search.specs.declared.limits.TheConstants.{MOST_WORKERS};
 
@@ -69,6 +69,13 @@ impl<'h, J: HallName> Seat<'h, J> {
         ensures { result ≡ self.now.desk.number }
     {
         self.desk.number()
+    }
+
+    /// Whether the desk is a player's; else it is a guest's.
+    pub fn has_player(&self) -> bool
+        ensures { result ≡ is_some self.now.desk.player }
+    {
+        self.desk.has_player()
     }
 
     /// How many entries the desk has seen.

@@ -23,4 +23,6 @@ pub struct TalkStep<T> {
     pub parting: Option<Parting>,
     /// Whether a change was accepted.
     pub has_changed: bool,
+    /// Whether the desk is a player's now.
+    pub has_player: bool,
 }

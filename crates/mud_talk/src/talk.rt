@@ -27,6 +27,7 @@ fn by_telnet<J: HallName>(step: TalkStep<TelnetTalk<J>>) -> TalkStep<Talk<J>> {
         text: step.text,
         parting: step.parting,
         has_changed: step.has_changed,
+        has_player: step.has_player,
     }
 }
 
@@ -37,6 +38,7 @@ fn by_web<J: HallName>(step: TalkStep<WebTalk<J>>) -> TalkStep<Talk<J>> {
         text: step.text,
         parting: step.parting,
         has_changed: step.has_changed,
+        has_player: step.has_player,
     }
 }
 

@@ -45,12 +45,14 @@ impl<J: HallName> TelnetTalk<J> {
         requires { ∥ (session.has_ended ≡ false → NamesSeen session seat.desk) ∥₁ }
     {
         let has_changed = seat.accepted_count() > before;
+        let has_player = seat.has_player();
         let desk = seat.into_desk();
         TalkStep {
             talk: TelnetTalk { session, desk },
             text,
             parting,
             has_changed,
+            has_player,
         }
     }
 

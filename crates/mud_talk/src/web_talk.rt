@@ -76,11 +76,13 @@ impl<J: HallName> WebTalk<J> {
         requires sits { ∥ (has_ended web ≡ false → SitsOnWeb web desk.state) ∥₁ }
         requires leaves { ∥ LeavesUpTo 0 replies.items ∥₁ }
     {
+        let has_player = desk.has_player();
         TalkStep {
             talk: WebTalk { alloc, web, desk },
             text: Held::new(replies, 0),
             parting,
             has_changed: false,
+            has_player,
         }
     }
 
@@ -133,12 +135,14 @@ impl<J: HallName> WebTalk<J> {
         requires { ∥ (has_ended web ≡ false → SitsOnWeb web seat.desk) ∥₁ }
     {
         let has_changed = seat.accepted_count() > before;
+        let has_player = seat.has_player();
         let desk = seat.into_desk();
         TalkStep {
             talk: WebTalk { alloc, web, desk },
             text,
             parting,
             has_changed,
+            has_player,
         }
     }
 

@@ -28,6 +28,7 @@ struct Reading<'a, J: HallName, R> {
     connection: &'a Connection<J>,
     at: usize,
     patience: Patience,
+    is_counted: bool,
 }
 
 impl<'a, J: HallName, R: Threads + Wait + Log + Clock + Sync> Reading<'a, J, R> {
@@ -47,6 +48,7 @@ impl<'a, J: HallName, R: Threads + Wait + Log + Clock + Sync> Reading<'a, J, R> 
             connection,
             at,
             patience,
+            is_counted: false,
         }
     }
 
@@ -55,7 +57,8 @@ impl<'a, J: HallName, R: Threads + Wait + Log + Clock + Sync> Reading<'a, J, R> 
         self.patience.hear(now(self.rt));
     }
 
-    // Where the session has made a change, others are told: there are as many entries at least.
+    // Where the session has made a change, others are told: there are as many entries at least. With its first one it
+    // counts as a player's.
     fn tell_change(&mut self, said: &Said) {
         if !said.has_changed {
             return;
@@ -63,8 +66,17 @@ impl<'a, J: HallName, R: Threads + Wait + Log + Clock + Sync> Reading<'a, J, R> 
         let version = said.text.version();
         self.house.tell_change(self.rt, self.at, version);
         self.house.warn_if_nearly_full(self.rt, version);
-        if self.patience.name() {
+        if !self.is_counted {
+            self.is_counted = true;
             self.house.count_player();
+        }
+    }
+
+    // After a step: others are told of its change, and a session that is a player's now waits for none any more.
+    fn tell(&mut self, said: &Said) {
+        self.tell_change(said);
+        if said.has_player {
+            self.patience.name();
         }
     }
 
@@ -75,7 +87,7 @@ impl<'a, J: HallName, R: Threads + Wait + Log + Clock + Sync> Reading<'a, J, R> 
         let Some(said) = feed(talk, self.rt, self.house, typed) else {
             return false;
         };
-        self.tell_change(&said);
+        self.tell(&said);
         self.connection.note_answer(now(self.rt));
         self.connection.send(self.rt, self.house, talk, said)
     }
@@ -118,7 +130,7 @@ impl<'a, J: HallName, R: Threads + Wait + Log + Clock + Sync> Reading<'a, J, R> 
             let Some(said) = feed(talk, self.rt, self.house, line) else {
                 return;
             };
-            self.tell_change(&said);
+            self.tell(&said);
         }
     }
 

@@ -20,6 +20,8 @@ pub(crate) struct Said {
     pub(crate) parting: Option<Parting>,
     /// Whether a change was accepted.
     pub(crate) has_changed: bool,
+    /// Whether the desk is a player's now.
+    pub(crate) has_player: bool,
 }
 
 // The desk of a place, and its number.
@@ -67,6 +69,7 @@ fn put_back<J: HallName>(talk: &mut Option<Talk<J>>, step: TalkStep<Talk<J>>) ->
         text: step.text,
         parting: step.parting,
         has_changed: step.has_changed,
+        has_player: step.has_player,
     }
 }
 
@@ -108,6 +111,7 @@ pub(crate) fn take_in<J: HallName>(
                 text: step.text,
                 parting: step.parting,
                 has_changed: step.has_changed,
+                has_player: step.has_player,
             })
         }
         other => {

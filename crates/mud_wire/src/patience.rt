@@ -8,13 +8,12 @@ pub fn now<C: Clock>(clock: &C) -> Duration {
     clock.monotonic().unwrap_or(Duration::ZERO)
 }
 
-/// How long a session waits for a line, and for its player, since when, and whether it is a player's.
+/// How long a session waits for a line, and for its player, and since when.
 #[derive(Clone, Copy)]
 pub struct Patience {
     idle: Option<Duration>,
     unnamed: Option<Duration>,
     is_limited: bool,
-    is_named: bool,
     last_line: Duration,
     start: Duration,
 }
@@ -44,7 +43,6 @@ impl Patience {
             idle: limit(idle),
             unnamed: limit(unnamed),
             is_limited: 0 < idle || 0 < unnamed,
-            is_named: false,
             last_line: now,
             start: now,
         }
@@ -60,12 +58,9 @@ impl Patience {
         self.is_limited
     }
 
-    /// The session is a player's from now on; whether it was nobody's before.
-    pub fn name(&mut self) -> bool {
-        let was_named = self.is_named;
-        self.is_named = true;
+    /// The session is a player's from now on.
+    pub fn name(&mut self) {
         self.unnamed = None;
-        !was_named
     }
 
     /// How long the next read may wait, for ever where there is no limit; or what ends the session now.

@@ -51,7 +51,7 @@ SettlesInPart limits has_web loaded held now_held =
     ⊎ ((opening : Opening has_web) × (n : ℕ) × (history : List Entry) × MayEnd limits loaded history
     × Appends held now_held (lines_of has_web opening ++ take n (history_text Two history)))
 
--- when each fault comes, and what it leaves of the writer
+-- when `Write` and `Load` come, and what they leave of the writer; of any other fault nothing is said
 abbrev pub IsListenFault : ℕ → List Entry → Writer → Writer → ListenFault → Type 0
 IsListenFault capacity loaded old new Write = new.has_failed ≡ true
 IsListenFault capacity loaded old new (Load fault) = IsLoadFault capacity loaded fault × (new ≡ old)

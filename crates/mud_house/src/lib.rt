@@ -2,7 +2,7 @@
 //!
 //! A [`House`] has the hall, the places for its sessions with their desks, the bells of their notice threads, and the
 //! lobby. [`Arrivals`] are the connections that come in by the [`Doors`]. A [`Scribe`] writes the journal; at the end
-//! the hall is settled, and its history is tried and written. No thread begins here: `mud_listen` does that.
+//! the hall is settled, and its history is tried and written. No thread begins here: `mud_threads` does that.
 #![tactic(auto)]
 
 mod arrivals;

@@ -1,9 +1,9 @@
 //! A journal: a history's text, without its last line, that grows on a disk.
 //!
-//! [`found`] opens the file of a journal and reads what is there, without a change to it; [`recover`] does the same
-//! for the bytes of any disk. [`Found::begin`] cuts off what is torn, and goes on. [`Journal::commit`] adds entries by
-//! one append and one sync, and answers a [`Receipt`]. A [`Gate`] is told of receipts, and lets go those who wait for
-//! them: the bytes of a [`Held`] text come out only by a receipt for its version.
+//! [`find_journal`] opens the file of a journal and reads what is there, without a change to it; [`recover`] does the
+//! same for the bytes of any disk. [`Found::begin`] cuts off what is torn, and goes on. [`Journal::commit`] adds
+//! entries by one append and one sync, and answers a [`Receipt`]. A [`Gate`] is told of receipts, and lets go those
+//! who wait for them: the bytes of a [`Held`] text come out only by a receipt for its version.
 //!
 //! Proved, over every [`Disk`]: what it holds after each call, and by [`laws`] that nothing that was synced is lost,
 //! whatever a crash leaves. That a file is such a disk is believed.

@@ -37,7 +37,7 @@
 //! of a subnegotiation.
 #![tactic(auto)]
 
-ghost use Rattle.std.specs.Prelude.{◌≡◌, ◌≤◌, List, ℕ, [], ◌∷◌, ◌++◌, length, OnOk, OnErr, IfOk, IfErr, IsTrue, take};
+ghost use Rattle.std.specs.Prelude.{◌≡◌, ◌≤◌, [], ◌∷◌, ◌++◌, length, OnOk, OnErr, IfOk, IfErr, IsTrue, take};
 ghost use Rattle.std.specs.Prelude.{◌+◌, ◌<◌, slice_index, All, IfSome};
 ghost use Rattle.std.specs.List.{list_any};
 ghost use Rattle.mud_nvt.specs.Machine.{next, byte_units, byte_strokes, after_stroke, stroke_units, run, run_units};

@@ -1,7 +1,7 @@
 //! What one connection is: a session at its desk, by Telnet or over a web socket.
 //!
 //! A [`Talk`] gives what a session says as a held text, which a wire of `mud_wire` sends once what it may name is
-//! synced. No thread begins here, and no connection is taken: `mud_listen` does that.
+//! synced. No thread begins here, and no connection is taken: `mud_threads` and `mud_listen` do that.
 #![tactic(auto)]
 
 mod step;

@@ -26,7 +26,7 @@ impl Ending {
 /// What ended a session, as the log names it.
 #[derive(Clone, Copy, Debug, PartialEq, Eq, Error)]
 pub enum Parting {
-    /// The player typed `@quit`, or the other side closed or reset the connection.
+    /// The player typed `quit`, or the other side closed or reset the connection.
     #[error("left")]
     Left,
     /// The other side sent no line for as long as the limit says.

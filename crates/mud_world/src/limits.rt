@@ -12,11 +12,11 @@ pub const MOST_SPEECH: usize = 900;
 /// The most that a key of the world nests: so many questions, one after the other (docs/WORLD.md, "Keys").
 pub const MOST_NESTING: u32 = 3;
 
-/// The levels of an object's own key: it begins at most `MOST_NESTING` questions, one after the other (docs/KEYS.md).
+/// The levels of an object's own key: it begins at most `MOST_NESTING` questions, one after the other (docs/WORLD.md,
+/// "Keys").
 pub const KEY_LEVELS: u32 = MOST_NESTING + 1;
 
-/// How many players meet at most, and so how many members a search or a certificate has (docs/COMMANDS.md,
-/// "Questions").
+/// How many players meet at most, and so how many members a search or a certificate has (docs/COMMANDS.md, `meet`).
 pub const MOST_PARTY: usize = 8;
 
 /// The most entries of a history, and so the highest version of a world (docs/HISTORY.md, "Entries").

@@ -41,9 +41,6 @@ ends all a r e f = e ∙ ap (λ (x : List ℕ). a ++ x) f ∙ append-nil a
 pub says-true : (a b : List ℕ) → bytes_eq a b ≡ true → a ≡ b
 says-true a b = (bytes_eq-Decides a b).0
 
-pub true-says : (a b : List ℕ) → a ≡ b → bytes_eq a b ≡ true
-true-says a b = (bytes_eq-Decides a b).1
-
 -- ---- literal texts
 
 -- a literal text is found where it stands at the front

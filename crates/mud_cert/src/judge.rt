@@ -2,7 +2,6 @@
 
 ghost use Rattle.std.specs.Prelude.{◌≡◌, ◌≢◌, nat_eq, find, [], None, Some, option_map, IfOk, IfErr, IsOk};
 ghost use Rattle.std.specs.List.{list_any, list_all};
-ghost use Rattle.mud_roads.specs.Walks.{total};
 ghost use Rattle.mud_world.specs.State.{IsHolding, is_room};
 ghost use Rattle.mud_world.specs.Sound.{IsSound};
 ghost use Rattle.mud_cert.specs.Certificate.{IsCertificate};

@@ -1,9 +1,9 @@
 //! What each kind of line says, read from the bytes between two LFs.
 
-ghost use Rattle.std.specs.Prelude.{◌≡◌, ◌++◌, ◌∷◌, IfOk, drop, length, option_map};
+ghost use Rattle.std.specs.Prelude.{◌≡◌, IfOk, length, option_map};
 ghost use Rattle.std.specs.Str.{bytes_eq};
 ghost use Rattle.mud_cert.specs.inner.Reading.{after, whole, entry_at, exit_at, exits_at, exits_of, pieces_at};
-ghost use Rattle.mud_cert.specs.inner.Reading.{is_above, rises, head_at, version_at, member_at, labels_at, walk_at};
+ghost use Rattle.mud_cert.specs.inner.Reading.{rises, head_at, version_at, member_at, labels_at, walk_at};
 ghost use Rattle.mud_cert.specs.inner.Reading.{cost_at, way_at, route_at, meeting_at, conclusion_at};
 
 use crate::cert::{Conclusion, Form, Meeting};

@@ -1,10 +1,10 @@
 //! What the lines of a text say so far, and what one line more says.
 
-ghost use Rattle.std.specs.Prelude.{◌≡◌, ◌++◌, ◌∷◌, [], ◌<◌, IfOk, length};
-ghost use Rattle.mud_cert.specs.Certificate.{IsNumber, IsCertificate, IsAccount, CountsBy};
+ghost use Rattle.std.specs.Prelude.{◌≡◌, ◌<◌, IfOk};
+ghost use Rattle.mud_cert.specs.Certificate.{IsNumber, IsAccount};
 ghost use Rattle.mud_cert.specs.inner.Opening.{IsOpening};
 ghost use Rattle.mud_cert.specs.inner.Reading.{member_at, conclusion_at};
-ghost use Rattle.mud_cert.specs.inner.Stages.{IsStage, certificate_with, suits, conclude, join, next};
+ghost use Rattle.mud_cert.specs.inner.Stages.{IsStage, suits, conclude, join, next};
 
 use crate::cert::{Cert, Conclusion, Form, Member};
 use crate::lines::{conclusion_of, head_of, labels_of, member_of, says, version_of, walk_of};

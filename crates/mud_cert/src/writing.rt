@@ -1,13 +1,11 @@
 //! The text of a certificate, written.
 
-ghost use Rattle.std.specs.Prelude.{◌≡◌, ◌++◌, ◌∷◌, [], codes, decimal, OnOk, OnErr, option_map, string_bytes};
+ghost use Rattle.std.specs.Prelude.{◌≡◌, ◌++◌, OnOk, OnErr, option_map, string_bytes};
 ghost use Rattle.std.specs.List.{flat_map};
 ghost use Rattle.mud_cert.specs.Text.{text_of, head_line, entry_text};
-ghost use Rattle.mud_cert.specs.inner.Lines.{version_line, labels_line, with_line_feed, exit_text};
+ghost use Rattle.mud_cert.specs.inner.Lines.{with_line_feed, exit_text};
 ghost use Rattle.mud_cert.specs.Text.{walk_line, member_lines, conclusion_line};
-ghost use Rattle.mud_cert.specs.inner.Lines.{member_line};
 ghost use Rattle.mud_cert.specs.Text.{cert_lines, cert_text};
-ghost use Rattle.mud_cert.specs.inner.Lines.{opening_lines};
 
 use crate::cert::{Cert, Conclusion, Form, Member};
 use mud_roads::Label;

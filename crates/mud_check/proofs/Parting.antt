@@ -3,7 +3,7 @@ use Rattle.std.proofs.Common.{◌≡◌, ℕ, ◌-◌, true, false, List, [], �
 use Rattle.std.proofs.Common.{arith, inl, inr, append_assoc}
 use Rattle.std.proofs.Math.Seq.{take-append_seam}
 use Rattle.std.proofs.lemmas.List.{append-nil, length-append}
-use Rattle.std.proofs.lemmas.List.Elements.{All-nil, All-push}
+use Rattle.std.proofs.lemmas.List.Elements.{All-push}
 use Rattle.std.proofs.lemmas.Grind.{flat_map-append}
 use Rattle.mud_key.specs.declared.codes.TheConstants.{LF}
 use Rattle.mud_cert.specs.Text.{text_of}
@@ -16,10 +16,6 @@ pub record IsPassed (bytes rest : List ℕ) : Type 0 where
   pub front : List (List ℕ)
   pub inner : All IsInner front
   pub bytes_are : bytes ≡ text_of front ++ rest
-
--- nothing was passed
-pub none-passed : (bytes : List ℕ) → IsPassed bytes bytes
-none-passed bytes = record { front = []; inner = All-nil IsInner; bytes_are = refl }
 
 -- the text of lines and one more
 text_of-push : (front : List (List ℕ)) (line : List ℕ)

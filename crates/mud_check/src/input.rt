@@ -1,6 +1,6 @@
 //! The two texts of standard input.
 
-ghost use Rattle.std.specs.Prelude.{◌≡◌, codes};
+ghost use Rattle.std.specs.Prelude.{◌≡◌};
 ghost use Rattle.mud_check.specs.Input.{begins_end};
 ghost use Rattle.mud_check.specs.Input.{IsSplit};
 

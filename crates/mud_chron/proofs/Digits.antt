@@ -1,8 +1,8 @@
 -- What is spelled of a number is found as the number.
-use Rattle.std.proofs.Common.{◌≡◌, ℕ, ◌+◌, ◌-◌, ◌*◌, ◌/◌, ◌%◌, ◌^◌, ◌<◌, ◌≤◌, true, List, [], ◌∷◌, ◌++◌, Bool, false}
-use Rattle.std.proofs.Common.{Option, Some, None, Result, Ok, Err, cond, leb, ltb, refl, sym, ◌∙◌, ap, arith}
+use Rattle.std.proofs.Common.{◌≡◌, ℕ, ◌+◌, ◌-◌, ◌*◌, ◌/◌, ◌%◌, ◌^◌, ◌<◌, ◌≤◌, true, List, [], ◌∷◌, ◌++◌}
+use Rattle.std.proofs.Common.{Option, Some, None, leb, ltb, refl, sym, ◌∙◌, ap, arith}
 use Rattle.std.proofs.Common.{append_assoc, eqb}
-use Rattle.std.specs.Prelude.{◌&&◌, not, IfOk}
+use Rattle.std.specs.Prelude.{◌&&◌, not}
 use Rattle.std.specs.List.{list_all}
 use Rattle.std.specs.Fmt.{decimal}
 use Rattle.std.proofs.lemmas.Fmt.{decimal_by_steps}
@@ -13,8 +13,7 @@ use Rattle.mud_key.specs.declared.codes.TheConstants.{SPACE, ZERO, NINE}
 use Rattle.mud_key.specs.declared.limits.TheConstants.{LAST_NUMBER}
 use Rattle.mud_key.specs.Printed.{number_text}
 use Rattle.mud_chron.specs.declared.fields.TheConstants.{ROOM_FOR_A_DIGIT}
-use Rattle.mud_chron.specs.declared.fields.Unread.{Unread}
-use Rattle.mud_chron.specs.inner.Fields.{is_digit, digits_on, up_to, object_in, Gives, Finds}
+use Rattle.mud_chron.specs.inner.Fields.{is_digit, digits_on, up_to, object_in}
 use Rattle.mud_chron.specs.inner.Reader.{◌>>=◌, object_before}
 use Rattle.mud_chron.proofs.Cutting.{lacks, cut_again, implied}
 
@@ -69,22 +68,6 @@ number_again most n le few =
 
 pub object_again : (n : ℕ) → n ≤ LAST_NUMBER → object_in (number_text n) ≡ Some n
 object_again n le = number_again LAST_NUMBER n le (omega arith)
-
--- what was answered is the number that was spelled
-pub given : (r : Result ℕ Unread) (found : Option ℕ) (n : ℕ) → Gives r found → found ≡ Some n → Finds (λ m. m ≡ n) r
-given (Ok m) found n h is = let both : Some m ≡ Some n = sym h ∙ is in cc
-given (Err e) found n h is = let bad : ◌≡◌ {A = Option ℕ} None (Some n) = sym h ∙ is in absurd (cc)
-
--- a number that was answered is at most this
-pub given_most : (r : Result ℕ Unread) (most : ℕ) (found : Option ℕ) → Gives r (up_to most found)
-    → IfOk r (λ n. n ≤ most)
-given_most (Ok m) most None h = absurd (let bad : ◌≡◌ {A = Option ℕ} None (Some m) = h in cc)
-given_most (Ok m) most (Some n) h = go (leb n most) refl h
-  where
-    go : (b : Bool) → leb n most ≡ b → cond b (Some n) None ≡ Some m → m ≤ most
-    go true e i = let same : n ≡ m = cc in let le = leb-true n most e in omega (arith, le, same)
-    go false e i = absurd (let bad : ◌≡◌ {A = Option ℕ} None (Some m) = i in cc)
-given_most (Err e) most found h = tt
 
 pub object_before_again : (n : ℕ) (rest : List ℕ) → n ≤ LAST_NUMBER
     → object_before (number_text n ++ SPACE ∷ rest) ≡ Some (n, rest)

@@ -39,11 +39,6 @@ legal-at w [] e behind legal = legal.0
 legal-at w (b ∷ before) e behind legal =
     ap (λ v. refusal (world_from v before) e) (made w b legal.0) ∙ legal-at (after w b) before e behind legal.1
 
--- what is known of a history that is legal so far
-pub record IsMade (es : List Entry) (w : State) : Type 0 where
-  pub legal : AreLegal (changes_of es)
-  pub world : w ≡ world_of (changes_of es)
-
 -- the next change is legal
 pub grown : (es : List Entry) (i : ℕ) (d : Entry) (w : State) → i < length es
     → AreLegal (changes_of (take i es)) → w ≡ world_of (changes_of (take i es))

@@ -32,10 +32,10 @@ use Rattle.mud_world.specs.inner.Parts.{is_printable}
 use Rattle.mud_chron.specs.declared.codes.TheConstants.{QUOTE}
 use Rattle.mud_chron.specs.inner.Fields.{with_commas}
 use Rattle.mud_chron.specs.Text.{in_quotes}
-use Rattle.mud_chron.specs.inner.Fields.{Lacks, is_digit}
+use Rattle.mud_chron.specs.inner.Fields.{is_digit}
 use Rattle.mud_chron.specs.inner.Reader.{◌>>=◌, cut, without_miss, number_key_in, speech_in, meaning, names_before}
 use Rattle.mud_chron.specs.inner.Reader.{quoted_in, quoted_name_in}
-use Rattle.mud_chron.proofs.Cutting.{lacks, lacks_all, cut_again, implied, tested}
+use Rattle.mud_chron.proofs.Cutting.{lacks, cut_again, implied, tested}
 use Rattle.mud_chron.proofs.Digits.{digits, object_again}
 
 -- ---- bytes
@@ -136,13 +136,6 @@ name_again name is =
     ap (λ (o : Option (List ℕ × List ℕ)). o >>= (λ q. name_in q.0))
     (cut_again QUOTE (with_commas (name ∷ [])) [] (listed_lacks (name ∷ []) (is, tt)))
     ∙ ap name_in (append-nil name) ∙ (name_law name name).1 (refl, is)
-
--- no quote stands among names
-pub names_lack : (names : List (List ℕ)) → AreNames names → Lacks QUOTE (with_commas names)
-names_lack names h = lacks_all QUOTE (with_commas names) (listed_lacks names (each_of names h))
-
-pub name_lacks : (name : List ℕ) → IsName name → Lacks QUOTE name
-name_lacks name is = lacks_all QUOTE name (all_names (λ b. not (eqb b QUOTE)) no_quote name is)
 
 -- ---- keys
 

@@ -1,7 +1,7 @@
 //! An entry of a history.
 
 ghost use Rattle.std.specs.Prelude.{◌≡◌, IfOk};
-ghost use Rattle.mud_chron.specs.Entry.{Entry, IsSpellable, IsEntry, HasParts};
+ghost use Rattle.mud_chron.specs.Entry.{Entry, IsSpellable, IsEntry};
 
 use crate::copying::copy_change;
 use crate::parts::has_parts;

@@ -1,15 +1,9 @@
 //! The fields of a line. What is found here counts only where it is spelled as the line
 //! (`line.rt`), so that a field may be found in more than its own spelling.
 
-ghost use Rattle.std.specs.Prelude.{◌≡◌, ◌≢◌, ◌⊎◌, ◌≤◌, ◌<◌, ◌++◌, ◌∷◌, ℕ, List, codes, IfOk, IsTrue};
-ghost use Rattle.std.specs.Fmt.{decimal};
-ghost use Rattle.mud_key.specs.Name.{IsName};
-ghost use Rattle.mud_key.specs.Names.{AreNames};
-ghost use Rattle.mud_key.specs.Tree.{Tree, IsKey};
-ghost use Rattle.mud_key.specs.Printed.{number_text, by_text, printed};
-ghost use Rattle.mud_world.specs.Speech.{is_speech};
+ghost use Rattle.std.specs.Prelude.{◌≡◌, ◌≢◌, ◌⊎◌, ◌≤◌, ◌<◌, IfOk};
 ghost use Rattle.mud_chron.specs.Entry.{IsNumber};
-ghost use Rattle.mud_chron.specs.inner.Fields.{Gives, with_commas, digits_on, object_in};
+ghost use Rattle.mud_chron.specs.inner.Fields.{Gives, digits_on, object_in};
 ghost use Rattle.mud_key.specs.Reading.{names_in, name_in};
 ghost use Rattle.mud_chron.specs.inner.Reader.{Tells, cut, number_up_to, object_before, speech_in, number_key_in};
 

@@ -1,6 +1,6 @@
 //! What is left of a journal that was cut at any byte.
 
-ghost use Rattle.std.specs.Prelude.{◌≡◌, ◌≢◌, IfOk, IfErr, MatchBool};
+ghost use Rattle.std.specs.Prelude.{◌≢◌, IfOk, IfErr, MatchBool};
 ghost use mathlib.Core.List.{IsPrefix};
 ghost use Rattle.mud_chron.specs.Faults.{IsNoHistory};
 ghost use Rattle.mud_chron.specs.Fronts.{BeginsHead, Recovers, HasFrontFault};

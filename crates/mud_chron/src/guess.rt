@@ -1,17 +1,8 @@
 //! The entry that may have a line.
 
-ghost use Rattle.std.specs.Prelude.{◌≡◌, ◌≤◌, ◌<◌, ◌^◌, ◌++◌, ◌∷◌, [], ℕ, List, Option, None, Some, codes, IfOk};
-ghost use Rattle.std.specs.Fmt.{decimal};
+ghost use Rattle.std.specs.Prelude.{◌≤◌, ◌<◌, Option, None, Some, IfOk};
 ghost use Rattle.mud_key.specs.declared.limits.TheConstants.{LAST_NUMBER};
-ghost use Rattle.mud_key.specs.Name.{IsName};
-ghost use Rattle.mud_key.specs.Printed.{number_text};
-ghost use Rattle.mud_key.specs.Names.{AreNames};
-ghost use Rattle.mud_world.specs.declared.change.Doors.{Doors as DoorsSeen};
-ghost use Rattle.mud_world.specs.declared.change.Change.{Change as ChangeSeen};
-ghost use Rattle.mud_chron.specs.Entry.{Entry, IsNumber, IsInRange, IsSpellable, IsEntry, HasParts};
-ghost use Rattle.mud_world.specs.inner.Parts.{AreDoors, AreBackNames};
-ghost use Rattle.mud_chron.specs.Text.{in_quotes, entry_line};
-ghost use Rattle.mud_chron.specs.inner.Texts.{back_text, doors_text, change_text};
+ghost use Rattle.mud_chron.specs.Entry.{Entry, IsInRange};
 ghost use Rattle.mud_chron.specs.inner.Reader.{Tells, quoted_in, quoted_name_in, back_in, doors_in, new_in, old_in};
 ghost use Rattle.mud_chron.specs.inner.Reader.{dig_in, make_in, player_in, lock_in, unlock_in, move_in, walk_in};
 ghost use Rattle.mud_chron.specs.inner.Reader.{cost_in, rename_in, recycle_in, say_in, emote_in, deed_in, change_in};

@@ -1,6 +1,5 @@
 //! The words of a history's lines.
 
-ghost use Rattle.std.specs.Prelude.{◌≡◌};
 ghost use Rattle.mud_chron.specs.inner.Reader.{Tells, verb_in};
 
 use crate::fields::Unread;

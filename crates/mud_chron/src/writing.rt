@@ -1,6 +1,6 @@
 //! The text of entries, and of a history.
 
-ghost use Rattle.std.specs.Prelude.{◌≡◌, ◌≤◌, ◌+◌, ◌^◌, ◌<◌, ◌++◌, [], ◌∷◌, List, codes, drop, length, map, IfOk, OnOk};
+ghost use Rattle.std.specs.Prelude.{◌≡◌, ◌≤◌, ◌+◌, ◌<◌, ◌++◌, [], ◌∷◌, codes, length, map, OnOk};
 ghost use Rattle.std.specs.Prelude.{OnErr, string_bytes};
 ghost use Rattle.std.specs.Fmt.{decimal};
 ghost use Rattle.std.specs.List.{flat_map};
@@ -10,13 +10,13 @@ ghost use Rattle.mud_world.specs.declared.limits.TheConstants.{MOST_ENTRIES};
 ghost use Rattle.mud_chron.specs.Text.{in_quotes, target_text, deed_text, entry_line, line_feed};
 ghost use Rattle.mud_chron.specs.inner.Fields.{with_commas};
 ghost use Rattle.mud_chron.specs.Text.{entries_text, end_line, history_text};
-ghost use Rattle.mud_chron.specs.inner.Texts.{back_text, doors_text, change_text};
+ghost use Rattle.mud_chron.specs.inner.Texts.{back_text, doors_text};
 
 use crate::entry::Entry;
 use crate::format::Format;
 use itoa::Buffer;
 use mud_key::{Key, Name, Names, print};
-use mud_world::{Change, Deed, Doors, Speech, Target};
+use mud_world::{Deed, Doors, Speech, Target};
 use std::alloc::{AllocError, Global};
 
 fn push_decimal(out: &mut String, number: u32) -> Result<(), AllocError>

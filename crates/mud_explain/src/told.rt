@@ -1,6 +1,6 @@
 //! What is told of a step.
 
-ghost use Rattle.std.specs.Prelude.{◌≡◌, ◌≤◌, ◌++◌, length, map, Ok, Err, OnOk, codes, string_bytes};
+ghost use Rattle.std.specs.Prelude.{◌≡◌, ◌++◌, map, Ok, OnOk, codes, string_bytes};
 ghost use Rattle.std.specs.List.{flat_map};
 ghost use Rattle.mud_hall.specs.Replies.{reply_shown};
 ghost use Rattle.mud_hall.specs.Answers.{answer_shown};

@@ -1,6 +1,6 @@
 //! The units of a Telnet stream, as lines.
 
-ghost use Rattle.std.specs.Prelude.{◌≡◌, ◌++◌, ◌<◌, ◌+◌, ◌∷◌, [], codes, IfOk, OnOk, string_bytes};
+ghost use Rattle.std.specs.Prelude.{◌≡◌, ◌++◌, ◌<◌, ◌+◌, IfOk, OnOk, string_bytes};
 ghost use Rattle.std.specs.List.{flat_map};
 ghost use Rattle.mud_nvt.specs.Shown.{all_shown, unit_shown};
 ghost use Rattle.mud_nvt.specs.Units.{units};

@@ -1,11 +1,11 @@
 -- A route is a least walk.
-use Rattle.std.proofs.Common.{◌≡◌, ℕ, List, [], ◌∷◌, ◌++◌, reverse, Option, Some, None, refl, sym, ◌∙◌, ap, subst}
+use Rattle.std.proofs.Common.{◌≡◌, ℕ, List, [], ◌∷◌, ◌++◌, reverse, Option, Some, refl, sym, ◌∙◌, ap, subst}
 use Rattle.std.proofs.Common.{arith}
 use Rattle.std.proofs.lemmas.Grind.{reverse_onto}
 use Rattle.std.proofs.lemmas.List.{reverse-reverse}
 use Rattle.mud_roads.specs.declared.label.Label.{Label}
 use Rattle.mud_roads.specs.declared.label.Step.{Step}
-use Rattle.mud_roads.specs.Walks.{Roads, Walk, total, after, IsLeast, Least, NoWalk, RouteBack, IsRoute}
+use Rattle.mud_roads.specs.Walks.{Roads, Walk, total, after, IsLeast, RouteBack, IsRoute}
 use Rattle.mud_roads.proofs.Routes.{walk-snoc, total-snoc, least-one}
 use Rattle.mud_guide.proofs.Lowest.{some-inj}
 use Rattle.mud_guide.specs.inner.Arrivals.{Labelled}
@@ -42,10 +42,3 @@ way-cost roads from to labels least l is ss r =
     (sym is ∙ least-one 1 roads from to (labels to) (total 1 ss) (least to)
     (route_is_least roads from to ss r).1) in
     ap (λ (x : Label). x.cost) same
-
--- without a label there is no way
-pub way-none : (roads : Roads) (from to : ℕ) (labels : ℕ → Option Label) → Labelled roads from labels
-    → labels to ≡ None → NoWalk roads from to
-way-none roads from to labels least is =
-    let P : Option Label → Type 0 = λ o. Least 1 roads from to o in
-    subst P is (least to)

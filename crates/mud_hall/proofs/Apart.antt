@@ -62,15 +62,6 @@ pub left_more : (n v i next : ℕ) (calls : List ℕ) (es : List Entry) (e : Ent
     → e ≡ get_or es i e → e.desk ≡ n → length calls ≤ next → left n v i next calls es ≡ Some (i + v)
 left_more n v i next calls es e lt at is none = rw (drop_all next calls none, own n v i es e lt at is) refl
 
--- there is no more entry
-pub left_end : (n v i next : ℕ) (calls : List ℕ) (es : List Entry) → length es ≤ i → next < length calls
-    → left n v i next calls es ≡ Some (get_or calls next 0)
-left_end n v i next calls es past room = rw (drop_all i es past, drop_more calls next 0 room) refl
-
-pub left_none : (n v i next : ℕ) (calls : List ℕ) (es : List Entry) → length es ≤ i → length calls ≤ next
-    → left n v i next calls es ≡ None
-left_none n v i next calls es past none = rw (drop_all i es past, drop_all next calls none) refl
-
 -- ---- all desks
 
 same_none : (xs ys : List ℕ) → first_apart xs ys ≡ None → xs ≡ ys

@@ -1,12 +1,12 @@
 //! Lines that act.
 
-ghost use Rattle.std.specs.Prelude.{◌≡◌, ◌≢◌, ◌++◌, ◌∷◌, [], ◌<◌, ◌≤◌, ◌+◌, ◌⊎◌};
-ghost use Rattle.std.specs.Prelude.{length, Some, None, IfOk, IfErr, OnErr, OnOk, Err, string_bytes};
+ghost use Rattle.std.specs.Prelude.{◌≡◌, ◌≢◌, [], ◌<◌, ◌+◌, ◌⊎◌};
+ghost use Rattle.std.specs.Prelude.{length, Some, IfOk, IfErr, OnOk, Err, string_bytes};
 ghost use Rattle.mud_words.specs.Line.{line_of};
 ghost use Rattle.mud_rules.specs.Outcome.{IsLawful};
 ghost use Rattle.mud_rules.specs.Replies.{reply_text};
 ghost use Rattle.mud_hall.specs.Told.{world_after};
-ghost use Rattle.mud_hall.specs.Desk.{DeskState, as_player, as_accepted, untold};
+ghost use Rattle.mud_hall.specs.Desk.{as_player, as_accepted, untold};
 ghost use Rattle.mud_hall.specs.Replies.{Failed, reply_shown, Acts, Comes, Stores, verdict_on};
 
 use crate::desk::Desk;

@@ -1,6 +1,6 @@
 //! Who writes the journal of a hall.
 
-ghost use Rattle.std.specs.Prelude.{◌≡◌, ◌≤◌, false, true, length, IfOk, OnOk};
+ghost use Rattle.std.specs.Prelude.{◌≡◌, false, length, IfOk, OnOk};
 ghost use mathlib.Core.List.{IsPrefix};
 ghost use Rattle.mud_hall.specs.Settling.{IsGathered};
 ghost use Rattle.mud_journal.specs.Disk.{Holds};

@@ -1,49 +1,13 @@
 -- What calls of a disk leave of a journal.
-use Rattle.std.proofs.Common.{◌≡◌, ℕ, ◌+◌, inl, inr, List, [], ◌++◌, length, take}
+use Rattle.std.proofs.Common.{◌≡◌, ℕ, ◌+◌, List, ◌++◌, length, take}
 use Rattle.std.proofs.Common.{Option, Some, None, sym, ◌∙◌, ap, arith}
 use Rattle.std.proofs.Math.Seq.{take-append-add, take-length, take-append_seam}
-use Rattle.std.proofs.lemmas.List.{append-nil, length-append}
+use Rattle.std.proofs.lemmas.List.{length-append}
 use Rattle.mud_chron.specs.declared.format.Format.TheVariants.{Two}
 use Rattle.mud_chron.specs.Entry.{Entry}
-use Rattle.mud_chron.specs.Text.{line_feed, head_line, entries_text, journal_text}
-use Rattle.mud_journal.specs.Disk.{Kept, Grows, Syncs, Cuts, Stays, Begins, Holds, Adds, AddsInPart}
+use Rattle.mud_chron.specs.Text.{entries_text, journal_text}
+use Rattle.mud_journal.specs.Disk.{Kept, Grows, Syncs, Stays, Holds, Adds, AddsInPart}
 use Rattle.mud_journal.proofs.Grown.{journal_text-append}
-
--- ---- the opening
-
--- a file that is cut where its text ends
-pub resumed : (a b : Option Kept) (keep : ℕ) → (keep ≡ 0 → ⊥) → Cuts a b keep → (entries : List Entry)
-    → Begins a keep entries → Holds b entries
-resumed None None keep some c entries is = tt
-resumed None (Some m) keep some c entries is = absurd c
-resumed (Some k) None keep some c entries is = absurd c
-resumed (Some k) (Some m) keep some c entries (inl is) = (c.0 ∙ is, c.1 ∙ is)
-resumed (Some k) (Some m) keep some c entries (inr none) = absurd (some none.0)
-
--- a file of which nothing is left, and then the first line
-pub begun : (a b c d : Option Kept) (keep : ℕ) (text : List ℕ) → keep ≡ 0 → text ≡ head_line Two ++ line_feed
-    → Cuts a b keep → Grows b c text → Syncs c d
-    → (entries : List Entry) → Begins a keep entries → Holds d entries
-begun None None None None keep text zero is c g s entries h = tt
-begun None (Some m) y z keep text zero is c g s entries h = absurd c
-begun None None (Some m) z keep text zero is c g s entries h = absurd g
-begun None None None (Some m) keep text zero is c g s entries h = absurd s
-begun (Some k) None y z keep text zero is c g s entries h = absurd c
-begun (Some k) (Some m) None z keep text zero is c g s entries h = absurd g
-begun (Some k) (Some m) (Some l) None keep text zero is c g s entries h = absurd s
-begun (Some k) (Some m) (Some l) (Some j) keep text zero is c g s entries (inl h) =
-    let short : take keep k.appended ≡ [] = ap (λ n. take n k.appended) zero in
-    absurd (omega (
-      arith,
-      ap length (sym short ∙ h),
-      length-append (head_line Two ++ line_feed) (entries_text 1 entries),
-    ))
-begun (Some k) (Some m) (Some l) (Some j) keep text zero is c g s entries (inr h) =
-    let empty : m.appended ≡ [] = c.0 ∙ ap (λ n. take n k.appended) zero in
-    let whole : l.appended ≡ journal_text Two entries =
-    g.0 ∙ ap (λ t. t ++ text) empty ∙ is ∙ sym (append-nil (head_line Two ++ line_feed))
-    ∙ ap (journal_text Two) (sym h.1) in
-    (s.0 ∙ whole, s.1 ∙ whole)
 
 -- ---- more entries
 

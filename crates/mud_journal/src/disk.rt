@@ -1,6 +1,6 @@
 //! A disk as a journal sees it: a file that grows.
 
-ghost use Rattle.std.specs.Prelude.{◌≡◌, ◌≤◌, ◌⊎◌, ℕ, List, Option, None, OnOk, OnErr, take};
+ghost use Rattle.std.specs.Prelude.{ℕ, List, Option, None, OnOk, OnErr, take};
 ghost use Rattle.mud_journal.specs.Disk.{Kept, Grows, Syncs, Cuts, KeepsFront, Stays, IsLeft};
 
 use std::fs::File;

@@ -1,10 +1,10 @@
 //! A journal on a disk.
 
-ghost use Rattle.std.specs.Prelude.{◌≡◌, ◌≤◌, ◌+◌, ◌++◌, ◌<◌, List, [], true, false, Err, IfOk, IfErr, OnOk, OnErr};
+ghost use Rattle.std.specs.Prelude.{◌≡◌, ◌≤◌, ◌+◌, ◌++◌, ◌<◌, List, true, false, Err, IfOk, IfErr, OnOk, OnErr};
 ghost use Rattle.std.specs.Prelude.{length, string_bytes};
 ghost use Rattle.mud_chron.specs.Entry.{Entry};
 ghost use Rattle.mud_chron.specs.Text.{entries_text};
-ghost use Rattle.mud_journal.specs.Disk.{Kept, Holds, HoldsFront, Begins, Adds, AddsInPart};
+ghost use Rattle.mud_journal.specs.Disk.{Holds, Begins, Adds, AddsInPart};
 
 use crate::disk::Disk;
 use crate::fault::JournalFault;

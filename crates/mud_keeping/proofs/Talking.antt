@@ -15,8 +15,8 @@ use Rattle.mud_world.specs.declared.change.Deed.{Deed}
 use Rattle.mud_world.specs.declared.change.Deed.TheVariants.{Dig, Make, Lock, Unlock, Move, Walk, Cost, Player, Rename}
 use Rattle.mud_world.specs.declared.change.Deed.TheVariants.{Recycle, Say, Emote}
 use Rattle.mud_chron.specs.Entry.{Entry}
-use Rattle.mud_chron.specs.Replay.{changes_of, AreLegalFrom, AreLegal}
-use Rattle.mud_keeping.specs.Shorter.{is_talk, without_talk, has_talk, LeadsToSame, IsQuiet}
+use Rattle.mud_chron.specs.Replay.{changes_of, AreLegalFrom}
+use Rattle.mud_keeping.specs.Shorter.{is_talk, without_talk, has_talk, IsQuiet}
 use Rattle.mud_keeping.specs.Laws.{TalkChangesNothing}
 
 -- talk leaves the world as it is

@@ -5,7 +5,6 @@ use Rattle.mud_chron.specs.declared.fault.ChronFault.{ChronFault}
 use Rattle.mud_chron.specs.Entry.{Entry}
 use Rattle.mud_chron.specs.Text.{history_text}
 use Rattle.mud_chron.specs.declared.format.Format.TheVariants.{Two}
-use Rattle.mud_chron.specs.Fronts.{HasFrontFault}
 use Rattle.mud_chron.specs.Replay.{changes_of, AreLegal, HasIllegal}
 use Rattle.mud_keeping.specs.Reading.{KeepsEntries, HasKeptFault, IsRecovered}
 use Rattle.mud_keeping.specs.Shorter.{IsShortened}

@@ -1,6 +1,6 @@
 //! Whether two worlds are the same.
 
-ghost use Rattle.std.specs.Prelude.{◌≡◌, true, map, string_bytes};
+ghost use Rattle.std.specs.Prelude.{◌≡◌, true};
 ghost use Rattle.mud_key.specs.Node.{key_of};
 ghost use Rattle.mud_world.specs.State.{record_at};
 

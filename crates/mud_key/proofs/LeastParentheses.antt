@@ -1,5 +1,5 @@
 -- What is printed is a key text of the key, with the least parentheses.
-use Rattle.std.proofs.Common.{◌≡◌, ℕ, suc, ◌+◌, ◌<◌, ◌≤◌, List, [], ◌∷◌, ◌++◌, refl, append_assoc, arith, Result, Ok}
+use Rattle.std.proofs.Common.{◌≡◌, ℕ, suc, ◌+◌, ◌<◌, ◌≤◌, List, [], ◌∷◌, ◌++◌, append_assoc, arith, Result, Ok}
 use Rattle.std.proofs.Common.{ap, ◌∙◌}
 use Rattle.std.specs.Prelude.{codes, ◌^◌, ◌%◌}
 use Rattle.std.specs.List.{All}
@@ -7,8 +7,6 @@ use Rattle.std.specs.Fmt.{decimal}
 use Rattle.std.proofs.lemmas.Fmt.{decimal_by_steps, decimal_nonempty, length-decimal-le}
 use Rattle.std.proofs.lemmas.List.Elements.{All-nil, All-cons, All-push}
 use Rattle.mud_key.specs.declared.limits.TheConstants.{LAST_NUMBER}
-use Rattle.mud_key.specs.declared.operator.Operator.{Operator}
-use Rattle.mud_key.specs.declared.operator.Operator.TheVariants.{And, Or}
 use Rattle.mud_key.specs.Tree.{Tree, Has, Asks, Not, Join, AllObjects, IsKey}
 use Rattle.mud_key.specs.inner.Keys.{IsDigit, HasLeastParentheses}
 use Rattle.mud_key.specs.KeyText.{Level, Object, Unary, Chain, Spells, number, name, object, asks, not, parentheses}
@@ -63,10 +61,6 @@ enclosed_at_least (Has o) = omega arith
 enclosed_at_least (Asks o) = omega arith
 enclosed_at_least (Not k) = omega arith
 enclosed_at_least (Join op a b) = omega (arith, opens-append (printed (Join op a b)) (41 ∷ []))
-
-opens-sign : (op : Operator) → opens (sign op) ≡ 0
-opens-sign And = refl
-opens-sign Or = refl
 
 opens-join : (a s b : List ℕ) → opens (a ++ 32 ∷ [] ++ s ++ 32 ∷ [] ++ b) ≡ opens a + opens s + opens b
 opens-join a s b =

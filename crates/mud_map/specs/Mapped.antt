@@ -1,11 +1,9 @@
 -- The map of a world, and what of a certificate is drawn into it.
 use Rattle.std.specs.Prelude.{◌≡◌, ◌≢◌, ◌⊎◌, ℕ, ◌≤◌, ◌<◌, List, length}
 use Rattle.mud_world.specs.History.{world_of}
-use Rattle.mud_chron.specs.declared.fault.ChronFault.{ChronFault}
 use Rattle.mud_chron.specs.declared.fault.ChronFault.TheVariants.{OutOfMemory}
 use Rattle.mud_chron.specs.Entry.{Entry}
 use Rattle.mud_chron.specs.Replay.{changes_of, world_at, AreLegal}
-use Rattle.mud_cert.specs.declared.fault.CertFault.{CertFault}
 use Rattle.mud_cert.specs.declared.fault.CertFault.TheVariants.{BadLine}
 use Rattle.mud_cert.specs.Certificate.{Certificate, IsCertificate}
 use Rattle.mud_cert.specs.Text.{cert_text}

@@ -1,7 +1,6 @@
 //! The map of a world.
 
 ghost use Rattle.std.specs.Prelude.{◌≡◌, ◌≢◌, ◌⊎◌, IfOk, IfErr};
-ghost use Rattle.mud_world.specs.History.{world_of};
 ghost use Rattle.mud_chron.specs.Replay.{changes_of, AreLegal};
 ghost use Rattle.mud_keeping.specs.Reading.{KeepsEntries, HasKeptFault};
 ghost use Rattle.mud_keeping.specs.Answer.{KeepsIllegal};

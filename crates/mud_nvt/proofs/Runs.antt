@@ -1,9 +1,8 @@
 -- Characters that are typed one after the other are the machine's steps, a byte at a time.
 use Rattle.std.proofs.Common.{ℕ, ◌≡◌, refl, ap, sym, ◌∙◌, ◌+◌, ◌<◌, ◌≤◌, arith, Bool, true, false, List, [], ◌∷◌}
 use Rattle.std.proofs.Common.{◌++◌, length, All}
-use Rattle.std.proofs.Common.{◌==◌, nat_le, nat_lt, append_assoc, append-nil, IsTrue}
+use Rattle.std.proofs.Common.{◌==◌, nat_le, nat_lt, append_assoc, append-nil}
 use Rattle.std.proofs.Common.{◌≢◌, ◌-◌, take, length-append, length-take, length-take-le}
-use Rattle.std.specs.List.{list_any}
 use Rattle.std.proofs.lemmas.List.{take-take}
 use Rattle.std.proofs.lemmas.List.Elements.{All-head, All-tail}
 use Rattle.std.proofs.lemmas.Bool.Decides.{nat_tests}
@@ -14,8 +13,7 @@ use Rattle.mud_nvt.specs.declared.telnet.Position.TheVariants.{Between}
 use Rattle.mud_nvt.specs.declared.strokes.Stroke.TheVariants.{Character}
 use Rattle.mud_nvt.specs.Lines.{IsPrintable}
 use Rattle.mud_nvt.specs.Editing.{stroke}
-use Rattle.mud_nvt.specs.Memory.{takes_memory}
-use Rattle.mud_nvt.specs.Machine.{Held, next, byte_units, byte_strokes, run, run_units}
+use Rattle.mud_nvt.specs.Machine.{Held, next, byte_units, run, run_units}
 use Rattle.mud_nvt.specs.inner.Typing.{IsTyped, with_text}
 
 -- a terminal that is between two pieces, with a line that isn't too long
@@ -52,10 +50,6 @@ one_typed after_cr text b p l =
 
 one_gives_none : (after_cr : Bool) (text : List ℕ) (b : ℕ) → IsPrintable b → byte_units (typing after_cr text) b ≡ []
 one_gives_none after_cr text b p = rw (is_no_iac b p, is_character after_cr b p) refl
-
-one_takes_memory : (after_cr : Bool) (text : List ℕ) (b : ℕ) → IsPrintable b
-    → IsTrue (list_any takes_memory (byte_strokes (typing after_cr text) b))
-one_takes_memory after_cr text b p = rw (is_no_iac b p, is_character after_cr b p) refl
 
 run_typing : (bs text : List ℕ) → All IsPrintable bs → length text + length bs ≤ MOST
     → run (typing false text) bs ≡ typing false (text ++ bs)

@@ -4,7 +4,7 @@ use Rattle.mud_nvt.specs.Units.{Given, units}
 use Rattle.mud_nvt.specs.Machine.{Held, start, run}
 
 -- these bytes, and no others, came to the terminal. A reader need not look into this: `new` makes one after no bytes,
--- `feed` leads on from there, and what is claimed of the units names their definition alone
+-- `feed` leads on from there, and what is claimed of the units names only their definition
 pub record StandsAfter (held : Held) (bytes : List ℕ) : Type 0 where
   pub is : held ≡ run start bytes
 

@@ -1,4 +1,4 @@
-//! What is proved of the definitions alone. Each law is what an empty function ensures.
+//! What is proved of definitions only. Each law is what an empty function ensures.
 
 ghost use Rattle.std.specs.Prelude.{◌≡◌, ◌↔◌, ℕ, List, All, ◌++◌};
 ghost use Rattle.mud_nvt.specs.declared.telnet.Piece.{Piece};

@@ -11,9 +11,6 @@ use Rattle.mud_roads.specs.Laws.{ValidIsLeast}
 pub at_most-trans : (a b c : Label) → AtMost a b → AtMost b c → AtMost a c
 at_most-trans a b c p q = (omega arith, λ e. omega arith)
 
-pub at_most-after : (hop : ℕ) (a b : Label) (s : Step) → AtMost a b → AtMost (after hop a s) (after hop b s)
-at_most-after hop a b s p = (omega arith, λ e. omega arith)
-
 -- the label this walk on
 abbrev pub plus : ℕ → Label → List Step → Label
 plus hop l ss =

@@ -1,6 +1,6 @@
 //! A player of a world, and what is open to him.
 
-ghost use Rattle.std.specs.Prelude.{◌≡◌, ℕ, IfOk, IsTrue};
+ghost use Rattle.std.specs.Prelude.{◌≡◌, IfOk, IsTrue};
 ghost use Rattle.mud_world.specs.State.{is_player};
 ghost use Rattle.mud_roads.specs.Open.{passable, open_step, roads_of, known_roads, IsTraveller};
 

@@ -23,7 +23,7 @@ use Rattle.mud_rules.specs.inner.Parts.{members, all_refusals, refuses}
 use Rattle.mud_rules.specs.inner.Steps.{unfit}
 use Rattle.mud_rules.proofs.Least.{lesser_first, find-append_miss}
 
--- three refusals are of lines alone
+-- three refusals are of lines only
 of_lines : (w : State) (p : ℕ) (deed : Deed) → let e : Change = record { actor = p; deed = deed } in
     (fails w e NotUnderstood ≡ false) × ((fails w e Ambiguous ≡ false) × (fails w e PartyBad ≡ false))
 of_lines w p (Dig target doors) = (refl, (refl, refl))

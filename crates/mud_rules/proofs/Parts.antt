@@ -41,10 +41,6 @@ lesser-assoc (Some f) (Some g) (Some h) =
     (λ less. let hg = ltb-false (number h) (number g) less in first f h (omega (arith, hg, gf)) ∙ sym (first f g gf)
     ∙ ap (lesser (Some f)) (sym (first g h hg))))
 
-lesser-none : (a : Option Refusal) → lesser a None ≡ a
-lesser-none None = refl
-lesser-none (Some f) = refl
-
 pub least-err : (found : List (Result ℕ Refusal)) (i : ℕ) (d : Result ℕ Refusal) (f : Refusal) (least : Option Refusal)
     → i < length found → get_or found i d ≡ Err f
     → lesser least (least_refusal (drop i found)) ≡ lesser (lesser least (Some f)) (least_refusal (drop (i + 1) found))

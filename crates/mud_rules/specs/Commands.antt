@@ -1,4 +1,4 @@
--- What each command means to a player, of the objects and texts that its line gives.
+-- The parts of the table of commands that are longer than a row, of the objects and texts that a line gives.
 use Rattle.std.specs.Prelude.{ℕ, not, ◌||◌, List, [], length, nat_eq, nat_lt, Bool, Option, Some, None, is_none}
 use Rattle.std.specs.Prelude.{unwrap_or}
 use Rattle.std.specs.Prelude.{if◌then◌else◌}

@@ -134,7 +134,7 @@ other_line w p l =
     on_found (object_meant NotUnderstood (sole_like Equal w (join_with_byte SPACE (l.verb ∷ l.args)) exits))
     (λ x. does w p None (Walk x))
 
--- a guest, who is no player, has `connect` and `quit` alone
+-- a guest, who is no player, has only `connect` and `quit`
 abbrev pub guest : State → Line → Option Verb → Verdict
 guest w l (Some verb.Connect) = connect_line w l
 guest w l (Some verb.Quit) = if_shaped (is_empty l.args) (Ask (query.View Quit))

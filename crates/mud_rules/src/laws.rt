@@ -1,4 +1,4 @@
-//! What is known of the definitions alone.
+//! What is known of definitions only.
 
 ghost use Rattle.mud_rules.specs.Laws.{IsAlikeWhateverIsRead, AreQuestions, IsMade};
 ghost use Rattle.std.specs.Prelude.{ℕ, Option, ◌≡◌};

@@ -34,8 +34,8 @@ pub fn is_quit(parsed: &Parsed) -> bool
 
 /// What a line asks for in a world: a change that is legal there, a question, a player to become,
 /// or the refusal of least number (docs/COMMANDS.md). A room in a question is one of that world,
-/// and a party is of its players. Without a player it is the line of a guest,
-/// who has `connect` and `quit` alone.
+/// and a party is of its players. Without a player it is the line of a guest, who has only
+/// `connect` and `quit`.
 ///
 /// A given player is to be one of that world; the line of any other number is decided too, by the
 /// same table. The one error is out of memory.
@@ -78,7 +78,7 @@ fn decision(
 }
 
 impl Actor<'_> {
-    // only `decision` calls it, and a verdict is dear to hand on.
+    // only `decision` calls it, and a verdict is dear to hand on
     #[inline(always)]
     fn command(&self, parsed: &Parsed, verb: Verb) -> Result<Verdict, AllocError>
         ensures { IfOk result (λ v. v ≡ command self.now.world.now self.now.player (line_of parsed.now) verb) }

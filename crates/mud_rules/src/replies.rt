@@ -3,7 +3,7 @@
 ghost use Rattle.std.specs.Prelude.{◌≡◌, ◌++◌, ◌<◌, ◌^◌, IfOk, codes, decimal, unwrap_or, string_bytes};
 ghost use Rattle.mud_key.specs.Printed.{printed, by_text};
 ghost use Rattle.mud_world.specs.State.{destination_of};
-ghost use Rattle.mud_rules.specs.Replies.{refusal_text, welcome_text, exits_text, dug_text, move_text, deed_text};
+ghost use Rattle.mud_rules.specs.Replies.{refusal_text, welcome_text, exits_text, dug_text, move_text};
 ghost use Rattle.mud_rules.specs.Replies.{reply_text};
 
 use crate::listing::push_about;

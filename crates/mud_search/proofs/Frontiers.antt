@@ -314,10 +314,6 @@ pub label-of_boards : (boards : List (List Slot)) (m room : ℕ)
 label-of_boards boards m room = ap (λ b. get_or b room None) (get_or-map (map label_of) boards m [])
     ∙ get_or-map label_of (board_of boards m) room Unknown
 
--- none past the last member
-pub label-past : (boards : List (List Slot)) (m room : ℕ) → length boards ≤ m → label_at (board_of boards m) room ≡ None
-label-past boards m room past = ap (λ (b : List Slot). label_at b room) (get_or_past boards m [] past)
-
 -- where no room waits or is held the labels are the least
 pub frontier-still : (w : State) (ts : List Knowledge) (boards : List (List Slot)) → IsKept w ts boards
     → ((m room : ℕ) (l : Label) → slot_of boards m room ≡ Waiting l → ⊥)

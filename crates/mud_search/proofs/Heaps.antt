@@ -178,17 +178,6 @@ written_labels es ps w at e m fits within is =
     (place_of_entry es ps at e.room m inside is).0
     (label_of_entry (set es at e) ps w at e.room n (omega arith) (ap (λ (x : Entry). x.room) here) ∙ label)
 
--- nobody waits where the front is empty
-pub empty_labels : (es : List Entry) (ps : List ℕ) (r : ℕ) → IsMatched es ps
-    → get_or (waiting_labels es ps 0) r None ≡ None
-empty_labels es ps r m =
-    elim (cases_lt r (length es)) [
-      | inl within ↦
-          let out : label_there es 0 (place_at ps r) ≡ None = grind (arith, nat_tests) in
-          label_at_place es ps 0 r m within ∙ out
-      | inr past ↦ get_or_past (waiting_labels es ps 0) r None (omega (arith, length_labels es ps 0 m))
-    ]
-
 -- what is written where two entries change places
 pub swapped_entries : (es : List Entry) (i j : ℕ) (a b : Entry) → i < length es → j < length es
     → a ≡ entry_at es i → b ≡ entry_at es j

@@ -1,6 +1,6 @@
 -- The order of those that wait, while an entry rises or sinks.
-use Rattle.std.proofs.Common.{◌≡◌, ◌≢◌, ℕ, zero, suc, ◌+◌, ◌-◌, ◌*◌, ◌/◌, ◌<◌, ◌≤◌, inl, inr, refl, Some, None, List}
-use Rattle.std.proofs.Common.{length, set, sym, ◌∙◌, ap, subst, arith, get_or, get_or-set_other}
+use Rattle.std.proofs.Common.{◌≡◌, ℕ, zero, suc, ◌-◌, ◌/◌, ◌<◌, ◌≤◌, inl, inr, refl, Some, None, List}
+use Rattle.std.proofs.Common.{length, sym, ◌∙◌, ap, subst, arith, get_or}
 use Rattle.std.proofs.lemmas.List.{get_or_read}
 use Rattle.std.proofs.lemmas.Bool.{cases_lt, cases_eq}
 use Rattle.mud_roads.specs.declared.label.Label.{Label}
@@ -96,30 +96,6 @@ risen es fs w at above pos within is o s before =
           ];
     }
 
--- an entry at the top rises no more
-pub risen_to_top : (es : List Entry) (w at : ℕ) → at ≡ 0 → IsOrderedBut es w at → IsOrderedDownTo es w at
-risen_to_top es w at is o =
-    record {
-      rest = λ i some less apart. o.rest i some less (omega arith) apart;
-      past = λ i some less under top. absurd (omega arith);
-    }
-
--- nor does one that doesn't come before the one above it
-pub risen_enough : (es : List Entry) (w at above : ℕ) → 0 < at → above ≡ (at - 1) / 2 → IsOrderedBut es w at
-    → IsNoLater (entry_at es above) (entry_at es at) → IsOrderedDownTo es w at
-risen_enough es w at above pos is o after =
-    let P : ℕ → Type 0 = λ k. IsNoLater (entry_at es k) (entry_at es at) in
-    record {
-      rest = λ i some less apart.
-          elim (cases_eq i at) [
-            | inl same ↦
-                let Q : ℕ → Type 0 = λ k. IsNoLater (entry_at es ((k - 1) / 2)) (entry_at es k) in
-                subst Q (sym same) (subst P is after)
-            | inr other ↦ o.rest i some less other apart
-          ];
-      past = o.past;
-    }
-
 -- an entry sinks one step
 pub sunk : (es fs : List Entry) (w at below : ℕ) → 0 < below → below < w → (below - 1) / 2 ≡ at
     → ((i : ℕ) → 0 < i → i < w → (i - 1) / 2 ≡ at → IsNoLater (entry_at es below) (entry_at es i))
@@ -156,82 +132,4 @@ sunk es fs w at below pos within is first before o s =
           moved _ _ (entry_at es below) (entry_at es i) (ap (entry_at fs) is ∙ s.one)
           (s.rest i (omega arith) (omega arith))
           (subst P under (o.rest i some less (omega arith)));
-    }
-
--- an entry with none below sinks no more
-pub sunk_to_end : (es : List Entry) (w at : ℕ) → w ≤ 2 * at + 1 → IsOrderedDownTo es w at → IsOrdered es w
-sunk_to_end es w at last o i some less = o.rest i some less (omega arith)
-
--- nor does one that doesn't come after the first below it
-pub sunk_enough : (es : List Entry) (w at below : ℕ)
-    → ((i : ℕ) → 0 < i → i < w → (i - 1) / 2 ≡ at → IsNoLater (entry_at es below) (entry_at es i))
-    → IsNoLater (entry_at es at) (entry_at es below) → IsOrderedDownTo es w at → IsOrdered es w
-sunk_enough es w at below first after o i some less =
-    elim (cases_eq ((i - 1) / 2) at) [
-      | inl under ↦
-          let P : ℕ → Type 0 = λ k. IsNoLater (entry_at es k) (entry_at es i) in
-          subst P (sym under)
-          (no_later_trans (entry_at es at) (entry_at es below) (entry_at es i) after (first i some less under))
-      | inr other ↦ o.rest i some less other
-    ]
-
--- in order at all places, so also but at one
-pub ordered_but : (es : List Entry) (w at : ℕ) → at < w → IsOrdered es w → IsOrderedBut es w at
-ordered_but es w at within o =
-    record {
-      rest = λ i some less apart not_under. o i some less;
-      past = λ i some less under top.
-          let P : ℕ → Type 0 = λ k. IsNoLater (entry_at es k) (entry_at es i) in
-          no_later_trans (entry_at es ((at - 1) / 2)) (entry_at es at) (entry_at es i) (o at top within)
-          (subst P under (o i some less));
-    }
-
--- one more waits, the last
-pub admitted_order : (es fs : List Entry) (w at : ℕ) → w ≤ at → IsOrdered es w
-    → IsSwapped es fs at w → IsOrderedBut fs (w + 1) w
-admitted_order es fs w at behind o s =
-    record {
-      rest = λ i some less apart not_under.
-          moved _ _ (entry_at es ((i - 1) / 2)) (entry_at es i) (s.rest ((i - 1) / 2) (omega arith) (omega arith))
-          (s.rest i (omega arith) apart)
-          (o i some (omega arith));
-      past = λ i some less under top. absurd (omega arith);
-    }
-
--- one fewer waits, and the last stands in its place
-pub dismissed_order : (es fs : List Entry) (w last at : ℕ) → w ≡ last + 1 → at < last → IsOrdered es w
-    → IsSwapped es fs at last → IsOrderedBut fs last at
-dismissed_order es fs w last at more within o s =
-    let but : IsOrderedBut es w at = ordered_but es w at (omega arith) o in
-    record {
-      rest = λ i some less apart not_under.
-          moved _ _ (entry_at es ((i - 1) / 2)) (entry_at es i) (s.rest ((i - 1) / 2) not_under (omega arith))
-          (s.rest i apart (omega arith))
-          (o i some (omega arith));
-      past = λ i some less under top.
-          moved _ _ (entry_at es ((at - 1) / 2)) (entry_at es i) (s.rest ((at - 1) / 2) (omega arith) (omega arith))
-          (s.rest i (omega arith) (omega arith))
-          (but.past i some (omega arith) under top);
-    }
-
--- one fewer waits, the last
-pub dismissed_last : (es fs : List Entry) (w last at : ℕ) → w ≡ last + 1 → at ≡ last → IsOrdered es w
-    → IsSwapped es fs at last → IsOrdered fs last
-dismissed_last es fs w last at more is o s i some less =
-    moved _ _ (entry_at es ((i - 1) / 2)) (entry_at es i) (s.rest ((i - 1) / 2) (omega arith) (omega arith))
-    (s.rest i (omega arith) (omega arith))
-    (o i some (omega arith))
-
--- whatever is written at a place, the others are in order
-pub written_order : (es : List Entry) (w at : ℕ) (e : Entry) → IsOrderedBut es w at → IsOrderedBut (set es at e) w at
-written_order es w at e o =
-    let kept : (k : ℕ) → k ≢ at → entry_at (set es at e) k ≡ entry_at es k =
-    λ k apart. get_or-set_other es at k e _ apart in
-    record {
-      rest = λ i some less apart not_under.
-          moved _ _ (entry_at es ((i - 1) / 2)) (entry_at es i) (kept ((i - 1) / 2) not_under) (kept i apart)
-          (o.rest i some less apart not_under);
-      past = λ i some less under top.
-          moved _ _ (entry_at es ((at - 1) / 2)) (entry_at es i) (kept ((at - 1) / 2) (omega arith))
-          (kept i (omega arith)) (o.past i some less under top);
     }

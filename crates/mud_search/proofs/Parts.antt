@@ -3,7 +3,7 @@ use Rattle.std.proofs.Common.{◌≡◌, ℕ, ◌-◌, ◌<◌, ◌≤◌, inl, 
 use Rattle.std.proofs.Common.{refl, sym, ◌∙◌, ap, subst, arith}
 use Rattle.std.specs.Prelude.{slice_get}
 use Rattle.std.proofs.lemmas.Bool.{cases_lt}
-use Rattle.std.proofs.lemmas.List.{get_or_append_left, get_or-append_right, get_or_past, length-append}
+use Rattle.std.proofs.lemmas.List.{get_or_append_left, get_or-append_right, length-append}
 use Rattle.std.proofs.lemmas.Option.{slice_get_within, get_or_from_slice_get, slice_get-get_or}
 use Rattle.mud_world.specs.State.{State}
 use Rattle.mud_roads.specs.declared.label.Label.{Label}
@@ -45,13 +45,6 @@ member-back xs ys m x h is =
     let fits : m - length xs < length ys = omega (arith, h, within, length-append xs ys) in
     slice_get-get_or ys (m - length xs) x fits
     ∙ ap Some (sym (get_or-append_right xs ys (length xs) m x refl h) ∙ get_or_from_slice_get (xs ++ ys) m x x is)
-
--- past the last member there is no label
-pub found-past : (w : State) (ts : List Knowledge) (labels : Table (Option Label)) → AreFound w ts labels
-    → (m room : ℕ) → length ts ≤ m → label_in labels m room ≡ None
-found-past w ts labels found m room past =
-    ap (λ row. get_or row room None)
-    (get_or_past (lists_in labels) m [] (omega (arith, found.count, past)))
 
 -- what was found of two parts, one after the other, is what is found of both
 pub found-beside : (w : State) (xs ys : List Knowledge) (a b : Table (Option Label))

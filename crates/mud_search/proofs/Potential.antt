@@ -14,7 +14,7 @@ use Rattle.mud_search.specs.Boards.{board_of, Below}
 use Rattle.mud_search.specs.Slots.{label_of}
 use Rattle.mud_search.proofs.Inside.{AreWithin}
 use Rattle.mud_search.proofs.Faithful.{below-from_test, faithful-lowered, label-bound, label-set_same, follows-offered}
-use Rattle.mud_search.proofs.Faithful.{follows-offers, some-inj, here, there}
+use Rattle.mud_search.proofs.Faithful.{follows-offers, here, there}
 
 -- a lighter slot makes the whole lighter
 pub weight-set : (slots : List Slot) (d : ℕ) (v : Slot) → d < length slots → weight v ≤ weight (slot_at slots d)
@@ -68,32 +68,6 @@ weight-offers roads from rooms inside few by l (s ∷ ss) those slots sound was 
       weight-offers roads from rooms inside few by l ss (λ t c. those t (there s ss t c))
           (offer l s slots) one.0.sound one.0.still,
     )
-
-weight-finished : (v : Slot) (l : Label) → label_of v ≡ Some l → weight (Finished l) ≤ weight v
-weight-finished Unknown l e = absurd (cc)
-weight-finished (Waiting k) l e = let same : k ≡ l = some-inj k l e in rw same (omega arith)
-weight-finished (Held k) l e = let same : k ≡ l = some-inj k l e in rw same (omega arith)
-weight-finished (Finished k) l e = let same : k ≡ l = some-inj k l e in rw same (omega arith)
-
-pub weight-settled : (roads : Roads) (from rooms : ℕ) → AreWithin roads rooms → rooms ≤ NUMBERS → (room : ℕ) (l : Label)
-    → (steps : List Step) → steps ≡ roads room
-    → (slots : List Slot) → IsBoardOf roads from rooms slots → label_at slots room ≡ Some l → room < rooms
-    → sum_by weight (settle room l steps slots) ≤ sum_by weight slots
-weight-settled roads from rooms inside few room l steps are slots sound was h =
-    let P : Step → List Step → Type 0 = λ s ss. Contains ss s in
-    let all = follows-offers roads from rooms inside room l steps (λ s c. subst (P s) are c) slots sound was in
-    let within : room < length (offers l steps slots) = omega (arith, all.0.sound.whole) in
-    omega (
-      arith,
-      weight-offers roads from rooms inside few room l steps (λ s c. subst (P s) are c) slots sound was,
-      weight-set (offers l steps slots) room (Finished l) within
-          (weight-finished (slot_at (offers l steps slots) room) l all.0.still),
-    )
-
--- one member's slots lighter make all lighter
-pub potential-set : (boards : List (List Slot)) (m : ℕ) (b : List Slot) → m < length boards
-    → sum_by weight b ≤ sum_by weight (board_of boards m) → potential (set boards m b) ≤ potential boards
-potential-set boards m b h low = omega (arith, sum_by-set (sum_by weight) boards m b [] h)
 
 -- a room that is settled, and was not finished, makes the whole lighter
 pub weight-settled_left : (roads : Roads) (from rooms : ℕ) → AreWithin roads rooms

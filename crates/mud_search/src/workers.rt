@@ -1,7 +1,6 @@
 //! Several workers at one frontier.
 
-ghost use Rattle.std.specs.Prelude.{◌≡◌, ◌<◌, All, length};
-ghost use Rattle.mud_search.specs.declared.task.Task.{Task};
+ghost use Rattle.std.specs.Prelude.{◌≡◌, ◌<◌, All};
 ghost use Rattle.mud_roads.specs.Open.{IsTraveller};
 
 use crate::frontier::Frontier;

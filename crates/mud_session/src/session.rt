@@ -1,6 +1,6 @@
 //! A session: bytes in, bytes out.
 
-ghost use Rattle.std.specs.Prelude.{◌≡◌, ℕ, List, ◌++◌, [], false, true, if◌then◌else◌, Err, codes};
+ghost use Rattle.std.specs.Prelude.{◌≡◌, ℕ, List, [], false, true, if◌then◌else◌, Err, codes};
 ghost use Rattle.std.specs.Prelude.{OnOk, OnErr, IfOk, string_bytes};
 ghost use Rattle.mud_nvt.specs.History.{StandsAfter};
 ghost use Rattle.mud_nvt.specs.Units.{Text};

@@ -1,6 +1,6 @@
 -- What a session may name after a step.
-use Rattle.std.proofs.Common.{◌≡◌, ℕ, Bool, true, false, List, [], ◌++◌, Ok, Err, length, refl, sym, ap, subst, ◌∙◌}
-use Rattle.std.proofs.Common.{None, append-nil, inl, inr}
+use Rattle.std.proofs.Common.{◌≡◌, ℕ, Bool, true, false, List, [], Ok, Err, length, refl, sym, subst}
+use Rattle.std.proofs.Common.{inl}
 use Rattle.std.proofs.Math.Logic.{∥∥₁_map}
 use Rattle.mud_nvt.specs.History.{StandsAfter}
 use Rattle.mud_hall.specs.Desk.{DeskState, TakesIn}
@@ -10,7 +10,7 @@ use Rattle.mud_session.specs.Feeding.{Feeds, Nudges}
 use Rattle.mud_session.specs.inner.Parts.{greeting}
 use Rattle.mud_session.specs.Naming.{NamesUpTo}
 use Rattle.mud_session.specs.Laws.{NamesSeen}
-use Rattle.mud_session.proofs.Naming.{begins_so, taken_so, names-nil}
+use Rattle.mud_session.proofs.Naming.{begins_so, taken_so}
 use Rattle.mud_talk.specs.Sayings.{SaysUpTo}
 
 -- what `mud_session::laws::nothing_beyond` says
@@ -48,10 +48,6 @@ pub out_named : (session : SessionState) (desk : DeskState) (text : List ℕ) (v
 out_named session desk text version names is long =
     ∥∥₁_map names (λ named.
     inl (subst (λ n. NamesUpTo n text) (sym long) (subst (NamesUpTo (length desk.seen)) (sym is) named.out)))
-
--- nothing names no version
-pub none_named : (text : List ℕ) (version : ℕ) → text ≡ [] → ∥ SaysUpTo version text ∥₁
-none_named text version is = ∣ inl (subst (NamesUpTo version) (sym is) (names-nil version)) ∣₁
 
 -- what was to be sent was taken out
 pub taken : (old new : SessionState) (desk : DeskState) → ∥ NamesSeen old desk ∥₁ → new ≡ record old { out = [] }

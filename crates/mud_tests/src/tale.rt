@@ -1,7 +1,7 @@
 //! Tales: lines of the wizard and of others, each decided, tried and applied by the calls themselves, and the
 //! journeys that are asked for on the way.
 
-ghost use Rattle.std.specs.Prelude.{◌≤◌, IfOk, IsTrue, Some};
+ghost use Rattle.std.specs.Prelude.{IfOk, IsTrue, Some};
 ghost use Rattle.mud_world.specs.State.{is_player};
 ghost use Rattle.mud_rules.specs.Outcome.{IsJourney, IsLawful, IsQuestion};
 

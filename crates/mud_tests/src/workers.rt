@@ -1,6 +1,6 @@
 //! Several workers: that they work at once, which no contract says, and what they find.
 
-ghost use Rattle.std.specs.Prelude.{◌≡◌, ◌≤◌};
+ghost use Rattle.std.specs.Prelude.{◌≡◌};
 ghost use Rattle.mud_roads.specs.Open.{IsTraveller};
 
 use crate::histories::WAY_ROUND;

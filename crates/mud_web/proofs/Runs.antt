@@ -119,17 +119,6 @@ replies_more (x ∷ done) e = rw (replies_more done e, append_assoc) refl
 prepend-prepend : (a b : List Effect) (t : Trace) → prepend a (prepend b t) ≡ prepend (a ++ b) t
 prepend-prepend a b t = rw append_assoc refl
 
-pub reached_none : (conn : Connection) (input : List ℕ) (line : Standing) (t r : List ℕ) → line.conn ≡ conn
-    → line.unread ≡ input
-    → Reached conn input line t t r r
-reached_none conn input line t r same_conn same_input =
-    record {
-      done = [];
-      rest = rw (same_conn, same_input) refl;
-      types = rw append-nil refl;
-      answers = rw append-nil refl;
-    }
-
 pub reached_more : (conn : Connection) (input : List ℕ) (line next : Standing) (t0 t1 t2 r0 r1 r2 : List ℕ)
     → Reached conn input line t0 t1 r0 r1 → Took line next t1 t2 r1 r2 → Reached conn input next t0 t2 r0 r2
 reached_more conn input line next t0 t1 t2 r0 r1 r2 before took = record {
@@ -198,14 +187,6 @@ pub record Keeps (old : Standing) (bytes : List ℕ) (line : Standing) (t0 t1 r0
   pub reached : Reached old.conn (old.unread ++ bytes) line t0 t1 r0 r1
   pub live : IsLive old.conn → IsLive line.conn
   pub goes_on : line.has_ended ≡ old.has_ended
-
-pub keeps_none : (old line : Standing) (bytes t r : List ℕ) → line.conn ≡ old.conn → line.unread ≡ old.unread ++ bytes
-    → line.has_ended ≡ old.has_ended → Keeps old bytes line t t r r
-keeps_none old line bytes t r same_conn same_input same_end = record {
-  reached = reached_none old.conn (old.unread ++ bytes) line t r same_conn same_input;
-  live = λ h. rw same_conn h;
-  goes_on = same_end;
-}
 
 pub feeds_ok : (old line next : Standing) (bytes t0 t1 t2 r0 r1 r2 : List ℕ) (more : Bool) → more ≡ false
     → Keeps old bytes line t0 t1 r0 r1 → Steps line next t1 t2 r1 r2 more → TakesIn old next bytes t0 t2 r0 r2

@@ -1,6 +1,6 @@
 //! A channel: the server's side of a web socket after its handshake.
 
-ghost use Rattle.std.specs.Prelude.{◌≡◌, ◌↔◌, ◌≤◌, ℕ, List, ◌++◌, ◌∷◌, [], length, drop, true, false, Err};
+ghost use Rattle.std.specs.Prelude.{◌≡◌, ◌≤◌, ◌++◌, ◌∷◌, [], length, drop, true, false, Err};
 ghost use Rattle.std.specs.Prelude.{IsUtf8, IfOk, IfErr, OnOk, OnErr, IfSome, option_map};
 ghost use Rattle.websocket.specs.Content.{IsReceivedInside, HasValidText, received_content};
 ghost use Rattle.websocket.specs.Connection.{IsDoneSending, can_write};

@@ -1,20 +1,17 @@
 -- What the frames type is what the session takes.
 use Rattle.std.proofs.Common.{◌≡◌, ℕ, List, [], ◌∷◌, ◌++◌, Result, Ok, Err, refl, ap, ◌∙◌, append-nil, append_assoc}
-use Rattle.websocket.specs.declared.error.Error.{Error}
 use Rattle.websocket.specs.Connection.{Effect, read_step}
 use Rattle.std.specs.Prelude.{OnOk}
 use Rattle.websocket.specs.Frame.{decode_frame}
 use Rattle.websocket.specs.FrameHeader.{decode_header}
-use Rattle.websocket.specs.Stream.{Trace, read_times, read_all}
+use Rattle.websocket.specs.Stream.{read_times, read_all}
 use Rattle.mud_nvt.specs.History as Nvt
-use Rattle.mud_web.specs.Channel.{Standing, new_connection, text_typed, typed_of, Finishes, Grows, TakesIn, EndsWith}
+use Rattle.mud_web.specs.Channel.{Standing, new_connection, text_typed, typed_of, Finishes, Grows, TakesIn}
 use Rattle.mud_web.specs.Channel as Channel
-use Rattle.mud_web.specs.Closing.{closes_for}
 use Rattle.mud_session.specs.Session.{TakingIn}
 use Rattle.mud_session.specs.State.{SessionState, DoorState}
-use Rattle.mud_session.specs.Feeding.{Feeds, Nudges}
-use Rattle.mud_web_session.specs.Web.{WebState, with_output, StandsAfter, AnswersTyped, NudgesWeb, FeedsWeb, EndsWeb}
-use Rattle.mud_web_session.specs.Web.{Sent}
+use Rattle.mud_session.specs.Feeding.{Feeds}
+use Rattle.mud_web_session.specs.Web.{WebState, with_output, StandsAfter, AnswersTyped, FeedsWeb}
 
 typed-append : (some more : List Effect) → text_typed (some ++ more) ≡ text_typed some ++ text_typed more
 typed-append [] more = refl
@@ -24,35 +21,6 @@ typed_grows : (earlier bytes : List ℕ) (fresh : List Effect) → Finishes earl
     → typed_of (earlier ++ bytes) ≡ typed_of earlier ++ text_typed fresh
 typed_grows earlier bytes fresh finishes =
     ap text_typed finishes ∙ typed-append (read_all new_connection earlier).effects fresh
-
-said_again : (mid new : SessionState) → new ≡ with_output mid [] → with_output new mid.out ≡ mid
-said_again mid new is = rw is refl
-
-pub answered : (takes_in : TakingIn) (line : List ℕ) (channel : Standing) (old mid : SessionState) (new : WebState)
-    (old_door new_door : DoorState) (out_old out_new : List ℕ)
-    → ((earlier : List ℕ) → Nvt.StandsAfter old.terminal earlier
-    → Feeds takes_in earlier line old mid old_door new_door)
-    → Sent (record { channel = channel; session = mid }) new out_old out_new
-    → AnswersTyped takes_in line (record { channel = channel; session = old }) new old_door new_door out_old out_new
-answered takes_in line channel old mid new old_door new_door out_old out_new feeds sent = record {
-  said = mid.out;
-  feeds = λ earlier stands. rw (said_again mid new.session sent.session) (feeds earlier stands);
-  taken = ap (λ s. s.out) sent.session;
-  channel = sent.channel;
-  out = sent.out;
-}
-
-pub nudged : (takes_in : TakingIn) (channel : Standing) (old mid : SessionState) (new : WebState)
-    (old_door new_door : DoorState) (out_old out_new : List ℕ) → Nudges takes_in old mid old_door new_door
-    → Sent (record { channel = channel; session = mid }) new out_old out_new
-    → NudgesWeb takes_in (record { channel = channel; session = old }) new old_door new_door out_old out_new
-nudged takes_in channel old mid new old_door new_door out_old out_new nudges sent = record {
-  said = mid.out;
-  nudges = rw (said_again mid new.session sent.session) nudges;
-  taken = ap (λ s. s.out) sent.session;
-  channel = sent.channel;
-  out = sent.out;
-}
 
 pub fed : (takes_in : TakingIn) (bytes line : List ℕ) (old mid new : WebState) (old_door new_door : DoorState)
     (out_old out_mid out_new : List ℕ) → mid.session ≡ old.session
@@ -76,24 +44,6 @@ fed takes_in bytes line old mid new old_door new_door out_old out_mid out_new sa
       feeds = feeds;
       taken = answers.taken;
       out = rw (answers.out, grows.answers, append-nil, append_assoc) refl;
-    }
-
-pub fed_to_end : (takes_in : TakingIn) (bytes line : List ℕ) (old new : WebState) (mid : SessionState)
-    (old_door new_door : DoorState) (out_old out_new : List ℕ) (e : Error) → mid ≡ old.session
-    → EndsWith old.channel bytes [] line out_old out_new e
-    → ((earlier : List ℕ) → Nvt.StandsAfter mid.terminal earlier
-    → Feeds takes_in earlier line mid new.session old_door new_door)
-    → (earlier : List ℕ) → StandsAfter old earlier
-    → EndsWeb takes_in earlier bytes old new old_door new_door out_old out_new e
-fed_to_end takes_in bytes line old new mid old_door new_door out_old out_new e same ends feeds earlier stands =
-    let grows : Grows earlier bytes [] line out_old out_new (closes_for e) = ends.grows earlier stands.channel in
-    record {
-      ends = ends.ends earlier stands.channel;
-      fresh = grows.fresh;
-      finishes = grows.finishes;
-      said = new.session.out;
-      feeds = rw (same, grows.types) at (feeds (typed_of earlier) (rw same stands.terminal));
-      out = grows.answers;
     }
 
 -- ---- as the code has it

@@ -2,7 +2,7 @@
 use Rattle.std.specs.Prelude.{◌≡◌, ℕ, Bool, ◌||◌, List, [], ◌++◌, Err}
 use Rattle.websocket.specs.declared.error.Error.{Error}
 use Rattle.websocket.specs.Connection.{Effect}
-use Rattle.websocket.specs.Stream.{Trace, read_all}
+use Rattle.websocket.specs.Stream.{read_all}
 use Rattle.mud_nvt.specs.History as Nvt
 use Rattle.mud_web.specs.Channel.{Standing, new_connection, text_typed, typed_of, replies, frame_of, Finishes}
 use Rattle.mud_web.specs.Channel as Channel

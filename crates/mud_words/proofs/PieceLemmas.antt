@@ -1,5 +1,5 @@
 -- What a byte is to its word, and the text after it.
-use Rattle.std.proofs.Common.{◌≡◌, ℕ, suc, ◌+◌, ◌<◌, Bool, true, false, not, ◌&&◌, ◌||◌, cond, eqb, List, ◌∷◌, drop}
+use Rattle.std.proofs.Common.{◌≡◌, ℕ, suc, ◌+◌, ◌<◌, Bool, true, false, cond, eqb, List, ◌∷◌, drop}
 use Rattle.std.proofs.Common.{refl, inl, inr, arith}
 use Rattle.std.proofs.lemmas.Bool.Decides.{nat_tests}
 use Rattle.std.proofs.lemmas.Bool.{cases_lt}
@@ -7,7 +7,7 @@ use Rattle.std.specs.List.{position_or_len}
 use Rattle.mud_words.specs.declared.codes.TheConstants.{SPACE, QUOTE, BACKSLASH}
 use Rattle.mud_words.specs.declared.piece.Piece.{Piece}
 use Rattle.mud_words.specs.declared.piece.Piece.TheVariants.{Gap, Mark, Char}
-use Rattle.mud_words.specs.Words.{piece, quoted_after, escaped_after, is_gap}
+use Rattle.mud_words.specs.Words.{piece, is_gap}
 
 not_eqb : (b c : ℕ) → c < b → eqb b c ≡ false
 not_eqb b c lt = grind (arith, nat_tests)
@@ -32,20 +32,6 @@ pub of_char : (mark gap : Bool) (b d : ℕ) → Char d ≡ cond mark Mark (cond 
 of_char true gap b d e = cc
 of_char false true b d e = cc
 of_char false false b d e = cc
-
--- after a gap nothing is open
-open_tests : (quoted space quote slash : Bool) (b : ℕ)
-    → Gap ≡ cond (slash || quote) Mark (cond (not quoted && space) Gap (Char b))
-    → (cond quote (not quoted) quoted ≡ false) × (slash ≡ false)
-open_tests quoted space quote true b gap = cc
-open_tests quoted space true false b gap = cc
-open_tests true space false false b gap = cc
-open_tests false space false false b gap = (refl, refl)
-
-pub after_gap : (quoted escaped : Bool) (b : ℕ) → Gap ≡ piece quoted escaped b
-    → (quoted_after quoted escaped b ≡ false) × (escaped_after escaped b ≡ false)
-after_gap quoted true b gap = cc
-after_gap quoted false b gap = open_tests quoted (eqb b SPACE) (eqb b QUOTE) (eqb b BACKSLASH) b gap
 
 -- what stands after the first gap
 abbrev pub from_gap : List Piece → List ℕ → List ℕ

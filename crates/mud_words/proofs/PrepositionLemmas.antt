@@ -20,13 +20,6 @@ use Rattle.mud_words.specs.inner.Searching.{spot_of, phrase_len}
 abbrev pub moved : ℕ → Found → Found
 moved n f = record f { place = n + f.place }
 
--- a phrase does not stand where no word is left
-pub begins_none : {X Y : Type 0} (f : X → List ℕ) (g : Y → List ℕ) (xs : List X) (ys : List Y) → length xs ≡ 0
-    → 0 < length ys → false ≡ begins (map f xs) (map g ys)
-begins_none f g xs [] none some = absurd (omega arith)
-begins_none f g [] (y ∷ ys) none some = refl
-begins_none f g (x ∷ xs) (y ∷ ys) none some = absurd (omega arith)
-
 -- the first word of each, and then the others
 pub begins_more : {X Y : Type 0} (f : X → List ℕ) (g : Y → List ℕ) (xs : List X) (ys : List Y) (d : X) (e : Y)
     → 0 < length xs → 0 < length ys → lower (f (get_or xs 0 d)) ≡ lower (g (get_or ys 0 e))

@@ -13,7 +13,7 @@ use Rattle.mud_words.specs.declared.piece.Piece.TheVariants.{Gap, Mark, Char}
 use Rattle.mud_words.specs.Words.{piece, quoted_after, escaped_after, is_gap, pieces_from, pieces, texts_of}
 use Rattle.mud_words.specs.Words.{plain_words, after_first_word, is_space, without_front, spelled_out, words}
 use Rattle.mud_words.specs.inner.Cutting.{goes_on, rest_words}
-use Rattle.mud_words.proofs.PieceLemmas.{piece-low, of_char, after_gap, from_gap, drop-past_one}
+use Rattle.mud_words.proofs.PieceLemmas.{piece-low, of_char, from_gap, drop-past_one}
 use Rattle.mud_words.proofs.CuttingLemmas.{onto, more_mark}
 use Rattle.mud_words.proofs.BlankLemmas.{begins_blank, bare}
 
@@ -152,19 +152,6 @@ mark_read text word word' start at b quoted escaped quoted' escaped' n utf8 copi
           (ascii_here text at b quoted escaped Mark quoted' escaped' n (λ (k : Mark ≡ Char b). cc));
     }
 
--- the space that ends the word
-pub gap_words : (text word word' : List ℕ) (start at b : ℕ) (quoted escaped quoted' escaped' : Bool)
-    → Next text at b quoted escaped Gap quoted' escaped' → word' ≡ word ++ slice_range text start at
-    → Reading text word start at quoted escaped
-    → rest_words (Some []) (pieces text) ≡ word' ∷ plain_words (drop (at + 1) text)
-gap_words text word word' start at b quoted escaped quoted' escaped' n copied read =
-    let none_open = after_gap quoted escaped b n.is in
-    sym read.words
-    ∙ ap (goes (word ++ slice_range text start at)) (next_piece text at b quoted escaped Gap quoted' escaped' n)
-    ∙ rw (n.quotes, n.escapes, none_open.0, none_open.1)
-    (ap (λ (w : List ℕ). w ∷ plain_words (drop (at + 1) text))
-    (append-nil (word ++ slice_range text start at) ∙ sym copied))
-
 pub gap_rest : (text word : List ℕ) (start at b : ℕ) (quoted escaped quoted' escaped' : Bool)
     → Next text at b quoted escaped Gap quoted' escaped' → Reading text word start at quoted escaped
     → drop (at + 1) text ≡ after_first_word text
@@ -185,11 +172,6 @@ end_words text word word' start at quoted escaped end copied read =
     ∙ ap (λ (w : List ℕ). w ∷ []) (append-nil (word ++ slice_range text start at)
     ∙ ap (λ (w : List ℕ). word ++ w) (take_all (at - start) (drop start text) (omega (arith, length-drop start text)))
     ∙ sym copied)
-
-pub end_rest : (text word : List ℕ) (start at : ℕ) (quoted escaped : Bool) → length text ≤ at
-    → Reading text word start at quoted escaped → [] ≡ after_first_word text
-end_rest text word start at quoted escaped end read =
-    sym (ap (λ (t : List ℕ). from_gap (pieces_from quoted escaped t) t) (drop_all at text end)) ∙ read.rest
 
 -- ---- the words of a text, one by one
 -- a text that begins with no space has the word that it begins with, and those after

@@ -8,7 +8,7 @@ ghost use Rattle.mud_world.specs.inner.CanGo.{CanGo, CanKey, CanName};
 
 use crate::maps::{forget, rekey, relocate_in, rename_in, set_cost, unkey};
 use crate::world::World;
-use crate::{Change, Deed, Doors, Kind, Passage, Record, Target};
+use crate::{Change, Deed, Kind, Record};
 use mud_key::{Key, Name, Names};
 use std::alloc::AllocError;
 

@@ -18,7 +18,7 @@ use crate::limits::MOST_COST;
 use crate::world::World;
 use crate::{Change, Deed, Doors, Refusal, Target};
 use mud_key::limits::LAST_NUMBER;
-use mud_key::{Key, Name, Names, Node, Operator};
+use mud_key::{Key, Name, Names, Node};
 
 // What can refuse a deed, by rising number.
 #[tactic(auto, unfolding(crate::specs::Legal::refusal))]
@@ -313,7 +313,7 @@ impl World {
     }
 
     /// The refusal of least number whose condition holds of the change, or none: the change is legal.
-    /// All conditions are asked of the world before the change. docs/WORLD.md has them as a table
+    /// All conditions but KeyNesting are asked of the world before the change. docs/WORLD.md has them as a table
     /// (this project's profile; RecursiveMove and Denied are the errors of that name of the
     /// LambdaMOO Programmer's Manual, "Object Movement" and "Fundamental Object Attributes": owner). It
     /// takes no memory.

@@ -1,9 +1,9 @@
 -- What the readers of a line find: for each field, where the text is spelled so, this is found. An entry that was found
 -- counts only where the line is its spelling.
-use Rattle.std.specs.Prelude.{◌≡◌, ◌≢◌, ℕ, ◌+◌, ◌-◌, ◌*◌, nat_eq, nat_lt, nat_le, Bool, ◌&&◌, if◌then◌else◌, List}
+use Rattle.std.specs.Prelude.{◌≡◌, ℕ, ◌+◌, ◌-◌, ◌*◌, nat_eq, nat_lt, nat_le, Bool, ◌&&◌, if◌then◌else◌, List}
 use Rattle.std.specs.Prelude.{[], ◌∷◌, codes}
 use Rattle.std.specs.Prelude.{Option, None, Some, Result, Ok, Err}
-use Rattle.std.specs.List.{AllByRecursion, join_by}
+use Rattle.std.specs.List.{join_by}
 use Rattle.mud_key.specs.declared.codes.TheConstants.{SHARP, ZERO, NINE}
 use Rattle.mud_key.specs.declared.limits.TheConstants.{LAST_NUMBER}
 use Rattle.mud_chron.specs.declared.fields.TheConstants.{ROOM_FOR_A_DIGIT}
@@ -23,10 +23,6 @@ Finds P (Err fault) = fault ≡ OutOfMemory
 -- the names with a comma between each two
 abbrev pub with_commas : List (List ℕ) → List ℕ
 with_commas names = join_by (λ name. name) (codes ",") names
-
--- such a byte stands nowhere in the text
-abbrev pub Lacks : ℕ → List ℕ → Type 0
-Lacks sign text = AllByRecursion (λ b. b ≢ sign) text
 
 -- ---- numbers, as a namer has to tell them of any text
 

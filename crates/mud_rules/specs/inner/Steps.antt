@@ -1,4 +1,4 @@
--- Steps of the code. Cited by private clauses alone: what they come to, Matching, Outcome, Journeys and Table say.
+-- Steps of the code. Cited only by private clauses: what they come to, Matching, Outcome, Journeys and Table say.
 use Rattle.std.specs.Prelude.{ℕ, Bool, true, false, not, ◌&&◌, ◌||◌, nat_lt, List, [], ◌∷◌, ◌++◌, length, filter, codes}
 use Rattle.std.specs.Prelude.{Option, Some, None, ok_or, Result, Ok, Err, if◌then◌else◌}
 use Rattle.std.specs.Borrow.{Bor}

@@ -1,4 +1,4 @@
--- Steps of the code, cited by private clauses alone: the words that come from a place in the middle of a line.
+-- Steps of the code, cited only by private clauses: the words that come from a place in the middle of a line.
 -- At the start of a line, where no word is open, `rest_words` gives the words of the line by its definition.
 use Rattle.std.specs.Prelude.{ℕ, List, [], ◌∷◌, ◌++◌, Option, Some, None}
 use Rattle.std.specs.List.{slice_split}

@@ -1,4 +1,4 @@
--- What the code's own values are seen as, cited by private clauses alone.
+-- What the code's own values are seen as, cited only by private clauses.
 use Rattle.std.specs.Prelude.{ℕ, ◌+◌, List, map, length}
 use Rattle.std.specs.Cow.{cow_str_bytes}
 use Rattle.std.specs.Borrow.{Bor}

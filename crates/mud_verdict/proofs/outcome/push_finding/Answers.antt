@@ -1,5 +1,4 @@
 use Rattle.std.proofs.Common.{codes, string_bytes}
-use Rattle.mud_verdict.specs.Verdict.{fault_text}
 use Rattle.mud_verdict.proofs.Pushing.{both}
 use Rattle.mud_verdict.proofs.outcome.push_finding.Goals as goal
 

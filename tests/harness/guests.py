@@ -38,6 +38,8 @@ PASSING += [errno.ENETDOWN, errno.EHOSTUNREACH, errno.ETIMEDOUT, errno.EINTR, er
 LASTING = [errno.EBADF, errno.EINVAL, errno.ENOTSOCK]
 # How many say something behind the back of one who reads nothing, and how long another's answer may take meanwhile.
 SAID, PIECE, LONGEST_WAIT = 30_000, 500, 0.3
+# How many texts a history has that is longer than what a connection holds, and how long each is.
+TEXTS, TEXT_LEN = 8_000, 890
 # How many come and leave while nobody reads the log.
 VISITS = 1_500
 
@@ -318,6 +320,30 @@ def why_behind():
         return "" if max(waits) < LONGEST_WAIT else f"another waits for {max(waits)} s"
 
 
+def why_stop_within():
+    """The server stops while a long text is sent: whoever takes it reads it whole, and then why the server ends."""
+    with listening() as server:
+        writer = named(server.port)
+        for _ in range(TEXTS // PIECE):
+            writer.give((b"say " + b"x" * TEXT_LEN + b"\r\n") * PIECE)
+            answered = 0
+            while answered < PIECE:
+                answered += b"said" in writer.line()
+        player = named(server.port, b"Bob")
+        player.socket.setsockopt(socket.SOL_SOCKET, socket.SO_RCVBUF, 4096)
+        player.send(b"@history")
+        time.sleep(0.3)
+        server.type(b"stop\n")
+        time.sleep(0.3)
+        while player.more():
+            pass
+        lines = player.kept.split(b"\r\n")
+        status, printed = server.end()
+        last = printed.splitlines()[-1], b"(server stops)", b""
+        given = len(lines), tuple(lines[-3:]), status
+        return "" if given == (TEXTS + 7, last, 0) else f"{given}"
+
+
 def why_log():
     """Nobody reads the log: all are served, and the next lines that go out say how many were dropped."""
     with listening(errors=subprocess.PIPE) as server:
@@ -389,6 +415,7 @@ def guests(count):
     show("one comes behind the total", why_total())
     show("those who leave unnamed don't count", why_counted())
     show("one reads nothing while much is said", why_behind())
+    show("a long text is sent at a stop", why_stop_within())
     show("nobody reads the log", why_log())
     show("the log names what ended a session", why_partings())
     show("one fills the history", why_nearly_full())

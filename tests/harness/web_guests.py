@@ -14,6 +14,10 @@ from harness.web_client import BINARY, PING, TEXT, NotLetIn, closing, frame, upg
 
 # How long a server may take to end that is stopped while requests are begun.
 STOPPED = 4
+# How the answer begins that lets a browser in.
+LET_IN = b"HTTP/1.1 101"
+# How often browsers of one address come at once, and how many.
+TIMES, AT_ONCE = 12, 24
 
 
 def seconds_to_close(client, meanwhile, longest=10):
@@ -73,6 +77,23 @@ def why_per_address():
         is_free = is_soon(lambda: b" 101 " in server.ask(upgrade(server.origin) + closing(1000)))
         given = answer.split(b"\r\n")[0], answer.endswith(b"(too many sessions)\r\n"), is_free
         return "" if given == (b"HTTP/1.1 429 Too Many Requests", True, True) else f"{given}"
+
+
+def why_address_at_once():
+    """Of browsers of one address that end their heads at once never too many are let in."""
+    with WebServer("--per-address", "1") as server, contextlib.ExitStack() as stack:
+        for _ in range(TIMES):
+            heads = [upgrade(server.origin) for _ in range(AT_ONCE)]
+            dialled = [stack.enter_context(socket.create_connection((HOST, server.web_port), SOON)) for _ in heads]
+            for begin, end in [(0, -1), (-1, None)]:
+                for one, head in zip(dialled, heads):
+                    one.sendall(head[begin:end])
+            let_in = sum(one.recv(len(LET_IN)) == LET_IN for one in dialled)
+            if let_in > 1:
+                return f"{let_in} are let in"
+            stack.close()
+            is_soon(lambda: LET_IN in server.ask(upgrade(server.origin) + closing(1000)))
+        return ""
 
 
 def why_total():
@@ -192,6 +213,7 @@ def web_guests(count):
     for name, tried in [
         ("one does not say who he is", why_unnamed),
         ("one address has as many sessions as it may", why_per_address),
+        ("many of one address come at once", why_address_at_once),
         ("one comes behind the total", why_total),
         ("many come at the total's end", why_total_at_once),
         ("those who leave unnamed don't count", why_counted),

@@ -321,7 +321,7 @@ def why_behind():
 
 
 def why_stop_within():
-    """The server stops while a long text is sent: whoever takes it reads it whole, and then why the server ends."""
+    """The server stops while a long text is sent: why it ends is said after the text, or not at all."""
     with listening() as server:
         writer = named(server.port)
         for _ in range(TEXTS // PIECE):
@@ -330,18 +330,18 @@ def why_stop_within():
             while answered < PIECE:
                 answered += b"said" in writer.line()
         player = named(server.port, b"Bob")
-        player.socket.setsockopt(socket.SOL_SOCKET, socket.SO_RCVBUF, 4096)
+        player.socket.setsockopt(socket.SOL_SOCKET, socket.SO_RCVBUF, 65_536)
         player.send(b"@history")
-        time.sleep(0.3)
+        player.more()
         server.type(b"stop\n")
         time.sleep(0.3)
         while player.more():
             pass
-        lines = player.kept.split(b"\r\n")
-        status, printed = server.end()
-        last = printed.splitlines()[-1], b"(server stops)", b""
-        given = len(lines), tuple(lines[-3:]), status
-        return "" if given == (TEXTS + 7, last, 0) else f"{given}"
+        status, _ = server.end()
+        before, words, after = player.kept.partition(b"(server stops)")
+        is_after = before.endswith(b"\r\nend %d\r\n" % (TEXTS + 2)) and after == b"\r\n"
+        given = status, is_after or not words
+        return "" if given == (0, True) else f"{given}, {before[-20:]}"
 
 
 def why_log():

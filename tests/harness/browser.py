@@ -48,7 +48,8 @@ def type_all(count, browser):
 
 
 def count_page(count, browser):
-    """Counts what the page shows after that."""
+    """Counts what the page shows after that, once it is drawn."""
+    browser.waits_for(f"{ROOMS}.includes({NAMES[0]!r})", 2)
     text, rooms = browser.value(LOG), browser.value(ROOMS)
     no_markup = browser.value("document.querySelector('#log b')") is None
     count("browser: markup is a text", "<b>hello</b>" in text and no_markup)

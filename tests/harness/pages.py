@@ -186,16 +186,21 @@ def count_together(count, page):
         count(f"{page}: {shown}", not faults, f"not there: {', '.join(faults)}")
 
 
-def edit_of(kind, crate, name):
-    """The file of a wrong body."""
-    return f"crates/{crate}/must-fail/{name}.edit" if kind == "gate" else f"tests/wrong-bodies/{crate}/{name}.edit"
+def faults_of_edit(kind, crate, name):
+    """What is wrong where a wrong body is said to be tried in the gate, or on demand."""
+    by_kit, by_function = f"crates/{crate}/must-fail/{name}.edit", f"tests/wrong-bodies/{crate}/{name}.edit"
+    if kind == "gate" and os.path.exists(f"{TOP}/{by_kit}"):
+        return []
+    faults = missing_of(by_function, [])
+    tried = "tried: in the gate" if kind == "gate" else f"tried: {kind}"
+    return faults or ([] if tried in text_of(by_function).split("\n") else [f"{by_function}: {tried}"])
 
 
 def count_wrong_bodies(count, page):
     """A test for each row of three cells, which names what refuses a mistake."""
     for mistake, kind, where in (cells for cells in rows_of(text_of(page)) if len(cells) == 3):
         is_edit = kind in ("gate", "on demand")
-        faults = missing_of(edit_of(kind, *SPAN.findall(where)), []) if is_edit else faults_of(where)
+        faults = faults_of_edit(kind, *SPAN.findall(where)) if is_edit else faults_of(where)
         count(f"{page}: {mistake}", not faults, f"not there: {', '.join(faults)}")
 
 

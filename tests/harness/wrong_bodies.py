@@ -1,65 +1,109 @@
-"""Wrong bodies that the prover must refuse, and that the gate leaves out for its time: tests/wrong-bodies/CRATE. They
-have the form of a crate's must-fail/, and are tried with those, over a copy of the crates as they stand.
+"""Wrong bodies that the prover must refuse: tests/wrong-bodies/CRATE. They have the form of those in a crate's
+must-fail/, which rt ci tries over the whole crate, and two lines more. `function: ` names the function that must lose
+its proof, as the prover prints its name or the end of that; only that function is checked, and what it calls in its
+crate, so that a try costs a fraction. `tried: ` says when: `in the gate`, or `on demand`.
 """
+import functools
 import glob
 import os
+import re
 import shutil
-import subprocess
 import tempfile
+from concurrent.futures import ThreadPoolExecutor
+from dataclasses import dataclass, field
 
-from harness.parts import part
-from harness.programs import TOP
+from harness.parts import Skipped, part
+from harness.programs import TOP, NotBuilt
+from harness.prover import check_function, run
 
 FOLDER = f"{TOP}/tests/wrong-bodies"
+IN_GATE, ON_DEMAND = "in the gate", "on demand"
+
+
+@dataclass
+class Edit:
+    """A wrong body: of which crate, the lines of its file, and the changes, each a file, an old text and a new one."""
+
+    path: str
+    function: str = ""
+    tried: str = ""
+    changes: list = field(default_factory=list)
+
+    def crate(self):
+        return os.path.basename(os.path.dirname(self.path))
+
+    def name(self):
+        return os.path.relpath(self.path, FOLDER)
+
+    def texts(self):
+        """The texts of the files that it changes, by their paths in the crate, and which changes can't be made."""
+        texts, faults = {}, [] if self.changes else ["it changes nothing"]
+        for file, old, new in self.changes:
+            text = texts.get(file) or file_text(f"{TOP}/crates/{self.crate()}/{file}")
+            faults += [] if text.count(old) == 1 else [f"not once in its file: {old}"]
+            texts[file] = text.replace(old, new)
+        return texts, faults
 
 
 def edits():
-    """The paths of all edits."""
-    return sorted(glob.glob(f"{FOLDER}/*/*.edit"))
+    """All edits."""
+    return [read(path) for path in sorted(glob.glob(f"{FOLDER}/*/*.edit"))]
 
 
-def crate_of(edit):
-    return os.path.basename(os.path.dirname(edit))
+def read(path):
+    edit, file, old = Edit(path), "", ""
+    for line in file_text(path).split("\n"):
+        word, _, rest = line.partition(": ")
+        if word == "function":
+            edit.function = rest
+        elif word == "tried":
+            edit.tried = rest
+        elif word == "file":
+            file = rest.strip()
+        elif word == "old":
+            old = rest
+        elif line.startswith("new:"):
+            edit.changes.append((file, old, line.removeprefix("new:").removeprefix(" ")))
+    return edit
 
 
-def unplantable(edit):
-    """Which texts that an edit takes away don't stand once in the file that it names, as texts."""
-    text, olds, faults = "", 0, []
-    with open(edit, encoding="utf-8") as lines:
-        for line in lines.read().split("\n"):
-            if line.startswith("file: "):
-                text = file_text(f"{TOP}/crates/{crate_of(edit)}/{line.removeprefix('file: ').strip()}")
-            elif line.startswith("old: "):
-                olds += 1
-                old = line.removeprefix("old: ")
-                faults += [] if text.count(old) == 1 else [f"not once in its file: {old}"]
-    return faults if olds else ["it takes nothing away"]
-
-
+@functools.cache
 def file_text(path):
     with open(path, encoding="utf-8") as file:
         return file.read()
 
 
-def copy(folder):
-    """Copies the crates, and the wrong bodies to those of the gate."""
-    shutil.copy2(f"{TOP}/HANDLES", folder)
-    shutil.copy2(f"{TOP}/crates.txt", folder)
-    shutil.copytree(f"{TOP}/crates", f"{folder}/crates")
-    for edit in edits():
-        must_fail = f"{folder}/crates/{crate_of(edit)}/must-fail"
-        os.makedirs(must_fail, exist_ok=True)
-        shutil.copy2(edit, must_fail)
+@functools.cache
+def code_of(crate):
+    """All that stands in the code of a crate."""
+    paths = glob.glob(f"{TOP}/crates/{crate}/src/**/*.rt", recursive=True)
+    return "\n".join(map(file_text, paths))
+
+
+# ---- can it be planted
+
+
+def faults_of(edit):
+    """Why an edit can't be planted, or not tried."""
+    _, faults = edit.texts()
+    name = edit.function.rpartition("::")[2]
+    faults += [] if re.search(rf"fn {name}\b", code_of(edit.crate())) else [f"no such function: {edit.function}"]
+    return faults + ([] if edit.tried in (IN_GATE, ON_DEMAND) else [f"not known when it is tried: {edit.tried}"])
 
 
 def promises(crate):
     """Whether a contract of the crate says what a call answers or leaves."""
-    return any("ensures" in file_text(path) for path in glob.glob(f"{TOP}/crates/{crate}/src/**/*.rt", recursive=True))
+    return "ensures" in code_of(crate)
 
 
 def is_tried(crate):
     """Whether the gate plants a wrong body of the crate. The crate of the tests needs none: nobody calls it."""
-    return crate == "mud_tests" or bool(glob.glob(f"{TOP}/crates/{crate}/must-fail/*.edit"))
+    by_kit = glob.glob(f"{TOP}/crates/{crate}/must-fail/*.edit")
+    return crate == "mud_tests" or bool(by_kit) or crate in {edit.crate() for edit in in_gate()}
+
+
+def in_gate():
+    return [edit for edit in edits() if edit.tried == IN_GATE]
 
 
 @part("plantable", "each wrong body can be planted, and each crate that promises something has one in the gate")
@@ -67,13 +111,49 @@ def plantable(count):
     for crate in sorted(os.listdir(f"{TOP}/crates")):
         count(f"plantable: {crate}", is_tried(crate) or not promises(crate), "the gate plants no wrong body of it")
     for edit in edits():
-        faults = unplantable(edit)
-        count(f"plantable: {os.path.relpath(edit, FOLDER)}", not faults, "; ".join(faults))
+        faults = faults_of(edit)
+        count(f"plantable: {edit.name()}", not faults, "; ".join(faults))
 
 
-@part("wrong-bodies", "the prover refuses each wrong body of these crates, or of all", True, "[CRATE..]")
-def wrong_bodies(count, *crates):
-    with tempfile.TemporaryDirectory(prefix="wrong-bodies-") as folder:
-        copy(folder)
-        ran = subprocess.run(["rt", "must-fail", *crates], cwd=folder, check=False)
-    count(f"wrong bodies: {' '.join(crates) or 'all crates'}", ran.returncode == 0, f"status {ran.returncode}")
+# ---- is it refused
+
+
+def tried(edit, texts):
+    """What the prover says of the function of an edit, where these texts stand in place of the crate's."""
+    with tempfile.TemporaryDirectory(prefix="wrong-body-") as folder:
+        for one in filter(lambda one: os.path.isdir(f"{TOP}/crates/{edit.crate()}/{one}"), run().PARTS):
+            shutil.copytree(f"{TOP}/crates/{edit.crate()}/{one}", f"{folder}/{one}")
+        for file, text in texts.items():
+            with open(f"{folder}/{file}", "w", encoding="utf-8") as planted:
+                planted.write(text)
+        return check_function(edit.crate(), edit.function, folder)
+
+
+def planted(edit):
+    texts, _ = edit.texts()
+    return tried(edit, texts)
+
+
+def count_refusals(count, chosen):
+    """A test for each edit, and one for the first one's function as it stands: that is proved by the same words."""
+    with ThreadPoolExecutor(run().lanes()) as threads:
+        right = threads.submit(tried, chosen[0], {})
+        for edit, said in zip(chosen, threads.map(planted, chosen)):
+            count(f"wrong body: {edit.name()}", said.finds_no_proof(), said.shown())
+        count(f"as it stands: {chosen[0].function}", right.result().is_proved(), right.result().shown())
+
+
+@part("wrong-bodies", "the prover refuses each wrong body of tests/wrong-bodies that is tried in the gate")
+def wrong_bodies(count):
+    try:
+        count_refusals(count, in_gate())
+    except NotBuilt as error:
+        # outside of the gate the libraries may be missing
+        if "IN_GATE" in os.environ:
+            raise
+        raise Skipped(error) from None
+
+
+@part("more-wrong-bodies", "the same for each of these crates, those on demand too, or of all", True, "[CRATE..]")
+def more_wrong_bodies(count, *crates):
+    count_refusals(count, [edit for edit in edits() if not crates or edit.crate() in crates])

@@ -16,7 +16,8 @@ use Rattle.mud_world.specs.declared.change.Deed.TheVariants.{Dig, Make, Lock, Un
 use Rattle.mud_world.specs.declared.change.Deed.TheVariants.{Recycle, Say, Emote}
 use Rattle.mud_chron.specs.Entry.{Entry}
 use Rattle.mud_chron.specs.Replay.{changes_of, AreLegalFrom}
-use Rattle.mud_keeping.specs.Shorter.{is_talk, without_talk, has_talk, IsQuiet}
+use Rattle.mud_keeping.specs.Shorter.{is_talk, without_talk, has_talk}
+use Rattle.mud_keeping.specs.inner.Shortening.{IsQuiet}
 use Rattle.mud_keeping.specs.Laws.{TalkChangesNothing}
 
 -- talk leaves the world as it is

@@ -3,3 +3,4 @@ pub mod Shorter
 pub mod Shown
 pub mod Laws
 pub mod Answer
+pub mod inner

@@ -1,7 +1,8 @@
 //! What is said and done in words.
 
 ghost use Rattle.std.specs.Prelude.{◌≡◌, IfOk};
-ghost use Rattle.mud_keeping.specs.Shorter.{is_talk, without_talk, has_talk, IsQuiet};
+ghost use Rattle.mud_keeping.specs.Shorter.{is_talk, without_talk, has_talk};
+ghost use Rattle.mud_keeping.specs.inner.Shortening.{IsQuiet};
 
 use mud_chron::Entry;
 use mud_world::Deed;

@@ -4,8 +4,10 @@ use Rattle.std.specs.Prelude.{nat_eq, ◌||◌, codes, if◌then◌else◌}
 use Rattle.std.specs.Option.{option_and_then}
 use Rattle.std.proofs.lemmas.Bool.{eqb-true}
 use Rattle.mud_world.proofs.Records.{bool_cases}
-use Rattle.mud_map.specs.declared.codes.TheConstants.{LF, QUOTE, BACKSLASH, SMALL_N}
-use Rattle.mud_map.specs.Quoted.{escaped_byte, escape, meant, before, read_quoted}
+use Rattle.mud_key.specs.declared.codes.TheConstants.{LF}
+use Rattle.mud_chron.specs.declared.codes.TheConstants.{QUOTE}
+use Rattle.mud_map.specs.declared.codes.TheConstants.{BACKSLASH, SMALL_N}
+use Rattle.mud_map.specs.Quoted.{escaped_byte, escape, meaning, before, read_quoted}
 use Rattle.mud_map.specs.Laws.{IsReadAsMeant}
 
 -- a byte that is neither quote nor backslash is read as itself
@@ -14,9 +16,9 @@ plain : (b : ℕ) (bytes : List ℕ) → nat_eq b QUOTE ≡ false → nat_eq b B
 plain b bytes no_quote no_slash c rest is =
     ap (λ v. read_quoted (b ∷ v)) is
     ∙ ap (λ t. if t then Some ([], c ∷ rest) else
-    if nat_eq b BACKSLASH then option_and_then (λ m. before m (read_quoted rest)) (meant c) else
+    if nat_eq b BACKSLASH then option_and_then (λ m. before m (read_quoted rest)) (meaning c) else
     before b (read_quoted (c ∷ rest))) no_quote
-    ∙ ap (λ t. if t then option_and_then (λ m. before m (read_quoted rest)) (meant c) else
+    ∙ ap (λ t. if t then option_and_then (λ m. before m (read_quoted rest)) (meaning c) else
     before b (read_quoted (c ∷ rest))) no_slash
     ∙ sym (ap (λ v. before b (read_quoted v)) is)
 

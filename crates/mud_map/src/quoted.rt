@@ -3,7 +3,9 @@
 ghost use Rattle.std.specs.Prelude.{◌≡◌, ◌++◌, OnOk};
 ghost use Rattle.mud_map.specs.Quoted.{escaped_byte, escape, in_quotes};
 
-use crate::codes::{BACKSLASH, LF, QUOTE};
+use crate::codes::BACKSLASH;
+use mud_chron::codes::QUOTE;
+use mud_key::codes::LF;
 use std::alloc::AllocError;
 
 // Appends a byte as it is written between quotes.

@@ -1,6 +1,7 @@
 //! Lines that are steps of desks.
 
 ghost use Rattle.std.specs.Prelude.{◌≡◌, ◌≤◌, ◌+◌};
+ghost use Rattle.mud_key.specs.declared.codes.TheConstants.{ZERO, NINE};
 
 use std::alloc::{AllocError, Global};
 
@@ -94,9 +95,9 @@ fn number_of(word: &str) -> Option<u32> {
 
 // The value of a digit.
 fn digit(byte: u8) -> u32
-    requires from { 48 ≤ byte }
-    requires to { byte ≤ 57 }
-    ensures value { result + 48 ≡ byte }
+    requires from { ZERO ≤ byte }
+    requires to { byte ≤ NINE }
+    ensures value { result + ZERO ≡ byte }
     ensures most { result ≤ 9 }
 {
     u32::from(byte - b'0')

@@ -47,13 +47,13 @@ fn wish_named(name: &str) -> Option<Wish> {
 /// What the words of `mud_keep` ask for; the first is the program's name.
 pub fn keeping_of<'a>(alloc: Global, words: &'a [String]) -> Result<Keeping<'a>, CommandFault> {
     match command(alloc) {
-        Ok(mut command) => keeping_by(alloc, &mut command, words),
+        Ok(mut command) => keeping_from(alloc, &mut command, words),
         Err(_) => Err(CommandFault::OutOfMemory),
     }
 }
 
 // What the words ask for, as the command line reads them.
-fn keeping_by<'a>(
+fn keeping_from<'a>(
     alloc: Global,
     command: &mut Command<'a>,
     words: &'a [String],

@@ -73,13 +73,13 @@ pub fn service_of<'a>(alloc: Global, words: &'a [String]) -> Result<Service<'a>,
     ensures { IfOk result IsServed }
 {
     match command(alloc) {
-        Ok(mut command) => service_by(alloc, &mut command, words),
+        Ok(mut command) => service_from(alloc, &mut command, words),
         Err(_) => Err(CommandFault::OutOfMemory),
     }
 }
 
 // What the words ask for, as the command line reads them.
-fn service_by<'a>(
+fn service_from<'a>(
     alloc: Global,
     command: &mut Command<'a>,
     words: &'a [String],

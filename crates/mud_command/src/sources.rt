@@ -21,13 +21,13 @@ pub enum Sources<'a> {
 /// are none but the program's name, which is the first.
 pub fn sources_of<'a>(alloc: Global, words: &'a [String]) -> Result<Sources<'a>, CommandFault> {
     match command_of(alloc, &FORM) {
-        Ok(mut command) => sources_by(alloc, &mut command, words),
+        Ok(mut command) => sources_from(alloc, &mut command, words),
         Err(_) => Err(CommandFault::OutOfMemory),
     }
 }
 
 // Where the texts are, as the command line reads the words.
-fn sources_by<'a>(
+fn sources_from<'a>(
     alloc: Global,
     command: &mut Command<'a>,
     words: &'a [String],

@@ -36,13 +36,13 @@ pub fn task_of<'a>(alloc: Global, words: &'a [String]) -> Result<Task<'a>, Comma
     ensures { IfOk result IsWithin }
 {
     match command(alloc) {
-        Ok(mut command) => task_by(alloc, &mut command, words),
+        Ok(mut command) => task_from(alloc, &mut command, words),
         Err(_) => Err(CommandFault::OutOfMemory),
     }
 }
 
 // What the words ask for, as the command line reads them.
-fn task_by<'a>(
+fn task_from<'a>(
     alloc: Global,
     command: &mut Command<'a>,
     words: &'a [String],

@@ -39,6 +39,9 @@ pub struct Bells {
 /// A hall, the places for its sessions, their bells, who has no session yet, what the server keeps to, how far the
 /// journal is synced, how many places are taken, how many sessions became a player's, whether all are to end, and
 /// whether the host was warned that the history is nearly full.
+///
+/// There is one kind, `HouseOf` of `mud_threads`. The hall, the places and the bells have parameters of their own,
+/// since the prover's search gives up within so deep a type: that threads may share a house is a lemma over its parts.
 #[derive(Drop)]
 pub struct House<H, D, B> {
     pub hall: H,

@@ -60,7 +60,8 @@ fn write_all<J: HallName, D: Disk + Drop, R: Wait>(
     unreachable!()
 }
 
-// What the thread that serves the connections is begun with: where they come, and when it ends.
+// What the thread that serves the connections is begun with: where they come, and when it ends. It is one struct, since
+// the prover's search for what may cross threads gives up on a closure that takes many things along.
 #[derive(Drop)]
 struct Serving<'s> {
     listeners: Listeners,

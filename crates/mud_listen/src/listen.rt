@@ -106,7 +106,8 @@ where
 }
 
 /// Whether a server has ended well, of which is known whether all were served that were to be: after this many
-/// sessions, or at a sign.
+/// sessions, or at a sign. Of what a thread returns the prover knows the type only, so who waited for one asks here
+/// again whether there is a sign or a total.
 pub(crate) fn is_well_ended(is_served: bool, stop: Option<&StopSign>, total: u32) -> bool
     ensures { IsTrue result → IfNone stop.entry (0 < total) }
 {

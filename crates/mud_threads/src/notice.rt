@@ -12,6 +12,9 @@ use std::time::{Clock, Duration};
 const MOST_BUSY: u32 = 32;
 
 /// What a notice thread sleeps on until a bell wakes it.
+///
+/// That it may cross threads the prover knows of this struct by a proof of its own. Of the bare `Parker`, whose type
+/// names an allocator, its search does not find it.
 #[derive(Drop)]
 pub(crate) struct Sleeper {
     pub(crate) parker: Parker,

@@ -16,6 +16,9 @@ use std::time::Clock;
 
 /// What each thread of a server that begins others has: the scope in which they run, the handle by which, memory, and
 /// the house that all share.
+///
+/// They are one struct, since the prover's search for what may cross threads gives up on a closure that takes many
+/// things along. Each method that begins a thread cites lemmas for what its closure takes (`proofs/Crosses.antt`).
 #[derive(Drop)]
 pub struct Server<'s, E, J: HallName, R> {
     pub scope: &'s Scope<'s, E>,
@@ -39,7 +42,7 @@ where
     J: HallName + Send + Sync + 's,
     R: Threads + Wait + Log + Clock + Sync + 's,
 {
-    /// The same, for a thread that is begun.
+    /// The same, for a thread that is begun. A derived `Clone` would want what it only refers to to be `Clone`, too.
     pub fn again(&self) -> Server<'s, E, J, R> {
         let Server {
             scope,

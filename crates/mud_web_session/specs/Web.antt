@@ -75,12 +75,6 @@ pub record EndsWeb (takes_in : TakingIn) (earlier bytes : List ℕ) (old new : W
       new_door
   pub out : out_new ≡ out_old ++ replies fresh ++ closes_for e
 
--- what the session was to say is sent. Only a private clause cites it
-pub record Sent (old new : WebState) (out_old out_new : List ℕ) : Type 0 where
-  pub session : new.session ≡ with_output old.session []
-  pub channel : new.channel ≡ old.channel
-  pub out : out_new ≡ out_old ++ frame_of old.session.out
-
 -- a fact on the error with which the protocol ended, if that is the fault
 abbrev pub IfOver : WebFault → (Error → Type 0) → Type 0
 IfOver (Over e) P = P e

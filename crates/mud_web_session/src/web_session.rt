@@ -7,7 +7,8 @@ ghost use Rattle.mud_web.specs.Closing.{closes_once};
 ghost use Rattle.mud_web.specs.Steps.{IfOver as IfChannelOver};
 ghost use Rattle.mud_session.specs.Session.{wire_text};
 ghost use Rattle.mud_web_session.specs.Web.{StandsAfter, AnswersTyped, NudgesWeb, FeedsWeb, EndsWeb, IfOver, IsNotOver};
-ghost use Rattle.mud_web_session.specs.Web.{has_ended, Sent};
+ghost use Rattle.mud_web_session.specs.Web.{has_ended};
+ghost use Rattle.mud_web_session.specs.inner.Message.{Sent};
 
 use crate::fault::WebFault;
 use mud_session::{Door, Session};

@@ -14,10 +14,3 @@ WasLetIn (Play answer rest) origin =
 WasLetIn Page origin = Unit {0}
 WasLetIn (Refused refusal) origin = Unit {0}
 WasLetIn Gone origin = Unit {0}
-
--- somebody plays who is answered by this key, and this came after his head. Only a private clause cites it
-abbrev pub IsPlaying : Heard → (accept rest : List ℕ) → Type 0
-IsPlaying (Play answer behind) accept rest = (answer.items ≡ response_bytes accept []) × (behind.items ≡ rest)
-IsPlaying Page accept rest = ⊥
-IsPlaying (Refused refusal) accept rest = ⊥
-IsPlaying Gone accept rest = ⊥

@@ -4,7 +4,8 @@ ghost use Rattle.std.specs.Prelude.{◌≡◌, true, IfOk};
 ghost use Rattle.websocket.specs.Headers.{is_graphic_text};
 ghost use Rattle.mud_web.specs.Asking.{LetsIn};
 ghost use Rattle.mud_web.specs.Origins.{IfPlay};
-ghost use Rattle.mud_wire.specs.Heard.{WasLetIn, IsPlaying};
+ghost use Rattle.mud_wire.specs.Heard.{WasLetIn};
+ghost use Rattle.mud_wire.specs.inner.Player.{IsPlaying};
 
 use crate::parting::Parting;
 use crate::patience::{Patience, now};

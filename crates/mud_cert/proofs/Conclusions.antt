@@ -16,7 +16,8 @@ use Rattle.mud_world.specs.Sound.{IsSound}
 use Rattle.mud_cert.specs.Certificate.{Account, hop_of}
 use Rattle.mud_cert.specs.declared.cert.Conclusion.{Conclusion}
 use Rattle.mud_cert.specs.declared.cert.Conclusion.TheVariants.{Route, Meet}
-use Rattle.mud_cert.specs.Lookup.{label_in, label_at}
+use Rattle.mud_cert.specs.Lookup.{label_at}
+use Rattle.mud_cert.specs.inner.Labels.{label_in}
 use Rattle.mud_cert.specs.inner.Ways.{end_of, arrival, arrival_of}
 use Rattle.mud_cert.specs.inner.Agreement.{with_label, greatest_from, greatest_cost}
 use Rattle.mud_cert.specs.inner.Tests.{is_there_within, is_there_at, is_no_worse, first_labels, stays, misses}
@@ -336,19 +337,15 @@ concludes-to w sound form ms (Route to None) some are v =
 concludes-to w sound form ms (Meet (Some meeting)) some are v =
     let room : ℕ = meeting.room in
     let cost : ℕ = meeting.cost in
-    let t1 : Bool = is_room w room in
-    let t2 : Bool = list_all (λ m. is_there_within room cost (arrival_of w m)) ms in
-    let t3 : Bool = list_any (λ m. is_there_at room cost (arrival_of w m)) ms in
     let best : ℕ × Label → Bool = λ (x : ℕ × Label). is_no_worse cost room x.0 (greatest_cost ms x.0) in
-    let t4 : Bool = list_all best (first_labels ms) in
     let (k, x, lt, e, (l, label, costs)) = v.1.gathers.one in
     let member : IsMember w form x = subst (IsMember w form) e (are k x lt) in
     let goes : GoesTo w (Some room) x = subst (GoesTo w (Some room)) e (v.0 k x lt) in
     let there : arrival_of w x ≡ Some (room, cost) =
     comes-to w sound form x member room l goes label ∙ ap (λ (c : ℕ). Some (room, c)) costs in
-    and_from ((t1 && t2) && t3) t4
-    (and_from (t1 && t2) t3
-    (and_from t1 t2 (labelled-room w form x member room l label)
+    and_from _ _
+    (and_from _ _
+    (and_from _ _ (labelled-room w form x member room l label)
     (list_all-from_AllPass (λ m. is_there_within room cost (arrival_of w m)) ms (λ i d lt.
     let m : Account = get_or ms i d in
     let has = v.1.gathers.all i d lt in

@@ -6,7 +6,7 @@ use Rattle.std.specs.List.{find}
 use Rattle.std.proofs.lemmas.Bool.{and_parts, cases_Bool, cases_lt, not-true}
 use Rattle.mud_roads.specs.declared.label.Label.{Label}
 use Rattle.mud_roads.specs.Labels.{Reaches}
-use Rattle.mud_roads.specs.Open.{passable, roads_of}
+use Rattle.mud_roads.specs.Passable.{passable, roads_of}
 use Rattle.mud_roads.specs.Walks.{exits_of, total, after}
 use Rattle.mud_world.specs.State.{State, place_of, source_of, is_number}
 use Rattle.mud_world.specs.Sound.{IsSound}
@@ -103,7 +103,7 @@ breaks-from w sound form m x e =
       label = l;
       step = step_of w x;
       labelled = is;
-      opened = c;
+      is_passable = c;
       exit = step-exit w x;
       beyond = λ (r : Reaches (label_at m) (step_of w x).to (after (hop_of form) l (step_of w x))).
           let kept : is_kept (hop_of form) (Some l) (label_at m (step_of w x).to) (step_of w x) ≡ true =
@@ -117,7 +117,7 @@ breaks-to w sound form m x b = go (cases_Bool (breaks w form m b.step.exit))
   where
     go : (breaks w form m b.step.exit ≡ true) ⊎ (breaks w form m b.step.exit ≡ false) → breaks w form m x ≡ true
     go (inl t) = ap (breaks w form m) (sym b.exit) ∙ t
-    go (inr f) = absurd (b.beyond (kept-by w sound form m b.room b.label b.step b.labelled b.opened f))
+    go (inr f) = absurd (b.beyond (kept-by w sound form m b.room b.label b.step b.labelled b.is_passable f))
 
 -- the lowest exit that breaks the labels
 lowest-from : (w : State) → IsSound w → (form : Form) (m : Account) (x : ℕ)
@@ -137,7 +137,7 @@ lowest-to : (w : State) → IsSound w → (form : Form) (m : Account) (x : ℕ) 
 lowest-to w sound form m x b least = go (find (breaks w form m) (numbers w)) refl
   where
     numbered : Contains (numbers w) x
-    numbered = subst (Contains (numbers w)) b.exit (road-at w sound m.player b.room b.step b.opened).numbered
+    numbered = subst (Contains (numbers w)) b.exit (road-at w sound m.player b.room b.step b.is_passable).numbered
 
     equal : (y : ℕ) → x ≤ y → (x < y → ⊥) → y ≡ x
     equal y le above = elim (cases_lt x y) as (λ s. y ≡ x) [ inl lt ↦ absurd (above lt) | inr ge ↦ omega arith ]

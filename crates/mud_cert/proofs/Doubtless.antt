@@ -10,9 +10,10 @@ use Rattle.mud_roads.specs.declared.label.Label.{Label}
 use Rattle.mud_roads.specs.declared.label.Step.{Step}
 use Rattle.mud_world.specs.State.{State, source_of}
 use Rattle.mud_world.specs.Sound.{IsSound}
-use Rattle.mud_roads.specs.Open.{passable, roads_of}
+use Rattle.mud_roads.specs.Passable.{passable, roads_of}
 use Rattle.mud_roads.specs.Labels.{Reaches, AreValid}
 use Rattle.mud_roads.specs.Walks.{Walk, AtMost, after}
+use Rattle.mud_roads.proofs.Routes.{label-ext}
 use Rattle.mud_cert.specs.declared.cert.Form.{Form}
 use Rattle.mud_cert.specs.Certificate.{Account, hop_of}
 use Rattle.mud_cert.specs.declared.doubt.Doubt.{Doubt}
@@ -74,18 +75,12 @@ walk-to w sound p at to i j (s ∷ ss) (c, k) =
     record {
       unbroken = cond-true (leaves w at s.exit) (first_break w (step_of w s.exit).to (i + 1) xs) (Some i) r.leaves
           ∙ ap (λ (q : Step). first_break w q.to (i + 1) xs) r.is ∙ rest.unbroken;
-      unlocked = cond-true (passable w p s.exit) (first_lock w p (j + 1) xs) (Some j) r.opened ∙ rest.unlocked;
+      unlocked = cond-true (passable w p s.exit) (first_lock w p (j + 1) xs) (Some j) r.is_passable ∙ rest.unlocked;
       same = ap (λ (q : Step). q ∷ steps_of w xs) r.is ∙ ap (λ (qs : List Step). s ∷ qs) rest.same;
       ends = rest.ends;
     }
 
 -- labels
-label-ext : (a b : Label) → a.cost ≡ b.cost → a.exits ≡ b.exits → a ≡ b
-label-ext a b p q =
-    let one : ℕ → Label = λ c. record { cost = c; exits = a.exits } in
-    let two : ℕ → Label = λ e. record { cost = b.cost; exits = e } in
-    ap one p ∙ ap two q
-
 pub label-is : (o : Option Label) (l : Label) → is_label o l ≡ true → o ≡ Some l
 label-is None l e = absurd (false≢true e)
 label-is (Some k) l e =
@@ -137,7 +132,7 @@ kept-by w sound form m room l s e c fails =
     let r : IsWay w m.player room s = road-at w sound m.player room s c in
     let hop : ℕ = hop_of form in
     let test : Bool = is_kept hop (label_behind w m s.exit) (label_at m (step_of w s.exit).to) (step_of w s.exit) in
-    let kept : test ≡ true = not-false test (and-then (passable w m.player s.exit) (not test) r.opened fails) in
+    let kept : test ≡ true = not-false test (and-then (passable w m.player s.exit) (not test) r.is_passable fails) in
     let whole : is_kept hop (Some l) (label_at m s.to) s ≡ true =
     sym (ap (λ (q : Step). is_kept hop (label_behind w m s.exit) (label_at m q.to) q) r.is
     ∙ ap (λ o. is_kept hop (option_and_then (label_at m) o) (label_at m s.to) s) r.source

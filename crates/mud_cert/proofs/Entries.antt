@@ -16,9 +16,9 @@ use Rattle.mud_cert.specs.declared.cert.Form.TheVariants.{One, Two}
 use Rattle.mud_cert.specs.Certificate.{IsNumber, IsAmount}
 use Rattle.mud_cert.specs.Text.{entry_text, walk_line}
 use Rattle.mud_cert.specs.inner.Lines.{labels_line, exit_text}
-use Rattle.mud_cert.specs.inner.Reading.{◌>>=◌, after, number_at, object_at, exits_at, entry_at, pieces_at, is_above}
-use Rattle.mud_cert.specs.inner.Reading.{rises}
-use Rattle.mud_cert.specs.inner.Reading.{labels_at, exit_at, exits_of, walk_at}
+use Rattle.mud_cert.specs.inner.Reader.{◌>>=◌, after, number_at, object_at, exits_at, entry_at, pieces_at, is_above}
+use Rattle.mud_cert.specs.inner.Reader.{rises}
+use Rattle.mud_cert.specs.inner.Reader.{labels_at, exit_at, exits_of, walk_at}
 use Rattle.mud_cert.proofs.Digits.{number-takes}
 use Rattle.mud_cert.proofs.Pieces.{bind_some, joins, says-true, after-front, after-takes, NoDigit, number-read}
 use Rattle.mud_cert.proofs.Pieces.{object-takes, object-read, IsReader, pieces-take, pieces-again}

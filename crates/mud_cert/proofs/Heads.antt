@@ -12,9 +12,9 @@ use Rattle.mud_cert.specs.declared.cert.Conclusion.TheVariants.{Route, Meet}
 use Rattle.mud_cert.specs.Certificate.{IsNumber, IsAmount}
 use Rattle.mud_cert.specs.Text.{head_line, conclusion_line}
 use Rattle.mud_cert.specs.inner.Lines.{version_line, member_line}
-use Rattle.mud_cert.specs.inner.Reading.{◌>>=◌, after, number_at, object_at, whole, head_at, version_at, member_at}
-use Rattle.mud_cert.specs.inner.Reading.{cost_at}
-use Rattle.mud_cert.specs.inner.Reading.{way_at, route_at, meeting_at, conclusion_at, either}
+use Rattle.mud_cert.specs.inner.Reader.{◌>>=◌, after, number_at, object_at, whole, head_at, version_at, member_at}
+use Rattle.mud_cert.specs.inner.Reader.{cost_at}
+use Rattle.mud_cert.specs.inner.Reader.{way_at, route_at, meeting_at, conclusion_at, either}
 use Rattle.mud_cert.proofs.Digits.{number-takes}
 use Rattle.mud_cert.proofs.Pieces.{bind_some, whole_some, joins, ends, says-true, after-front, after-takes}
 use Rattle.mud_cert.proofs.Pieces.{number-alone, object-takes, object-read, object-alone}

@@ -5,7 +5,7 @@ use Rattle.std.specs.Prelude.{option_map}
 use Rattle.std.specs.List.{find}
 use Rattle.std.proofs.lemmas.Bool.{ne_eqb}
 use Rattle.mud_roads.specs.declared.label.Label.{Label}
-use Rattle.mud_cert.specs.Lookup.{Rises, label_in}
+use Rattle.mud_cert.specs.inner.Labels.{Rises, label_in}
 
 -- the first label, or one after it
 pub label-here : (e : ℕ × Label) (es : List (ℕ × Label)) (room : ℕ) → eqb e.0 room ≡ true

@@ -21,7 +21,7 @@ use Rattle.mud_cert.specs.Certificate.{Account, Certificate, IsNumber, IsAccount
 use Rattle.mud_cert.specs.inner.Opening.{Opening, IsOpening}
 use Rattle.mud_cert.specs.Text.{head_line, walk_line, member_lines, conclusion_line, cert_lines}
 use Rattle.mud_cert.specs.inner.Lines.{version_line, member_line, labels_line, opening_lines, IsEntry}
-use Rattle.mud_cert.specs.inner.Reading.{◌>>=◌, head_at, version_at, member_at, labels_at, walk_at, conclusion_at}
+use Rattle.mud_cert.specs.inner.Reader.{◌>>=◌, head_at, version_at, member_at, labels_at, walk_at, conclusion_at}
 use Rattle.mud_cert.specs.inner.Stages.{certificate_with, lines_of, IsStage, suits, conclude, join, next, run}
 use Rattle.mud_cert.proofs.Pieces.{bind_some, says-true}
 use Rattle.mud_cert.proofs.Entries.{IsRead, labels-take, labels-again, walk-takes, walk-again}

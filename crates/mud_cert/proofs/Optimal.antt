@@ -7,7 +7,7 @@ use Rattle.mud_roads.specs.declared.label.Label.{Label}
 use Rattle.mud_roads.specs.declared.label.Step.{Step}
 use Rattle.mud_world.specs.State.{State}
 use Rattle.mud_world.specs.Sound.{IsSound}
-use Rattle.mud_roads.specs.Open.{roads_of}
+use Rattle.mud_roads.specs.Passable.{roads_of}
 use Rattle.mud_roads.specs.Labels.{Reaches}
 use Rattle.mud_roads.proofs.Bounds.{walk_from_start, valid_is_least}
 use Rattle.mud_roads.specs.Walks.{exits_of, total, IsLeast, Least, Gathers}

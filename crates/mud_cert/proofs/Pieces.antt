@@ -11,8 +11,8 @@ use Rattle.std.proofs.lemmas.List.Elements.{All-nil, All-cons, All-head, All-tai
 use Rattle.std.proofs.lemmas.Slice.Eq.{bytes_eq-Decides}
 use Rattle.std.specs.Str.{bytes_eq}
 use Rattle.mud_key.specs.declared.limits.TheConstants.{LAST_NUMBER}
-use Rattle.mud_cert.specs.declared.limits.TheConstants.{AMOUNTS}
-use Rattle.mud_cert.specs.inner.Reading.{◌>>=◌, after, is_digit, digits_on, number_at, object_at, whole, pieces_at}
+use Rattle.mud_key.specs.declared.limits.TheConstants.{AMOUNTS}
+use Rattle.mud_cert.specs.inner.Reader.{◌>>=◌, after, is_digit, digits_on, number_at, object_at, whole, pieces_at}
 use Rattle.mud_cert.proofs.Digits.{number-takes, number-again}
 
 -- ---- steps

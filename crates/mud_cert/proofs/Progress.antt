@@ -19,9 +19,9 @@ use Rattle.mud_cert.specs.inner.Lines.{opening_lines, with_line_feed}
 use Rattle.mud_cert.specs.Faults.{Begins, IsBadLine}
 use Rattle.mud_key.specs.Lines.{HasNoLineFeed}
 use Rattle.mud_cert.specs.TextLaws.{OneCertificate, OneBadLine, EndsWithLf}
-use Rattle.mud_cert.specs.inner.Reading.{after, head_at, version_at, member_at, labels_at, walk_at, route_at}
-use Rattle.mud_cert.specs.inner.Reading.{meeting_at}
-use Rattle.mud_cert.specs.inner.Reading.{conclusion_at}
+use Rattle.mud_cert.specs.inner.Reader.{after, head_at, version_at, member_at, labels_at, walk_at, route_at}
+use Rattle.mud_cert.specs.inner.Reader.{meeting_at}
+use Rattle.mud_cert.specs.inner.Reader.{conclusion_at}
 use Rattle.mud_cert.specs.inner.Stages.{lines_of, IsStage, conclude, join, next, run}
 use Rattle.mud_cert.proofs.Splitting.{cut, uncut, text-then, no-lines, split-longer, split-whole, cert-lines}
 use Rattle.mud_cert.proofs.Machine.{next-keeps, run-then, run-append, run-fails, run-none, cert-runs, Starts}

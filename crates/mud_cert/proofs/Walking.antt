@@ -8,7 +8,7 @@ use Rattle.mud_world.specs.declared.record.Passage.{Passage}
 use Rattle.mud_world.specs.State.{State, passage_of, source_of, is_number}
 use Rattle.mud_world.specs.Sound.{IsSound}
 use Rattle.mud_roads.specs.declared.label.Step.{Step}
-use Rattle.mud_roads.specs.Open.{passable, step_by}
+use Rattle.mud_roads.specs.Passable.{passable, step_by}
 use Rattle.mud_roads.specs.Walks.{total}
 use Rattle.mud_cert.specs.declared.cert.Form.{Form}
 use Rattle.mud_cert.specs.Certificate.{Account, hop_of}

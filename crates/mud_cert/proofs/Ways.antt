@@ -9,7 +9,7 @@ use Rattle.mud_world.specs.State.{State, record_at, passage_of, source_of, is_nu
 use Rattle.mud_world.specs.Sound.{IsSound}
 use Rattle.mud_world.proofs.Records.{in_bounds}
 use Rattle.mud_roads.specs.declared.label.Step.{Step}
-use Rattle.mud_roads.specs.Open.{passable, roads_of, step_by}
+use Rattle.mud_roads.specs.Passable.{passable, roads_of, step_by}
 use Rattle.mud_roads.specs.Laws.{IsRoad}
 use Rattle.mud_roads.proofs.Roads as roads
 use Rattle.mud_cert.specs.inner.Ways.{step_of}
@@ -21,7 +21,7 @@ pub record IsWay (w : State) (p room : ℕ) (s : Step) : Type 0 where
   pub numbered : Contains (numbers w) s.exit
   pub source : source_of w s.exit ≡ Some room
   pub leaves : leaves w room s.exit ≡ true
-  pub opened : passable w p s.exit ≡ true
+  pub is_passable : passable w p s.exit ≡ true
   pub is : step_of w s.exit ≡ s
 
 -- what has ends has a number of the world
@@ -43,7 +43,7 @@ road-at w sound p room s c =
       source = ap (option_map (λ (q : Passage). q.source)) r.0;
       leaves = ap (λ (o : Option Passage). is_number room (option_map (λ (q : Passage). q.source) o)) r.0
           ∙ eq-eqb room room refl;
-      opened = r.1;
+      is_passable = r.1;
       is = ap (λ (o : Option Passage). option_map_or (step_by s.exit) o (record { exit = s.exit; to = 0; cost = 0 }))
           r.0;
     }

@@ -2,7 +2,7 @@
 use Rattle.std.specs.Prelude.{◌≡◌, ℕ, ◌<◌, ◌≤◌, List, length, Option, IfSome, All, AllPairs}
 use Rattle.mud_roads.specs.declared.label.Label.{Label}
 pub use Rattle.mud_world.specs.Numbers.{IsNumber}
-use Rattle.mud_cert.specs.declared.limits.TheConstants.{AMOUNTS}
+use Rattle.mud_key.specs.declared.limits.TheConstants.{AMOUNTS}
 use Rattle.mud_cert.specs.declared.cert.Form.{Form}
 use Rattle.mud_cert.specs.declared.cert.Form.TheVariants.{One, Two}
 use Rattle.mud_cert.specs.declared.cert.Conclusion.{Conclusion}

@@ -5,7 +5,7 @@ use Rattle.mud_roads.specs.declared.label.Label.{Label}
 use Rattle.mud_roads.specs.declared.label.Step.{Step}
 use Rattle.mud_roads.specs.Walks.{total, after}
 use Rattle.mud_roads.specs.Labels.{start_label, Reaches}
-use Rattle.mud_roads.specs.Open.{passable, roads_of}
+use Rattle.mud_roads.specs.Passable.{passable, roads_of}
 use Rattle.mud_world.specs.declared.record.Passage.{Passage}
 use Rattle.mud_world.specs.State.{State, is_player, is_room, place_of, passage_of}
 use Rattle.mud_cert.specs.declared.cert.Form.{Form}
@@ -22,7 +22,7 @@ pub record Breaks (w : State) (form : Form) (m : Account) (x : ℕ) : Type 0 whe
   pub label : Label
   pub step : Step
   pub labelled : label_at m room ≡ Some label
-  pub opened : Contains (roads_of w m.player room) step
+  pub is_passable : Contains (roads_of w m.player room) step
   pub exit : step.exit ≡ x
   pub beyond : Reaches (label_at m) step.to (after (hop_of form) label step) → ⊥
 

@@ -4,7 +4,7 @@ use Rattle.mud_roads.specs.declared.label.Label.{Label}
 use Rattle.mud_roads.specs.declared.label.Step.{Step}
 use Rattle.mud_roads.specs.Walks.{Walk, exits_of, total, IsLeast, Least, Gathers, IsMeeting}
 use Rattle.mud_roads.specs.Labels.{Reaches, AreValid}
-use Rattle.mud_roads.specs.Open.{roads_of}
+use Rattle.mud_roads.specs.Passable.{roads_of}
 use Rattle.mud_world.specs.State.{State, is_player, is_room, place_of}
 use Rattle.mud_cert.specs.declared.cert.Form.{Form}
 use Rattle.mud_cert.specs.declared.cert.Meeting.{Meeting}

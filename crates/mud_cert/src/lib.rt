@@ -27,7 +27,6 @@ mod doubt;
 mod fault;
 mod judge;
 pub mod laws;
-pub mod limits;
 mod lines;
 mod look;
 mod numbers;

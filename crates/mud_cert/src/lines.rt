@@ -2,9 +2,9 @@
 
 ghost use Rattle.std.specs.Prelude.{◌≡◌, IfOk, length, option_map};
 ghost use Rattle.std.specs.Str.{bytes_eq};
-ghost use Rattle.mud_cert.specs.inner.Reading.{after, whole, entry_at, exit_at, exits_at, exits_of, pieces_at};
-ghost use Rattle.mud_cert.specs.inner.Reading.{rises, head_at, version_at, member_at, labels_at, walk_at};
-ghost use Rattle.mud_cert.specs.inner.Reading.{cost_at, way_at, route_at, meeting_at, conclusion_at};
+ghost use Rattle.mud_cert.specs.inner.Reader.{after, whole, entry_at, exit_at, exits_at, exits_of, pieces_at};
+ghost use Rattle.mud_cert.specs.inner.Reader.{rises, head_at, version_at, member_at, labels_at, walk_at};
+ghost use Rattle.mud_cert.specs.inner.Reader.{cost_at, way_at, route_at, meeting_at, conclusion_at};
 
 use crate::cert::{Conclusion, Form, Meeting};
 use crate::numbers::{number_at, object_at};
@@ -26,7 +26,7 @@ pub fn says(bytes: &[u8], literal: &[u8]) -> bool
 }
 
 /// The number, where nothing stands after it.
-#[tactic(auto, unfolding(crate::specs::inner::Reading::whole))]
+#[tactic(auto, unfolding(crate::specs::inner::Reader::whole))]
 fn whole(number: u32, rest: &[u8]) -> Option<u32>
     ensures { result ≡ whole (number, rest.now) }
 {
@@ -37,7 +37,7 @@ fn whole(number: u32, rest: &[u8]) -> Option<u32>
 }
 
 /// The form, of the first line.
-#[tactic(auto, unfolding(crate::specs::inner::Reading::head_at))]
+#[tactic(auto, unfolding(crate::specs::inner::Reader::head_at))]
 pub fn head_of(line: &[u8]) -> Option<Form>
     ensures { result ≡ head_at line.now }
 {
@@ -51,7 +51,7 @@ pub fn head_of(line: &[u8]) -> Option<Form>
 }
 
 /// The version, of the second line.
-#[tactic(auto, unfolding(crate::specs::inner::Reading::version_at))]
+#[tactic(auto, unfolding(crate::specs::inner::Reader::version_at))]
 pub fn version_of(line: &[u8]) -> Option<u32>
     ensures { result ≡ version_at line.now }
 {
@@ -60,7 +60,7 @@ pub fn version_of(line: &[u8]) -> Option<u32>
 }
 
 /// A player and his place, of a member's first line.
-#[tactic(auto, unfolding(crate::specs::inner::Reading::member_at, crate::specs::inner::Reading::whole))]
+#[tactic(auto, unfolding(crate::specs::inner::Reader::member_at, crate::specs::inner::Reader::whole))]
 pub fn member_of(line: &[u8]) -> Option<(u32, u32)>
     ensures { result ≡ member_at line.now }
 {
@@ -73,7 +73,7 @@ pub fn member_of(line: &[u8]) -> Option<(u32, u32)>
 }
 
 /// The count of exits of a label, which form one leaves out, and the bytes after it.
-#[tactic(auto, unfolding(crate::specs::inner::Reading::exits_at))]
+#[tactic(auto, unfolding(crate::specs::inner::Reader::exits_at))]
 fn exits_at(form: Form, bytes: &[u8]) -> Option<(u32, &[u8])>
     ensures { option_map (λ x. (x.0, x.1.now)) result ≡ exits_at form bytes.now }
 {
@@ -84,7 +84,7 @@ fn exits_at(form: Form, bytes: &[u8]) -> Option<(u32, &[u8])>
 }
 
 /// A room and its label, and the bytes after them.
-#[tactic(auto, unfolding(crate::specs::inner::Reading::entry_at))]
+#[tactic(auto, unfolding(crate::specs::inner::Reader::entry_at))]
 fn entry_at(form: Form, bytes: &[u8]) -> Option<((u32, Label), &[u8])>
     ensures { option_map (λ x. (x.0, x.1.now)) result ≡ entry_at form bytes.now }
 {
@@ -95,7 +95,7 @@ fn entry_at(form: Form, bytes: &[u8]) -> Option<((u32, Label), &[u8])>
 }
 
 /// An exit of a walk, and the bytes after it.
-#[tactic(auto, unfolding(crate::specs::inner::Reading::exit_at))]
+#[tactic(auto, unfolding(crate::specs::inner::Reader::exit_at))]
 fn exit_at(bytes: &[u8]) -> Option<(u32, &[u8])>
     ensures { option_map (λ x. (x.0, x.1.now)) result ≡ exit_at bytes.now }
 {
@@ -139,7 +139,7 @@ fn entries_of(
 }
 
 /// Rising labels, of a member's second line.
-#[tactic(auto, unfolding(crate::specs::inner::Reading::labels_at))]
+#[tactic(auto, unfolding(crate::specs::inner::Reader::labels_at))]
 pub fn labels_of(
     alloc: Global,
     form: Form,
@@ -179,7 +179,7 @@ fn exits_of(alloc: Global, bytes: &[u8]) -> Result<Option<Vec<u32>>, AllocError>
 }
 
 /// The end of a route's line.
-#[tactic(auto, unfolding(crate::specs::inner::Reading::cost_at))]
+#[tactic(auto, unfolding(crate::specs::inner::Reader::cost_at))]
 fn cost_at(bytes: &[u8]) -> Option<u32>
     ensures { result ≡ cost_at bytes.now }
 {
@@ -188,7 +188,7 @@ fn cost_at(bytes: &[u8]) -> Option<u32>
 }
 
 /// The cost of a route to a room, or that there is none.
-#[tactic(auto, unfolding(crate::specs::inner::Reading::way_at))]
+#[tactic(auto, unfolding(crate::specs::inner::Reader::way_at))]
 fn way_at(to: u32, bytes: &[u8]) -> Option<Conclusion>
     ensures { result ≡ way_at to bytes.now }
 {
@@ -203,7 +203,7 @@ fn way_at(to: u32, bytes: &[u8]) -> Option<Conclusion>
 }
 
 /// Where a route leads, and at which cost.
-#[tactic(auto, unfolding(crate::specs::inner::Reading::route_at))]
+#[tactic(auto, unfolding(crate::specs::inner::Reader::route_at))]
 fn route_of(line: &[u8]) -> Option<Conclusion>
     ensures { result ≡ route_at line.now }
 {
@@ -212,7 +212,7 @@ fn route_of(line: &[u8]) -> Option<Conclusion>
 }
 
 /// Where a party meets, and at which cost.
-#[tactic(auto, unfolding(crate::specs::inner::Reading::meeting_at))]
+#[tactic(auto, unfolding(crate::specs::inner::Reader::meeting_at))]
 fn meeting_of(line: &[u8]) -> Option<Conclusion>
     ensures { result ≡ meeting_at line.now }
 {
@@ -222,7 +222,7 @@ fn meeting_of(line: &[u8]) -> Option<Conclusion>
 }
 
 /// A conclusion, of the last line but one.
-#[tactic(auto, unfolding(crate::specs::inner::Reading::conclusion_at))]
+#[tactic(auto, unfolding(crate::specs::inner::Reader::conclusion_at))]
 pub fn conclusion_of(line: &[u8]) -> Option<Conclusion>
     ensures { result ≡ conclusion_at line.now }
 {
@@ -236,7 +236,7 @@ pub fn conclusion_of(line: &[u8]) -> Option<Conclusion>
 }
 
 /// The exits of a walk that has some.
-#[tactic(auto, unfolding(crate::specs::inner::Reading::exits_of))]
+#[tactic(auto, unfolding(crate::specs::inner::Reader::exits_of))]
 fn walk_behind(alloc: Global, bytes: &[u8]) -> Result<Option<Option<Vec<u32>>>, AllocError>
     ensures { IfOk result (λ o. option_map (λ w. option_map (λ v. v.items) w) o ≡ exits_of bytes.now) }
 {
@@ -250,7 +250,7 @@ fn walk_behind(alloc: Global, bytes: &[u8]) -> Result<Option<Option<Vec<u32>>>, 
 }
 
 /// A walk, if one is given, of a member's third line.
-#[tactic(auto, unfolding(crate::specs::inner::Reading::walk_at))]
+#[tactic(auto, unfolding(crate::specs::inner::Reader::walk_at))]
 pub fn walk_of(alloc: Global, line: &[u8]) -> Result<Option<Option<Vec<u32>>>, AllocError>
     ensures { IfOk result (λ o. option_map (λ w. option_map (λ v. v.items) w) o ≡ walk_at line.now) }
 {

@@ -2,7 +2,8 @@
 
 ghost use Rattle.std.specs.Prelude.{◌≡◌};
 ghost use Rattle.mud_roads.specs.Walks.{after};
-ghost use Rattle.mud_cert.specs.Lookup.{Rises, label_in, label_at};
+ghost use Rattle.mud_cert.specs.Lookup.{label_at};
+ghost use Rattle.mud_cert.specs.inner.Labels.{Rises, label_in};
 ghost use Rattle.mud_cert.specs.inner.Tests.{is_at_most};
 
 use crate::Member;

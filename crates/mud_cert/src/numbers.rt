@@ -1,10 +1,9 @@
 //! Numbers at the front of bytes.
 
 ghost use Rattle.std.specs.Prelude.{◌≡◌, ◌<◌, option_map};
-ghost use Rattle.mud_cert.specs.inner.Reading.{is_digit, small, digits_on, number_at, object_at};
+ghost use Rattle.mud_cert.specs.inner.Reader.{is_digit, small, digits_on, number_at, object_at};
 
-use crate::limits::AMOUNTS;
-use mud_key::limits::LAST_NUMBER;
+use mud_key::limits::{AMOUNTS, LAST_NUMBER};
 
 /// Whether the byte is a digit.
 fn is_digit(byte: u8) -> bool
@@ -45,7 +44,7 @@ fn digits_on(start: u8, bytes: &[u8]) -> Option<(u32, &[u8])>
 
 /// A number of at most nine digits, the first of which is 0 only in 0 itself, and the bytes after
 /// it.
-#[tactic(auto, unfolding(crate::specs::inner::Reading::number_at))]
+#[tactic(auto, unfolding(crate::specs::inner::Reader::number_at))]
 pub fn number_at(bytes: &[u8]) -> Option<(u32, &[u8])>
     ensures { option_map (λ x. (x.0, x.1.now)) result ≡ number_at bytes.now }
 {
@@ -64,7 +63,7 @@ pub fn number_at(bytes: &[u8]) -> Option<(u32, &[u8])>
 }
 
 /// The number of an object, and the bytes after it.
-#[tactic(auto, unfolding(crate::specs::inner::Reading::object_at))]
+#[tactic(auto, unfolding(crate::specs::inner::Reader::object_at))]
 pub fn object_at(bytes: &[u8]) -> Option<(u32, &[u8])>
     ensures { option_map (λ x. (x.0, x.1.now)) result ≡ object_at bytes.now }
 {

@@ -3,7 +3,7 @@
 ghost use Rattle.std.specs.Prelude.{◌≡◌, ◌<◌, IfOk};
 ghost use Rattle.mud_cert.specs.Certificate.{IsNumber, IsAccount};
 ghost use Rattle.mud_cert.specs.inner.Opening.{IsOpening};
-ghost use Rattle.mud_cert.specs.inner.Reading.{member_at, conclusion_at};
+ghost use Rattle.mud_cert.specs.inner.Reader.{member_at, conclusion_at};
 ghost use Rattle.mud_cert.specs.inner.Stages.{IsStage, suits, conclude, join, next};
 
 use crate::cert::{Cert, Conclusion, Form, Member};

@@ -1,7 +1,7 @@
 //! Walks that are given as numbers of exits.
 
 ghost use Rattle.std.specs.Prelude.{◌≡◌, ℕ};
-ghost use Rattle.mud_roads.specs.Open.{passable};
+ghost use Rattle.mud_roads.specs.Passable.{passable};
 ghost use Rattle.mud_roads.specs.Walks.{total};
 ghost use Rattle.mud_world.specs.State.{IsHolding};
 ghost use Rattle.mud_cert.specs.inner.Ways.{step_of, steps_of, end_of, arrival_of};

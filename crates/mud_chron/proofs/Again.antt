@@ -21,7 +21,7 @@ use Rattle.mud_chron.specs.declared.limits.TheConstants.{MOST_DESKS}
 use Rattle.mud_chron.specs.declared.verb.Verb.{Verb}
 use Rattle.mud_chron.specs.declared.verb.Verb.TheVariants as verb
 use Rattle.mud_chron.specs.Entry.{Entry, IsEntry, IsInRange, HasParts, IsTarget}
-use Rattle.mud_world.specs.inner.Parts.{AreDoors, AreBackNames}
+use Rattle.mud_world.specs.inner.Fields.{AreDoors, AreBackNames}
 use Rattle.mud_chron.specs.inner.Fields.{with_commas}
 use Rattle.mud_chron.specs.Text.{in_quotes, target_text, deed_text, entry_line}
 use Rattle.mud_chron.specs.inner.Texts.{back_text, doors_text, change_text}

@@ -10,7 +10,7 @@ use Rattle.std.proofs.lemmas.List.{append-nil}
 use Rattle.std.proofs.lemmas.List.Folds.{list_all-append}
 use Rattle.std.proofs.lemmas.Bool.{cond-true, and_from, and_parts, le-leb, leb-true, lt-ltb, ne_eqb}
 use Rattle.mud_key.specs.declared.codes.TheConstants.{SPACE, ZERO, NINE}
-use Rattle.mud_key.specs.declared.limits.TheConstants.{LAST_NUMBER}
+use Rattle.mud_key.specs.declared.limits.TheConstants.{AMOUNTS, LAST_NUMBER}
 use Rattle.mud_key.specs.Printed.{number_text}
 use Rattle.mud_chron.specs.declared.fields.TheConstants.{ROOM_FOR_A_DIGIT}
 use Rattle.mud_chron.specs.inner.Fields.{is_digit, digits_on, up_to, object_in}
@@ -27,9 +27,9 @@ is-digit : (b : ℕ) → ZERO ≤ b → b ≤ NINE → is_digit b ≡ true
 is-digit b lo hi = and_from (leb ZERO b) (leb b NINE) (le-leb ZERO b lo) (le-leb b NINE hi)
 
 -- the digits of a number are read on as that number
-reads-on : (n : ℕ) → n < 1000000000 → (rest : List ℕ) → digits_on 0 (decimal n ++ rest) ≡ digits_on n rest
+reads-on : (n : ℕ) → n < AMOUNTS → (rest : List ℕ) → digits_on 0 (decimal n ++ rest) ≡ digits_on n rest
 reads-on n few =
-    decimal_by_steps (λ n ds. n < 1000000000 → (rest : List ℕ) → digits_on 0 (ds ++ rest) ≡ digits_on n rest)
+    decimal_by_steps (λ n ds. n < AMOUNTS → (rest : List ℕ) → digits_on 0 (ds ++ rest) ≡ digits_on n rest)
     (λ n small few rest.
     let d : 0 * 10 + (ZERO + n - ZERO) ≡ n = omega arith in
     step 0 (ZERO + n) rest (is-digit (ZERO + n) (omega arith) (omega arith)) (omega arith)
@@ -61,7 +61,7 @@ decimal_lacks c n low fits =
     (ne_eqb b c (λ same. let p = and_parts (leb ZERO b) (leb b NINE) e in absurd (omega (arith, leb-true ZERO b p.0)))))
     (decimal n) (digits n fits)
 
-pub number_again : (most n : ℕ) → n ≤ most → n < 1000000000 → up_to most (digits_on 0 (decimal n)) ≡ Some n
+pub number_again : (most n : ℕ) → n ≤ most → n < AMOUNTS → up_to most (digits_on 0 (decimal n)) ≡ Some n
 number_again most n le few =
     ap (up_to most) (ap (digits_on 0) (sym (append-nil (decimal n))) ∙ reads-on n few [])
     ∙ cond-true (leb n most) (Some n) None (le-leb n most le)

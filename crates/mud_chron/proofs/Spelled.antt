@@ -14,7 +14,7 @@ use Rattle.mud_key.specs.declared.limits.TheConstants.{LAST_NUMBER}
 use Rattle.mud_key.specs.Name.{IsName, IsNameByte}
 use Rattle.mud_key.specs.Names.{AreNames}
 use Rattle.mud_key.specs.inner.NamesTexts.{SpellsName, SpellsNames, one, more}
-use Rattle.mud_key.specs.Reading.{names_in, name_in}
+use Rattle.mud_key.specs.Finds.{names_in, name_in}
 use Rattle.mud_key.specs.Tree.{Tree, Has, Asks, Not, Join, objects_of, nots_of, AllObjects, IsWithinLimits, IsKey}
 use Rattle.mud_key.specs.KeyText.{sign, SpellsKey}
 use Rattle.mud_key.specs.Printed.{number_text, by_text, in_parentheses, printed}
@@ -28,7 +28,7 @@ use Rattle.mud_key.proofs.LeastParentheses.{reads_back}
 use Rattle.mud_key.proofs.Resolving.{CountsAs, resolved_counts}
 use Rattle.mud_world.specs.declared.limits.TheConstants.{MOST_SPEECH}
 use Rattle.mud_world.specs.Speech.{is_trimmed, is_speech}
-use Rattle.mud_world.specs.inner.Parts.{is_printable}
+use Rattle.mud_world.specs.inner.Fields.{is_printable}
 use Rattle.mud_chron.specs.declared.codes.TheConstants.{QUOTE}
 use Rattle.mud_chron.specs.inner.Fields.{with_commas}
 use Rattle.mud_chron.specs.Text.{in_quotes}

@@ -1,6 +1,6 @@
 -- Entries of a history, and which there are.
 pub use Rattle.mud_world.specs.Numbers.{IsNumber}
-pub use Rattle.mud_world.specs.Parts.{IsTarget, HasParts}
+pub use Rattle.mud_world.specs.DeedParts.{IsTarget, HasParts}
 use Rattle.std.specs.Prelude.{ℕ, ◌≤◌, Some, None}
 use Rattle.mud_world.specs.declared.change.Change.{Change}
 use Rattle.mud_world.specs.declared.change.Target.TheVariants.{Old}

@@ -2,9 +2,10 @@
 //! (`line.rt`), so that a field may be found in more than its own spelling.
 
 ghost use Rattle.std.specs.Prelude.{◌≡◌, ◌≢◌, ◌⊎◌, ◌≤◌, ◌<◌, IfOk};
+ghost use Rattle.mud_key.specs.declared.limits.TheConstants.{AMOUNTS};
 ghost use Rattle.mud_chron.specs.Entry.{IsNumber};
 ghost use Rattle.mud_chron.specs.inner.Fields.{Gives, digits_on, object_in};
-ghost use Rattle.mud_key.specs.Reading.{names_in, name_in};
+ghost use Rattle.mud_key.specs.Finds.{names_in, name_in};
 ghost use Rattle.mud_chron.specs.inner.Reader.{Tells, cut, number_up_to, object_before, speech_in, number_key_in};
 
 use mud_key::{Key, KeyFault, Miss, Name, Namer, Names, NamesFault, read, resolve};
@@ -74,7 +75,7 @@ fn number_up_to(text: &[u8], most: u32) -> Result<u32, Unread>
 
 // The number, up to this one.
 pub(crate) fn number(text: &str, most: u32) -> Result<u32, Unread>
-    requires { most < 1000000000 }
+    requires { most < AMOUNTS }
     ensures means { Gives result (number_up_to most text.now) }
     ensures most { IfOk result (λ n. n ≤ most) }
 {

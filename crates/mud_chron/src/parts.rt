@@ -1,7 +1,7 @@
 //! What the types of a change's parts keep, for the prover: the calls say it, and what they give is not used.
 
 ghost use Rattle.mud_chron.specs.Entry.{HasParts, IsTarget};
-ghost use Rattle.mud_world.specs.inner.Parts.{AreDoors, AreBackNames};
+ghost use Rattle.mud_world.specs.inner.Fields.{AreDoors, AreBackNames};
 
 use mud_key::Names;
 use mud_world::{Change, Deed, Doors, Target};

@@ -2,7 +2,8 @@
 use Rattle.std.proofs.Common.{◌≡◌, ℕ, ◌<◌, List, [], ◌∷◌, ◌++◌, length, sym, ◌∙◌, ap, subst, append_assoc}
 use Rattle.std.proofs.lemmas.List.{append-nil}
 use Rattle.mud_nvt.specs.declared.codes.TheConstants.{LF}
-use Rattle.mud_explain.specs.Lines.{Answers, at_end, last, next, AnswersOne}
+use Rattle.mud_explain.specs.Lines.{Answers, at_end, last, next}
+use Rattle.mud_explain.specs.inner.Lines.{AnswersOne}
 use Rattle.mud_key.specs.Lines.{HasNoLineFeed}
 
 -- what is answered to the whole input once the rest of it is answered

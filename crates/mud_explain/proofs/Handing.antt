@@ -7,7 +7,7 @@ use Rattle.std.specs.List.{remove}
 use Rattle.std.specs.List.Sorted.{IsPermutation}
 use Rattle.std.proofs.lemmas.List.Sorted.{IsPermutation-more, IsPermutation-append_comm, IsPermutation-trans}
 use Rattle.mud_hall.specs.Desk.{View}
-use Rattle.mud_explain.specs.inner.Played.{AreHanded}
+use Rattle.mud_explain.specs.inner.Steps.{AreHanded}
 
 abbrev pub number_in : View → ℕ
 number_in d = d.state.number

@@ -2,7 +2,7 @@
 use Rattle.std.proofs.Common.{◌≡◌, ℕ, List, take, drop, Option, Some, None, IfSome, subst, take-append-drop}
 use Rattle.std.specs.Io.KnownBytes.{Appends}
 use Rattle.mud_command.specs.declared.subject.Subject.{Subject}
-use Rattle.mud_explain.specs.Explained.{Explains, WritesFront}
+use Rattle.mud_explain.specs.Explanation.{Explains, WritesFront}
 
 -- a front of what explains the input was written
 pub front-written : (subject : Subject) (known held now_held : Option (List ℕ)) (input out : List ℕ) (n : ℕ)

@@ -1,7 +1,7 @@
 pub mod Lines
-pub mod Listed
+pub mod Brackets
 pub mod Units
 pub mod Line
 pub mod Key
-pub mod Explained
+pub mod Explanation
 pub mod inner

@@ -1,5 +1,5 @@
 -- An input that is read line by line.
-use Rattle.std.specs.Prelude.{ℕ, ◌<◌, ◌≡◌, List, [], ◌∷◌, ◌++◌, length}
+use Rattle.std.specs.Prelude.{ℕ, ◌<◌, List, [], ◌∷◌, ◌++◌, length}
 use Rattle.mud_nvt.specs.declared.codes.TheConstants.{LF}
 use Rattle.mud_key.specs.Lines.{HasNoLineFeed}
 
@@ -10,9 +10,3 @@ pub data Answers (Says : List ℕ → List ℕ → Type 0) : List ℕ → List �
       → Answers Says line (answer ++ LF ∷ [])
   next : {line answer rest out : List ℕ} → HasNoLineFeed line → Says line answer → Answers Says rest out
       → Answers Says (line ++ LF ∷ rest) (answer ++ LF ∷ out)
-
--- one more line is answered; only a clause of a private part cites it
-pub record AnswersOne (Says : List ℕ → List ℕ → Type 0) (line old new : List ℕ) : Type 0 where
-  pub answer : List ℕ
-  pub says : Says line answer
-  pub appended : new ≡ old ++ (answer ++ LF ∷ [])

@@ -1,3 +1,4 @@
-pub mod Played
+pub mod Steps
 pub mod Texts
-pub mod Told
+pub mod StepLines
+pub mod Lines

@@ -2,7 +2,7 @@
 
 ghost use Rattle.std.specs.Prelude.{◌≡◌, ◌↔◌, ◌⊎◌, Err, true, false, IfOk, IfSome, OnOk, string_bytes};
 ghost use Rattle.std.specs.Io.KnownBytes.{IsAtEnd, Keeps};
-ghost use Rattle.mud_explain.specs.Explained.{Explains, Writes, WritesFront};
+ghost use Rattle.mud_explain.specs.Explanation.{Explains, Writes, WritesFront};
 
 use crate::lines::explained_lines;
 use crate::units::explained_units;

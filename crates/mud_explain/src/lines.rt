@@ -4,14 +4,15 @@ ghost use Rattle.std.specs.Prelude.{◌≡◌, ◌++◌, IfOk, OnOk, string_byte
 ghost use Rattle.mud_words.specs.Words.{words};
 ghost use Rattle.mud_words.specs.Parse.{parse_of};
 ghost use Rattle.mud_words.specs.Line.{line_of};
-ghost use Rattle.mud_explain.specs.Listed.{bracket_all};
+ghost use Rattle.mud_explain.specs.Brackets.{bracket_all};
 ghost use Rattle.mud_explain.specs.Line.{line_text};
 ghost use Rattle.mud_explain.specs.inner.Texts.{preposition_text};
 ghost use Rattle.mud_explain.specs.Key.{SaysKey};
-ghost use Rattle.mud_explain.specs.Explained.{SaysText, Says};
-ghost use Rattle.mud_explain.specs.Lines.{Answers, AnswersOne};
+ghost use Rattle.mud_explain.specs.Explanation.{SaysText, Says};
+ghost use Rattle.mud_explain.specs.Lines.{Answers};
+ghost use Rattle.mud_explain.specs.inner.Lines.{AnswersOne};
 ghost use Rattle.std.specs.Option.{option_map_or};
-ghost use Rattle.mud_key.specs.Reading.{names_in};
+ghost use Rattle.mud_key.specs.Finds.{names_in};
 
 use crate::grouped::push_grouped;
 use crate::listed::push_listed;

@@ -2,7 +2,7 @@
 
 ghost use Rattle.std.specs.Prelude.{◌≡◌, ◌++◌, map, OnOk, codes, string_bytes};
 ghost use Rattle.std.specs.List.{flat_map};
-ghost use Rattle.mud_explain.specs.Listed.{bracket_all, in_brackets};
+ghost use Rattle.mud_explain.specs.Brackets.{bracket_all, in_brackets};
 
 use std::alloc::AllocError;
 use std::convert::AsStr;

@@ -3,11 +3,11 @@
 ghost use Rattle.std.specs.Prelude.{◌≡◌, ◌<◌, ◌++◌, ◌⊎◌, ℕ, List, length, slice_get, Some, None};
 ghost use Rattle.std.specs.Prelude.{IfOk, IfSome, IfNone, OnOk, codes, string_bytes};
 ghost use Rattle.std.specs.Vec.{vec_len};
-ghost use Rattle.mud_hall.specs.Settling.{HasNumber};
+ghost use Rattle.mud_hall.specs.Settlement.{HasNumber};
 ghost use Rattle.std.specs.List.Sorted.{IsPermutation};
 ghost use Rattle.mud_hall.specs.Desk.{View};
-ghost use Rattle.mud_explain.specs.inner.Played.{Turns, TurnsOne, Gives, Lacks, DoesNothing, AreHanded, Settles};
-ghost use Rattle.mud_explain.specs.inner.Played.{GoesOn};
+ghost use Rattle.mud_explain.specs.inner.Steps.{Turns, TurnsOne, Gives, Lacks, DoesNothing, AreHanded, Settles};
+ghost use Rattle.mud_explain.specs.inner.Steps.{GoesOn};
 
 use crate::step::{Row, Turn, step_of};
 use crate::told::{

@@ -4,8 +4,8 @@ ghost use Rattle.std.specs.Prelude.{◌≡◌, ◌++◌, map, Ok, OnOk, codes, s
 ghost use Rattle.std.specs.List.{flat_map};
 ghost use Rattle.mud_hall.specs.Replies.{reply_shown};
 ghost use Rattle.mud_hall.specs.Answers.{answer_shown};
-ghost use Rattle.mud_explain.specs.inner.Told.{fault_line, reply_line, answer_lines, seen_line, told_lines};
-ghost use Rattle.mud_explain.specs.inner.Told.{settled_lines, unsettled_line};
+ghost use Rattle.mud_explain.specs.inner.StepLines.{fault_line, reply_line, answer_lines, seen_line, told_lines};
+ghost use Rattle.mud_explain.specs.inner.StepLines.{settled_lines, unsettled_line};
 
 use mud_guide::Answer;
 use mud_hall::{CloseFault, Fault, Reply, Settled};

@@ -2,7 +2,7 @@
 
 ghost use Rattle.std.specs.Prelude.{◌≡◌, ◌++◌, ◌<◌, ◌+◌, IfOk, OnOk, string_bytes};
 ghost use Rattle.std.specs.List.{flat_map};
-ghost use Rattle.mud_nvt.specs.Shown.{all_shown, unit_shown};
+ghost use Rattle.mud_nvt.specs.UnitViews.{all_shown, unit_shown};
 ghost use Rattle.mud_nvt.specs.Units.{units};
 ghost use Rattle.mud_explain.specs.Units.{hex_digit, unit_text};
 ghost use Rattle.mud_explain.specs.inner.Texts.{byte_text, units_text};

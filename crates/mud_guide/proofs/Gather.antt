@@ -13,7 +13,8 @@ use Rattle.mud_roads.specs.declared.label.Label.{Label}
 use Rattle.mud_world.specs.State.{State}
 use Rattle.mud_world.specs.Sound.{IsSound}
 use Rattle.mud_roads.specs.Walks.{IsLeast, Least, Goer, HasLeast, Gathers}
-use Rattle.mud_roads.specs.Open.{Knowledge, knowledge_of, IsTraveller, roads_of, goer}
+use Rattle.mud_roads.specs.Passable.{Knowledge, knowledge_of, IsTraveller, roads_of}
+use Rattle.mud_roads.specs.inner.Goer.{goer}
 use Rattle.mud_world.specs.State.{is_room}
 use Rattle.std.specs.Prelude.{IsTrue}
 use Rattle.mud_roads.proofs.Roads.{room-below, traveller-room}
@@ -86,10 +87,11 @@ best-skip labels members room (Some p) b none = record {
       ];
 }
 
-pub best-step : (labels : ℕ → ℕ → Option Label) (members room cost : ℕ) (best : Option Meeting)
-    → BestSoFar labels members room best
-    → IsGreatest (λ m. labels m room) members cost → BestSoFar labels members (room + 1) (lesser best room cost)
-best-step labels members room cost None b g = record {
+-- a room is the best where all that gather in a room before it cost more
+best-new : (labels : ℕ → ℕ → Option Label) (members room cost : ℕ) → IsGreatest (λ m. labels m room) members cost
+    → ((r c : ℕ) → r < room → IsGreatest (λ m. labels m r) members c → cost < c)
+    → IsBest labels members (room + 1) (record { room = room; cost = cost })
+best-new labels members room cost g dearer = record {
   inside = omega arith;
   gathers = g;
   best = λ r c h f.
@@ -104,37 +106,23 @@ best-step labels members room cost None b g = record {
               ),
               omega arith,
             )
-        | inr other ↦ absurd (b r c (omega arith) f)
+        | inr other ↦ inl (dearer r c (omega arith) f)
       ];
 }
+
+pub best-step : (labels : ℕ → ℕ → Option Label) (members room cost : ℕ) (best : Option Meeting)
+    → BestSoFar labels members room best
+    → IsGreatest (λ m. labels m room) members cost → BestSoFar labels members (room + 1) (lesser best room cost)
+best-step labels members room cost None b g =
+    best-new labels members room cost g (λ r c h f. absurd (b r c h f))
 best-step labels members room cost (Some p) b g = go (nat_lt cost p.cost) refl
   where
     go : (t : Bool) → nat_lt cost p.cost ≡ t
         → BestSoFar labels members (room + 1) (if t then Some (record { room = room; cost = cost }) else Some p)
     go true e =
         let less : cost < p.cost = grind (arith, nat_tests) in
-        record {
-          inside = omega arith;
-          gathers = g;
-          best = λ r c h f.
-              elim (cases_eq r room) [
-                | inl same ↦
-                    let P : ℕ → Type 0 = λ q. IsGreatest (λ m. labels m q) members c in
-                    inr (
-                      omega (
-                        arith,
-                        greatest-most (λ m. labels m room) members cost c g (subst P same f),
-                        greatest-most (λ m. labels m room) members c cost (subst P same f) g,
-                      ),
-                      omega arith,
-                    )
-                | inr other ↦ elim (b.best r c (omega arith) f) [
-                  | inl x ↦
-                      inl (omega (arith, x))
-                  | inr x ↦ inl (omega (arith, x.0))
-                ]
-              ];
-        }
+        best-new labels members room cost g
+        (λ r c h f. elim (b.best r c h f) [ inl x ↦ omega (arith, x) | inr x ↦ omega (arith, x.0) ])
     go false e =
         let most : p.cost ≤ cost = grind (arith, nat_tests) in
         record {

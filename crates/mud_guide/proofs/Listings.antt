@@ -8,10 +8,10 @@ use Rattle.std.specs.Prelude.{All}
 use Rattle.std.specs.List.{AllZip}
 use Rattle.mud_world.specs.State.{State}
 use Rattle.mud_roads.specs.declared.label.Label.{Label}
-use Rattle.mud_roads.specs.Open.{Knowledge}
+use Rattle.mud_roads.specs.Passable.{Knowledge}
 use Rattle.mud_cert.specs.Certificate.{Account, IsAccount}
 use Rattle.mud_guide.specs.declared.lister.Listing.{Listing}
-use Rattle.mud_guide.specs.Legs.{Leg, IsJourney}
+use Rattle.mud_guide.specs.Legs.{Leg, IsLeg}
 use Rattle.mud_guide.specs.inner.Listings.{IsListed, AreListed, IsListing}
 use Rattle.mud_guide.proofs.Parts.{allzip-beside}
 use Rattle.mud_guide.proofs.Party.{allzip-length}
@@ -44,11 +44,11 @@ listed-beside labels next first behind us xs vs ys at one other = record {
         let A : Account → Type 0 = λ x. IsListed (labels (behind + k)) next (get_or xs k j) x in
         let there : m ≡ length us + k = omega (arith, is, one.long) in
         let same : behind + k ≡ first + m = omega (arith, at, there) in
-        let journey : get_or (us ++ xs) m j ≡ get_or xs k j =
+        let leg : get_or (us ++ xs) m j ≡ get_or xs k j =
         ap (λ (n : ℕ). get_or (us ++ xs) n j) there ∙ get_or-append-add us xs k j in
         let account : get_or (vs ++ ys) m a ≡ get_or ys k a =
         ap (λ (n : ℕ). get_or (vs ++ ys) n a) is ∙ get_or-append-add vs ys k a in
-        subst P same (subst J (sym journey) (subst A (sym account) (other.each k j a inside)))
+        subst P same (subst J (sym leg) (subst A (sym account) (other.each k j a inside)))
 
     among : (m : ℕ) (j : Leg) (a : Account) → m < length vs
         → IsListed (labels (first + m)) next (get_or (us ++ xs) m j) (get_or (vs ++ ys) m a)
@@ -74,23 +74,23 @@ listed-beside labels next first behind us xs vs ys at one other = record {
 pub listing-beside : (w : State) (labels : ℕ → ℕ → Option Label) (first behind : ℕ) (to : Option ℕ)
     (ts xs ys : List Knowledge) (l m both : Listing) → ts ≡ xs ++ ys → behind ≡ first + length xs
     → IsListing w labels first to xs l → IsListing w labels behind to ys m
-    → both.journeys.items ≡ l.journeys.items ++ m.journeys.items
+    → both.legs.items ≡ l.legs.items ++ m.legs.items
     → both.accounts.items ≡ l.accounts.items ++ m.accounts.items
     → IsListing w labels first to ts both
-listing-beside w labels first behind to ts xs ys l m both parted at one other journeys accounts =
-    let R : Knowledge → Leg → Type 0 = λ t j. IsJourney w to t.player j in
-    let us = l.journeys.items in
-    let vs = m.journeys.items in
+listing-beside w labels first behind to ts xs ys l m both parted at one other legs accounts =
+    let R : Knowledge → Leg → Type 0 = λ t j. IsLeg w to t.player j in
+    let us = l.legs.items in
+    let vs = m.legs.items in
     let ds = l.accounts.items in
     let es = m.accounts.items in
-    let T : List Knowledge → Type 0 = λ ks. AllZip R ks both.journeys.items in
+    let T : List Knowledge → Type 0 = λ ks. AllZip R ks both.legs.items in
     let J : List Leg → Type 0 = λ js. AreListed (λ m. labels (first + m)) w.next js both.accounts.items in
     let A : List Account → Type 0 = λ ns. AreListed (λ m. labels (first + m)) w.next (us ++ vs) ns in
-    let long : behind ≡ first + length us = omega (arith, at, allzip-length R xs us one.journeys) in
+    let long : behind ≡ first + length us = omega (arith, at, allzip-length R xs us one.legs) in
     record {
-      journeys = subst T (sym parted) (subst (AllZip R (xs ++ ys)) (sym journeys)
-          (allzip-beside R xs ys us vs one.journeys other.journeys));
-      accounts = subst J (sym journeys) (subst A (sym accounts)
+      legs = subst T (sym parted) (subst (AllZip R (xs ++ ys)) (sym legs)
+          (allzip-beside R xs ys us vs one.legs other.legs));
+      accounts = subst J (sym legs) (subst A (sym accounts)
           (listed-beside labels w.next first behind us vs ds es long one.accounts other.accounts));
       limits = subst (All IsAccount) (sym accounts) (All-append IsAccount ds es one.limits other.limits);
     }

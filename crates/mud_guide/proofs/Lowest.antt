@@ -16,7 +16,7 @@ use Rattle.mud_world.proofs.Listed.{arriving_law}
 use Rattle.mud_roads.specs.declared.label.Label.{Label}
 use Rattle.mud_roads.specs.declared.label.Step.{Step}
 use Rattle.mud_roads.specs.Walks.{Roads, after}
-use Rattle.mud_roads.specs.Open.{roads_of, step_by, open_step}
+use Rattle.mud_roads.specs.Passable.{roads_of, step_by, open_step}
 use Rattle.mud_roads.proofs.Routes.{label-ext}
 use Rattle.mud_roads.proofs.Roads.{road-at, road-to, opens-as, open-road, road-open}
 use Rattle.mud_guide.specs.declared.arrivals.Arrival.{Arrival}

@@ -8,9 +8,9 @@ use Rattle.std.proofs.lemmas.List.Elements.{All-append}
 use Rattle.std.proofs.lemmas.Option.{slice_get_within, get_or_from_slice_get, slice_get-get_or}
 use Rattle.mud_world.specs.State.{State}
 use Rattle.mud_roads.specs.declared.label.Label.{Label}
-use Rattle.mud_roads.specs.Open.{Knowledge, IsTraveller, roads_of}
+use Rattle.mud_roads.specs.Passable.{Knowledge, IsTraveller, roads_of}
 use Rattle.mud_roads.specs.Walks.{Least}
-use Rattle.mud_guide.specs.inner.Parts.{AreTravellers, AreMembers}
+use Rattle.mud_guide.specs.inner.Travellers.{AreTravellers, AreMembers}
 
 -- one of the first stands where he stood
 front-member : {X : Type 0} → (xs ys : List X) (m : ℕ) (x : X) → slice_get xs m ≡ Some x

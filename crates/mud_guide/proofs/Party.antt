@@ -11,7 +11,7 @@ use Rattle.mud_world.specs.Sound.{IsSound}
 use Rattle.mud_roads.specs.declared.label.Label.{Label}
 use Rattle.mud_roads.specs.declared.label.Step.{Step}
 use Rattle.mud_roads.specs.Walks.{total, IsLeast, Least, Goer, HasLeast, Gathers}
-use Rattle.mud_roads.specs.Open.{Knowledge, knowledge_of, IsTraveller, roads_of}
+use Rattle.mud_roads.specs.Passable.{Knowledge, knowledge_of, IsTraveller, roads_of}
 use Rattle.mud_roads.proofs.Routes.{least-one}
 use Rattle.mud_cert.specs.declared.cert.Form.TheVariants.{Two}
 use Rattle.mud_cert.specs.declared.cert.Meeting.{Meeting}
@@ -24,7 +24,7 @@ use Rattle.mud_search.specs.Least.{AreLeast}
 use Rattle.mud_guide.specs.inner.Arrivals.{Labelled}
 use Rattle.mud_guide.specs.Ways.{cost_of, IsWayTo}
 use Rattle.mud_guide.specs.inner.Members.{IsWay}
-use Rattle.mud_guide.specs.Legs.{Leg, IsJourney, goers_of}
+use Rattle.mud_guide.specs.Legs.{Leg, IsLeg, goers_of}
 use Rattle.mud_guide.specs.Accounts.{IsAccountOf}
 use Rattle.mud_guide.specs.inner.Listings.{IsInside, AreListed}
 use Rattle.mud_guide.specs.inner.Gatherings.{IsGreatest}
@@ -64,7 +64,7 @@ pub record IsParty (w : State) (to : Option ℕ) (ts : List Knowledge) (js : Lis
     (es : List Account) : Type 0 where
   pub are : All (IsTraveller w) ts
   pub distinct : AllPairs (λ s t. s.player ≢ t.player) ts
-  pub go : AllZip (λ t j. IsJourney w to t.player j) ts js
+  pub go : AllZip (λ t j. IsLeg w to t.player j) ts js
   pub least : AreLeast w ts labels
   pub listed : AreListed labels w.next js es
 
@@ -74,13 +74,13 @@ nobody = knowledge_of 0 0 [] []
 abbrev pub nowhere : Leg
 nowhere = record { player = 0; from = 0; way = None }
 
--- who goes stands where his journey begins
+-- who goes stands where his leg begins
 same-place : (w : State) (to : Option ℕ) (t : Knowledge) (j : Leg) → IsTraveller w t
-    → IsJourney w to t.player j → t.place ≡ j.from
+    → IsLeg w to t.player j → t.place ≡ j.from
 same-place w to t j is goes = some-inj t.place j.from (sym is.place ∙ goes.from)
 
 pub goers-same : (w : State) (to : Option ℕ) (ts : List Knowledge) (js : List Leg) → All (IsTraveller w) ts
-    → AllZip (λ t j. IsJourney w to t.player j) ts js
+    → AllZip (λ t j. IsLeg w to t.player j) ts js
     → goers w ts ≡ goers_of w js
 goers-same w to [] [] are z = refl
 goers-same w to [] (j ∷ js) are z = absurd z
@@ -93,28 +93,28 @@ goers-same w to (t ∷ ts) (j ∷ js) are z =
     ap one (sym z.0.player) ∙ ap two (same-place w to t j is z.0)
     ∙ ap rest (goers-same w to ts js (λ k d h. are (suc k) d (omega (arith, h))) z.1)
 
-pub journeys-of : (w : State) (to : Option ℕ) (ts : List Knowledge) (js : List Leg)
-    → AllZip (λ t j. IsJourney w to t.player j) ts js
-    → AllZip (IsJourney w to) (map (λ t. t.player) ts) js
-journeys-of w to [] [] z = tt
-journeys-of w to [] (j ∷ js) z = absurd z
-journeys-of w to (t ∷ ts) [] z = absurd z
-journeys-of w to (t ∷ ts) (j ∷ js) z = (z.0, journeys-of w to ts js z.1)
+pub legs-of : (w : State) (to : Option ℕ) (ts : List Knowledge) (js : List Leg)
+    → AllZip (λ t j. IsLeg w to t.player j) ts js
+    → AllZip (IsLeg w to) (map (λ t. t.player) ts) js
+legs-of w to [] [] z = tt
+legs-of w to [] (j ∷ js) z = absurd z
+legs-of w to (t ∷ ts) [] z = absurd z
+legs-of w to (t ∷ ts) (j ∷ js) z = (z.0, legs-of w to ts js z.1)
 
-pub journeys-inside : (w : State) → IsSound w
+pub legs-inside : (w : State) → IsSound w
     → (to : Option ℕ) (ts : List Knowledge) (js : List Leg) → All (IsTraveller w) ts
-    → AllZip (λ t j. IsJourney w to t.player j) ts js → All (IsInside w.next) js
-journeys-inside w sound to ts js are z k d h =
-    let inside : k < length ts = omega (arith, allzip-length (λ t j. IsJourney w to t.player j) ts js z) in
+    → AllZip (λ t j. IsLeg w to t.player j) ts js → All (IsInside w.next) js
+legs-inside w sound to ts js are z k d h =
+    let inside : k < length ts = omega (arith, allzip-length (λ t j. IsLeg w to t.player j) ts js z) in
     let t = get_or ts k nobody in
-    shown.journey-inside w sound t.player (are k nobody inside).player to (get_or js k d)
-    (allzip-at (λ t j. IsJourney w to t.player j) ts js k nobody d z inside)
+    shown.leg-inside w sound t.player (are k nobody inside).player to (get_or js k d)
+    (allzip-at (λ t j. IsLeg w to t.player j) ts js k nobody d z inside)
 
 module _ (w : State) (sound : IsSound w) (to : Option ℕ) (ts : List Knowledge) (js : List Leg)
     (labels : ℕ → ℕ → Option Label) (es : List Account)
     (party : IsParty w to ts js labels es) where
   long-js : length js ≡ length ts
-  long-js = allzip-length (λ t j. IsJourney w to t.player j) ts js party.go
+  long-js = allzip-length (λ t j. IsLeg w to t.player j) ts js party.go
 
   within : (m : ℕ) → m < length es → m < length ts
   within m h = omega (arith, h, party.listed.long, long-js)
@@ -122,41 +122,41 @@ module _ (w : State) (sound : IsSound w) (to : Option ℕ) (ts : List Knowledge)
   abbrev who : ℕ → Knowledge
   who m = get_or ts m nobody
 
-  abbrev journey : ℕ → Leg
-  journey m = get_or js m nowhere
+  abbrev leg : ℕ → Leg
+  leg m = get_or js m nowhere
 
   is-player : (m : ℕ) → m < length es → IsTrue (is_player w (who m).player)
   is-player m h = (party.are m nobody (within m h)).player
 
-  goes : (m : ℕ) → m < length es → IsJourney w to (who m).player (journey m)
-  goes m h = allzip-at (λ t j. IsJourney w to t.player j) ts js m nobody nowhere party.go (within m h)
+  goes : (m : ℕ) → m < length es → IsLeg w to (who m).player (leg m)
+  goes m h = allzip-at (λ t j. IsLeg w to t.player j) ts js m nobody nowhere party.go (within m h)
 
-  labelled : (m : ℕ) → m < length es → Labelled (roads_of w (who m).player) (journey m).from (labels m)
+  labelled : (m : ℕ) → m < length es → Labelled (roads_of w (who m).player) (leg m).from (labels m)
   labelled m h room =
       let P : ℕ → Type 0 = λ from. Least 1 (roads_of w (who m).player) from room (labels m room) in
-      subst P (same-place w to (who m) (journey m) (party.are m nobody (within m h)) (goes m h))
+      subst P (same-place w to (who m) (leg m) (party.are m nobody (within m h)) (goes m h))
       (party.least m room (who m) (slice_get-get_or ts m nobody (within m h)))
 
   found : (m : ℕ) (d : Account) → m < length es → (room : ℕ) → label_at (get_or es m d) room ≡ labels m room
-  found m d h = shown.found w sound (who m).player (is-player m h) to (journey m) (goes m h) (labels m) (labelled m h)
+  found m d h = shown.found w sound (who m).player (is-player m h) to (leg m) (goes m h) (labels m) (labelled m h)
       (get_or es m d) (party.listed.each m nowhere d h)
 
-  arrives : (m : ℕ) (d : Account) → m < length es → (r : ℕ) (ss : List Step) → to ≡ Some r → (journey m).way ≡ Some ss
+  arrives : (m : ℕ) (d : Account) → m < length es → (r : ℕ) (ss : List Step) → to ≡ Some r → (leg m).way ≡ Some ss
       → States w (get_or es m d) r ss × (label_at (get_or es m d) r ≡ Some (total 1 ss))
-  arrives m d h = shown.arrives w sound (who m).player (is-player m h) to (journey m) (goes m h) (labels m)
+  arrives m d h = shown.arrives w sound (who m).player (is-player m h) to (leg m) (goes m h) (labels m)
       (labelled m h) (get_or es m d) (party.listed.each m nowhere d h)
 
-  stays : (m : ℕ) (d : Account) → m < length es → (journey m).way ≡ None → (get_or es m d).walk ≡ None
-  stays m d h = shown.stays w sound (who m).player (is-player m h) to (journey m) (goes m h) (labels m) (labelled m h)
+  stays : (m : ℕ) (d : Account) → m < length es → (leg m).way ≡ None → (get_or es m d).walk ≡ None
+  stays m d h = shown.stays w sound (who m).player (is-player m h) to (leg m) (goes m h) (labels m) (labelled m h)
       (get_or es m d) (party.listed.each m nowhere d h)
 
   pub members : All (IsMember w Two) es
-  members m d h = shown.valid w sound (who m).player (is-player m h) to (journey m) (goes m h) (labels m) (labelled m h)
+  members m d h = shown.valid w sound (who m).player (is-player m h) to (leg m) (goes m h) (labels m) (labelled m h)
       (get_or es m d) (party.listed.each m nowhere d h)
 
-  -- the same of any journey of that place
-  goes-from : (m : ℕ) (j : Leg) → m < length es → IsJourney w to (who m).player (get_or js m j)
-  goes-from m j h = allzip-at (λ t j. IsJourney w to t.player j) ts js m nobody j party.go (within m h)
+  -- the same of any leg of that place
+  goes-from : (m : ℕ) (j : Leg) → m < length es → IsLeg w to (who m).player (get_or js m j)
+  goes-from m j h = allzip-at (λ t j. IsLeg w to t.player j) ts js m nobody j party.go (within m h)
 
   pub accounts : AllZip (IsAccountOf w) js es
   accounts = allzip-from (IsAccountOf w) js es party.listed.long (λ m j d h.
@@ -226,23 +226,23 @@ module _ (w : State) (sound : IsSound w) (to : Option ℕ) (ts : List Knowledge)
 
   -- where a label is, a way leads
   way-there : (m : ℕ) → m < length es → (r : ℕ) → to ≡ Some r → (l : Label) → labels m r ≡ Some l → (ss : List Step)
-      × (((journey m).way ≡ Some ss) × (cost_of ss ≡ l.cost))
+      × (((leg m).way ≡ Some ss) × (cost_of ss ≡ l.cost))
   way-there m h r there l e =
-      let P : Option ℕ → Type 0 = λ o. IsWayTo (roads_of w (who m).player) (journey m).from o (journey m).way in
-      go (journey m).way refl (subst P there (goes m h).way)
+      let P : Option ℕ → Type 0 = λ o. IsWayTo (roads_of w (who m).player) (leg m).from o (leg m).way in
+      go (leg m).way refl (subst P there (goes m h).way)
     where
-      least : IsLeast 1 (roads_of w (who m).player) (journey m).from r l
+      least : IsLeast 1 (roads_of w (who m).player) (leg m).from r l
       least =
-          let Q : Option Label → Type 0 = λ o. Least 1 (roads_of w (who m).player) (journey m).from r o in
+          let Q : Option Label → Type 0 = λ o. Least 1 (roads_of w (who m).player) (leg m).from r o in
           subst Q e (labelled m h r)
 
-      go : (way : Option (List Step)) → (journey m).way ≡ way → IsWay (roads_of w (who m).player) (journey m).from r way
-          → (ss : List Step) × (((journey m).way ≡ Some ss) × (cost_of ss ≡ l.cost))
+      go : (way : Option (List Step)) → (leg m).way ≡ way → IsWay (roads_of w (who m).player) (leg m).from r way
+          → (ss : List Step) × (((leg m).way ≡ Some ss) × (cost_of ss ≡ l.cost))
       go None f none = absurd (none least.walked.0 least.walked.1)
       go (Some ss) f route =
-          let best = (route_is_least (roads_of w (who m).player) (journey m).from r ss route).1 in
+          let best = (route_is_least (roads_of w (who m).player) (leg m).from r ss route).1 in
           let same : total 1 ss ≡ l = some-inj (total 1 ss) l
-          (least-one 1 (roads_of w (who m).player) (journey m).from r (Some (total 1 ss)) l best least) in
+          (least-one 1 (roads_of w (who m).player) (leg m).from r (Some (total 1 ss)) l best least) in
           (ss, (f, ap (λ (x : Label). x.cost) same))
 
   there-at : (m : ℕ) (d : Account) → m < length es → (r : ℕ) → to ≡ Some r → (l : Label) → labels m r ≡ Some l
@@ -257,7 +257,7 @@ module _ (w : State) (sound : IsSound w) (to : Option ℕ) (ts : List Knowledge)
       → IsPlace (HasLeast 1) (goers w ts) place → Agrees w Labels es (Meet place)
   concludes-meet some None there greatest none = (
     λ m d h.
-        let P : Option ℕ → Type 0 = λ o. IsWayTo (roads_of w (who m).player) (journey m).from o (journey m).way in
+        let P : Option ℕ → Type 0 = λ o. IsWayTo (roads_of w (who m).player) (leg m).from o (leg m).way in
         stays m d h (subst P there (goes m h).way),
     λ r c g. none r c (gathered-gathers r c some g),
   )
@@ -271,13 +271,13 @@ module _ (w : State) (sound : IsSound w) (to : Option ℕ) (ts : List Knowledge)
 
   -- the conclusion of a route, of one member
   pub concludes-route : length ts ≡ 1 → (r : ℕ) → to ≡ Some r → IsTrue (is_room w r)
-      → Agrees w Labels es (Route r (option_map cost_of (journey 0).way))
-  concludes-route alone r there room = go (journey 0).way refl
+      → Agrees w Labels es (Route r (option_map cost_of (leg 0).way))
+  concludes-route alone r there room = go (leg 0).way refl
     where
       only : (m : ℕ) → m < length es → m ≡ 0
       only m h = omega (arith, within m h, alone)
 
-      none-at : (m : ℕ) → m < length es → (journey m).way ≡ None → (o : Option Label)
+      none-at : (m : ℕ) → m < length es → (leg m).way ≡ None → (o : Option Label)
           → labels m r ≡ o → labels m r ≡ None
       none-at m h way None e = e
       none-at m h way (Some l) e =
@@ -285,17 +285,17 @@ module _ (w : State) (sound : IsSound w) (to : Option ℕ) (ts : List Knowledge)
           let bad : None ≡ Some own.0 = sym way ∙ own.1.0 in
           absurd (cc)
 
-      go : (way : Option (List Step)) → (journey 0).way ≡ way → Agrees w Labels es (Route r (option_map cost_of way))
+      go : (way : Option (List Step)) → (leg 0).way ≡ way → Agrees w Labels es (Route r (option_map cost_of way))
       go (Some ss) e =
-          let at : (m : ℕ) → m < length es → (journey m).way ≡ Some ss =
-          λ m h. ap (λ (i : ℕ). (journey i).way) (only m h) ∙ e in (
+          let at : (m : ℕ) → m < length es → (leg m).way ≡ Some ss =
+          λ m h. ap (λ (i : ℕ). (leg i).way) (only m h) ∙ e in (
             room,
             λ m d h. (ss, (arrives m d h r ss there (at m h)).0),
             λ m d h. (Some (total 1 ss), (arrives m d h r ss there (at m h)).1, refl),
           )
       go None e =
-          let at : (m : ℕ) → m < length es → (journey m).way ≡ None =
-          λ m h. ap (λ (i : ℕ). (journey i).way) (only m h) ∙ e in (
+          let at : (m : ℕ) → m < length es → (leg m).way ≡ None =
+          λ m h. ap (λ (i : ℕ). (leg i).way) (only m h) ∙ e in (
             room,
             λ m d h. stays m d h (at m h),
             λ m d h. (None, found m d h r ∙ none-at m h (at m h) (labels m r) refl, refl),

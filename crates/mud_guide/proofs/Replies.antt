@@ -10,7 +10,7 @@ use Rattle.mud_world.specs.Sound.{IsSound}
 use Rattle.mud_roads.specs.declared.label.Label.{Label}
 use Rattle.mud_roads.specs.declared.label.Step.{Step}
 use Rattle.mud_roads.specs.Walks.{total, IsLeast, HasLeast}
-use Rattle.mud_roads.specs.Open.{Knowledge, IsTraveller, roads_of}
+use Rattle.mud_roads.specs.Passable.{Knowledge, IsTraveller, roads_of}
 use Rattle.mud_roads.proofs.Roads.{room-below}
 use Rattle.mud_roads.proofs.Routes.{least-one}
 use Rattle.mud_cert.specs.declared.cert.Form.TheVariants.{Two}
@@ -24,7 +24,7 @@ use Rattle.mud_search.specs.Least.{AreLeast, AreBounded}
 use Rattle.mud_guide.specs.declared.answer.Answer.{Answer}
 use Rattle.mud_guide.specs.Ways.{cost_of}
 use Rattle.mud_guide.specs.inner.Members.{IsWay}
-use Rattle.mud_guide.specs.Legs.{Leg, IsJourney}
+use Rattle.mud_guide.specs.Legs.{Leg, IsLeg}
 use Rattle.mud_guide.specs.inner.Listings.{AreListed}
 use Rattle.mud_guide.specs.inner.Gatherings.{IsGreatest}
 use Rattle.mud_guide.specs.Texts.{route_text, meet_text}
@@ -32,7 +32,7 @@ use Rattle.mud_guide.specs.Answers.{IsCertOf, IsRouteAnswer, IsMeetAnswer}
 use Rattle.mud_guide.proofs.Lowest.{some-inj}
 use Rattle.mud_guide.proofs.Totals.{route_is_least}
 use Rattle.mud_guide.proofs.Gather.{goers}
-use Rattle.mud_guide.proofs.Party.{IsParty, goers-same, journeys-of, accounts, all-valid, concludes-meet}
+use Rattle.mud_guide.proofs.Party.{IsParty, goers-same, legs-of, accounts, all-valid, concludes-meet}
 use Rattle.mud_guide.proofs.Party.{concludes-route}
 
 -- what the certificate is made of
@@ -67,7 +67,7 @@ pub number-is : (w : State) → IsSound w → (room : ℕ) → IsTrue (is_room w
 number-is w sound room is = omega (arith, room-below w sound room is, sound.limit)
 
 pub cost-limits : (w : State) (t : Knowledge) (j : Leg) (room : ℕ) (labels : ℕ → ℕ → Option Label) → IsTraveller w t
-    → IsJourney w (Some room) t.player j
+    → IsLeg w (Some room) t.player j
     → AreLeast w (t ∷ []) labels → AreBounded labels → IfSome (option_map cost_of j.way) IsAmount
 cost-limits w t j room labels is goes least bounded = go j.way goes.way
   where
@@ -92,26 +92,46 @@ all-one P x p k d h =
     let Q : ℕ → Type 0 = λ i. P (get_or (x ∷ []) i d) in
     subst Q (sym same) p
 
+-- the least labels of a slice that has one traveller
+pub least_of_one : (w : State) (t : Knowledge) (ts : List Knowledge) (labels : ℕ → ℕ → Option Label) → ts ≡ t ∷ []
+    → AreLeast w ts labels → AreLeast w (t ∷ []) labels
+least_of_one w t ts labels is least =
+    let P : List Knowledge → Type 0 = λ us. AreLeast w us labels in
+    subst P is least
+
 -- distinct players are those of distinct travellers
-pub apart-from : (ts : List Knowledge) (ps : List ℕ) → map (λ t. t.player) ts ≡ ps → AllPairs (λ p q. p ≢ q) ps
+apart-from : (ts : List Knowledge) → AllPairs (λ p q. p ≢ q) (map (λ t. t.player) ts)
     → AllPairs (λ s t. s.player ≢ t.player) ts
-apart-from ts ps is apart i j d lt h same =
-    let P : List ℕ → Type 0 = λ xs. AllPairs (λ p q. p ≢ q) xs in
+apart-from ts apart i j d lt h same =
     let named : List ℕ = map (λ (t : Knowledge). t.player) ts in
-    let each : AllPairs (λ p q. p ≢ q) named = subst P (sym is) apart in
     let inside : j < length named = omega (arith, h, length-map ts (λ (t : Knowledge). t.player)) in
     let at : (k : ℕ) → k < length ts → get_or named k 0 ≡ (get_or ts k d).player =
     λ k lt. get_or-map (λ (t : Knowledge). t.player) ts k d 0 lt in
-    each i j 0 lt inside (at i (omega (arith, lt, h)) ∙ same ∙ sym (at j h))
+    apart i j 0 lt inside (at i (omega (arith, lt, h)) ∙ same ∙ sym (at j h))
 
-shown-some : (o : Option Certificate) (c : Certificate) (P : Certificate → Type 0) → o ≡ Some c → P c → IsSomeAnd o P
-shown-some o c P e p =
-    let Q : Option Certificate → Type 0 = λ x. IsSomeAnd x P in
-    subst Q (sym e) p
+-- what is made of a party's labels is its certificate, and a valid one
+certified : (w : State) → IsSound w → (v : ℕ) (to : Option ℕ) (ts : List Knowledge) (js : List Leg)
+    (labels : ℕ → ℕ → Option Label) (says : Conclusion) (c : Certificate) (o : Option Certificate)
+    → IsParty w to ts js labels c.members → IsMade w v labels js says c → Agrees w Labels c.members says → o ≡ Some c
+    → IsSomeAnd o (IsCertOf w v js says) × IsSomeAnd o (IsValid w)
+certified w sound v to ts js labels says c o party made agrees is =
+    let Q : Option Certificate → Type 0 = λ x. IsSomeAnd x (IsCertOf w v js says) × IsSomeAnd x (IsValid w) in
+    let C : Conclusion → Type 0 = λ x. Agrees w Labels c.members x in
+    let concludes : Agrees w Labels c.members c.conclusion = subst C (sym made.conclusion) agrees in
+    subst Q (sym is) (
+      record {
+        version = made.version;
+        form = made.form;
+        members = accounts w sound to ts js labels c.members party;
+        conclusion = made.conclusion;
+        limits = made.limits;
+      },
+      all-valid w sound to ts js labels c.members party c made.form refl concludes,
+    )
 
 pub route-answer : (w : State) → IsSound w → (v : ℕ) (t : Knowledge) (labels : ℕ → ℕ → Option Label) (room : ℕ)
     (j : Leg) (c : Certificate) (a : Answer)
-    → IsTraveller w t → AreLeast w (t ∷ []) labels → IsTrue (is_room w room) → IsJourney w (Some room) t.player j
+    → IsTraveller w t → AreLeast w (t ∷ []) labels → IsTrue (is_room w room) → IsLeg w (Some room) t.player j
     → IsMade w v labels (j ∷ []) (Route room (option_map cost_of j.way)) c
     → a.version ≡ v → string_bytes a.text ≡ route_text room j → a.cert ≡ Some c → IsRouteAnswer w v t.player room a
 route-answer w sound v t labels room j c a is least here goes made version text cert =
@@ -126,58 +146,38 @@ route-answer w sound v t labels room j c a is least here goes made version text 
       listed = made.members;
     } in
     let says : Conclusion = Route room (option_map cost_of j.way) in
-    let C : Conclusion → Type 0 = λ x. Agrees w Labels c.members x in
-    let concludes : Agrees w Labels c.members c.conclusion =
-    subst C (sym made.conclusion) (concludes-route w sound to ts js labels c.members party refl room refl here) in
+    let shown = certified w sound v to ts js labels says c a.cert party made
+    (concludes-route w sound to ts js labels c.members party refl room refl here) cert in
     record {
-      journey = j;
+      leg = j;
       goes = goes;
       version = version;
       text = text;
-      cert = shown-some a.cert c (IsCertOf w v js says) cert
-          (record {
-            version = made.version;
-            form = made.form;
-            members =
-                accounts w sound to ts js labels c.members party;
-            conclusion = made.conclusion;
-            limits = made.limits;
-          });
-      valid = shown-some a.cert c (IsValid w) cert
-          (all-valid w sound to ts js labels c.members party c made.form refl concludes);
+      cert = shown.0;
+      valid = shown.1;
     }
 
 pub meet-answer : (w : State) → IsSound w → (v : ℕ) (ts : List Knowledge) (labels : ℕ → ℕ → Option Label)
     (place : Option Meeting) (js : List Leg) (c : Certificate) (a : Answer)
-    → All (IsTraveller w) ts → AllPairs (λ s t. s.player ≢ t.player) ts → 0 < length ts → AreLeast w ts labels
+    → All (IsTraveller w) ts → AllPairs (λ p q. p ≢ q) (map (λ t. t.player) ts) → 0 < length ts → AreLeast w ts labels
     → IsPlace (HasLeast 1) (goers w ts) place → IfSome place (λ p. IsGreatest (λ m. labels m p.room) (length ts) p.cost)
-    → AllZip (λ t j. IsJourney w (option_map (λ p. p.room) place) t.player j) ts js
+    → AllZip (λ t j. IsLeg w (option_map (λ p. p.room) place) t.player j) ts js
     → IsMade w v labels js (Meet place) c
     → a.version ≡ v → string_bytes a.text ≡ meet_text place js → a.cert ≡ Some c
     → IsMeetAnswer w v (map (λ t. t.player) ts) a
 meet-answer w sound v ts labels place js c a are distinct some least is greatest go made version text cert =
     let to : Option ℕ = option_map (λ (p : Meeting). p.room) place in
     let party : IsParty w to ts js labels c.members =
-    record { are = are; distinct = distinct; go = go; least = least; listed = made.members } in
-    let C : Conclusion → Type 0 = λ x. Agrees w Labels c.members x in
-    let concludes : Agrees w Labels c.members c.conclusion = subst C (sym made.conclusion)
-    (concludes-meet w sound to ts js labels c.members party some place refl greatest is) in
+    record { are = are; distinct = apart-from ts distinct; go = go; least = least; listed = made.members } in
+    let shown = certified w sound v to ts js labels (Meet place) c a.cert party made
+    (concludes-meet w sound to ts js labels c.members party some place refl greatest is) cert in
     record {
       place = place;
-      journeys = js;
-      go = journeys-of w to ts js go;
+      legs = js;
+      go = legs-of w to ts js go;
       meet = subst (λ gs. IsPlace (HasLeast 1) gs place) (goers-same w to ts js are go) is;
       version = version;
       text = text;
-      cert = shown-some a.cert c (IsCertOf w v js (Meet place)) cert
-          (record {
-            version = made.version;
-            form = made.form;
-            members =
-                accounts w sound to ts js labels c.members party;
-            conclusion = made.conclusion;
-            limits = made.limits;
-          });
-      valid = shown-some a.cert c (IsValid w) cert
-          (all-valid w sound to ts js labels c.members party c made.form refl concludes);
+      cert = shown.0;
+      valid = shown.1;
     }

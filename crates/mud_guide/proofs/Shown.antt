@@ -13,18 +13,18 @@ use Rattle.mud_world.proofs.Records.{record_cases, in_bounds}
 use Rattle.mud_roads.specs.declared.label.Label.{Label}
 use Rattle.mud_roads.specs.declared.label.Step.{Step}
 use Rattle.mud_roads.specs.Walks.{Walk, total, IsLeast, Least, IsRoute}
-use Rattle.mud_roads.specs.Open.{roads_of}
+use Rattle.mud_roads.specs.Passable.{roads_of}
 use Rattle.mud_roads.proofs.Roads.{road-at, room-below, steps-rooms, player-place}
 use Rattle.mud_roads.proofs.Routes.{least-one, least_is_valid}
 use Rattle.mud_cert.specs.declared.cert.Form.TheVariants.{Two}
 use Rattle.mud_cert.specs.Certificate.{Account}
 use Rattle.mud_cert.specs.Lookup.{label_at}
-use Rattle.mud_cert.specs.Lookup as lookup
+use Rattle.mud_cert.specs.inner.Labels as lookup
 use Rattle.mud_cert.specs.Valid.{States, IsMember}
 use Rattle.mud_cert.proofs.Lookups.{label-found, label-missing}
 use Rattle.mud_guide.specs.inner.Arrivals.{Labelled}
 use Rattle.mud_guide.specs.Ways.{exits_of, IsWayTo}
-use Rattle.mud_guide.specs.Legs.{Leg, IsJourney}
+use Rattle.mud_guide.specs.Legs.{Leg, IsLeg}
 use Rattle.mud_guide.specs.Accounts.{AreLeastLabels, IsAccountOf}
 use Rattle.mud_guide.specs.inner.Listings.{IsInside, IsListed}
 use Rattle.mud_guide.proofs.Totals.{route_is_least}
@@ -61,10 +61,10 @@ walk-room w sound p from to [] is e = subst (λ (r : ℕ). IsTrue (is_room w r))
 walk-room w sound p from to (s ∷ ss) is (c, rest) =
     walk-room w sound p s.to to ss (steps-rooms w sound p from s c).1 rest
 
--- the numbers of a journey are those of objects
-pub journey-inside : (w : State) → IsSound w → (p : ℕ) → IsTrue (is_player w p) → (to : Option ℕ) (j : Leg)
-    → IsJourney w to p j → IsInside w.next j
-journey-inside w sound p player to j is = record {
+-- the numbers of a leg are those of objects
+pub leg-inside : (w : State) → IsSound w → (p : ℕ) → IsTrue (is_player w p) → (to : Option ℕ) (j : Leg)
+    → IsLeg w to p j → IsInside w.next j
+leg-inside w sound p player to j is = record {
   player = omega (arith, is.player, player-below w sound p player);
   from = room-below w sound j.from (player-place w sound p j.from player is.from);
   exits = go to j.way is.way;
@@ -79,7 +79,7 @@ journey-inside w sound p player to j is = record {
 
 -- ---- one member
 module _ (w : State) (sound : IsSound w) (p : ℕ) (player : IsTrue (is_player w p)) (to : Option ℕ)
-    (j : Leg) (goes : IsJourney w to p j)
+    (j : Leg) (goes : IsLeg w to p j)
     (labels : ℕ → Option Label) (least : Labelled (roads_of w p) j.from labels) (a : Account)
     (listed : IsListed labels w.next j a) where
   stands : IsTrue (is_room w j.from)

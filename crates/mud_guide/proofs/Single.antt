@@ -6,7 +6,7 @@ use Rattle.mud_world.specs.State.{State}
 use Rattle.mud_world.specs.Sound.{IsSound}
 use Rattle.mud_roads.specs.declared.label.Step.{Step}
 use Rattle.mud_roads.specs.Walks.{Roads, Goer, HasLeast}
-use Rattle.mud_roads.specs.Open.{roads_of}
+use Rattle.mud_roads.specs.Passable.{roads_of}
 use Rattle.mud_roads.proofs.Single.{route_is_one, meeting_is_one}
 use Rattle.mud_cert.specs.declared.cert.Form.{Form}
 use Rattle.mud_cert.specs.declared.cert.Meeting.{Meeting}
@@ -15,7 +15,7 @@ use Rattle.mud_cert.specs.declared.cert.Conclusion.TheVariants.{Route, Meet}
 use Rattle.mud_cert.specs.Certificate.{Account, Certificate}
 use Rattle.mud_guide.specs.Ways.{cost_of, IsWayTo}
 use Rattle.mud_guide.specs.inner.Members.{IsWay}
-use Rattle.mud_guide.specs.Legs.{Leg, IsJourney, goers_of}
+use Rattle.mud_guide.specs.Legs.{Leg, IsLeg, goers_of}
 use Rattle.mud_guide.specs.Accounts.{AreLeastLabels, IsAccountOf}
 use Rattle.mud_cert.specs.Valid.{IsPlace}
 use Rattle.mud_guide.specs.Texts.{route_text, meet_text}
@@ -26,7 +26,7 @@ use Rattle.mud_guide.proofs.Totals.{route_is_least}
 use Rattle.mud_guide.proofs.Rising.{Entry, AreAmong, rising-one}
 use Rattle.mud_guide.specs.declared.answer.Answer.{Answer}
 
--- ---- journeys
+-- ---- legs
 way-one : (w : State) → IsSound w → (p from to : ℕ) (a b : Option (List Step)) → IsWay (roads_of w p) from to a
     → IsWay (roads_of w p) from to b → a ≡ b
 way-one w sound p from to None None x y = refl
@@ -41,13 +41,13 @@ way_to-one w sound p from None a b x y = x ∙ sym y
 way_to-one w sound p from (Some to) a b x y = way-one w sound p from to a b x y
 
 -- who goes, and from where, whatever the rooms are to which they go
-same-start : (w : State) (to to' : Option ℕ) (p : ℕ) (i j : Leg) → IsJourney w to p i → IsJourney w to' p j
+same-start : (w : State) (to to' : Option ℕ) (p : ℕ) (i j : Leg) → IsLeg w to p i → IsLeg w to' p j
     → (i.player ≡ j.player) × (i.from ≡ j.from)
 same-start w to to' p i j x y = (x.player ∙ sym y.player, some-inj i.from j.from (sym x.from ∙ y.from))
 
-journey-one : (w : State) → IsSound w → (to : Option ℕ) (p : ℕ) (i j : Leg)
-    → IsJourney w to p i → IsJourney w to p j → i ≡ j
-journey-one w sound to p i j x y =
+leg-one : (w : State) → IsSound w → (to : Option ℕ) (p : ℕ) (i j : Leg)
+    → IsLeg w to p i → IsLeg w to p j → i ≡ j
+leg-one w sound to p i j x y =
     let same = same-start w to to p i j x y in
     let there : IsWayTo (roads_of w p) j.from to i.way =
     subst (λ (n : ℕ). IsWayTo (roads_of w p) n to i.way) same.1 x.way in
@@ -57,20 +57,20 @@ journey-one w sound to p i j x y =
     let three : Option (List Step) → Leg = λ o. record { player = j.player; from = j.from; way = o } in
     ap one same.0 ∙ ap two same.1 ∙ ap three way
 
-journeys-one : (w : State) → IsSound w → (to : Option ℕ) (party : List ℕ) (is js : List Leg)
-    → AllZip (IsJourney w to) party is
-    → AllZip (IsJourney w to) party js → is ≡ js
-journeys-one w sound to [] [] [] x y = refl
-journeys-one w sound to [] [] (j ∷ js) x y = absurd y
-journeys-one w sound to [] (i ∷ is) js x y = absurd x
-journeys-one w sound to (p ∷ ps) [] js x y = absurd x
-journeys-one w sound to (p ∷ ps) (i ∷ is) [] x y = absurd y
-journeys-one w sound to (p ∷ ps) (i ∷ is) (j ∷ js) x y =
-    ap (λ (k : Leg). k ∷ is) (journey-one w sound to p i j x.0 y.0) ∙ ap (λ (ks : List Leg). j ∷ ks)
-    (journeys-one w sound to ps is js x.1 y.1)
+legs-one : (w : State) → IsSound w → (to : Option ℕ) (party : List ℕ) (is js : List Leg)
+    → AllZip (IsLeg w to) party is
+    → AllZip (IsLeg w to) party js → is ≡ js
+legs-one w sound to [] [] [] x y = refl
+legs-one w sound to [] [] (j ∷ js) x y = absurd y
+legs-one w sound to [] (i ∷ is) js x y = absurd x
+legs-one w sound to (p ∷ ps) [] js x y = absurd x
+legs-one w sound to (p ∷ ps) (i ∷ is) [] x y = absurd y
+legs-one w sound to (p ∷ ps) (i ∷ is) (j ∷ js) x y =
+    ap (λ (k : Leg). k ∷ is) (leg-one w sound to p i j x.0 y.0) ∙ ap (λ (ks : List Leg). j ∷ ks)
+    (legs-one w sound to ps is js x.1 y.1)
 
-goers-one : (w : State) (to to' : Option ℕ) (party : List ℕ) (is js : List Leg) → AllZip (IsJourney w to) party is
-    → AllZip (IsJourney w to') party js
+goers-one : (w : State) (to to' : Option ℕ) (party : List ℕ) (is js : List Leg) → AllZip (IsLeg w to) party is
+    → AllZip (IsLeg w to') party js
     → goers_of w is ≡ goers_of w js
 goers-one w to to' [] [] [] x y = refl
 goers-one w to to' [] [] (j ∷ js) x y = absurd y
@@ -147,12 +147,12 @@ pub route_answer_is_one : (w : State) → IsSound w → (v p to : ℕ) (a b : An
     → IsRouteAnswer w v p to b
     → AreAlike a b
 route_answer_is_one w sound v p to a b x y =
-    let same : x.journey ≡ y.journey = journey-one w sound (Some to) p x.journey y.journey x.goes y.goes in
+    let same : x.leg ≡ y.leg = leg-one w sound (Some to) p x.leg y.leg x.goes y.goes in
     let C : Leg → Type 0 = λ j. IsSomeAnd a.cert (IsCertOf w v (j ∷ []) (Route to (option_map cost_of j.way))) in
-    let says : Conclusion = Route to (option_map cost_of y.journey.way) in (
+    let says : Conclusion = Route to (option_map cost_of y.leg.way) in (
       x.version ∙ sym y.version,
       x.text ∙ ap (route_text to) same ∙ sym y.text,
-      certs-one w v (y.journey ∷ []) says a.cert b.cert (subst C same x.cert) y.cert,
+      certs-one w v (y.leg ∷ []) says a.cert b.cert (subst C same x.cert) y.cert,
     )
 
 place-one : (party : List Goer) (a b : Option Meeting) → IsPlace (HasLeast 1) party a
@@ -170,17 +170,17 @@ pub meet_answer_is_one : (w : State) → IsSound w → (v : ℕ) (party : List �
     → IsMeetAnswer w v party a → IsMeetAnswer w v party b → AreAlike a b
 meet_answer_is_one w sound v party a b x y =
     let R : Option Meeting → Option ℕ = λ o. option_map (λ m. m.room) o in
-    let goers : goers_of w x.journeys ≡ goers_of w y.journeys =
-    goers-one w (R x.place) (R y.place) party x.journeys y.journeys x.go y.go in
-    let here : IsPlace (HasLeast 1) (goers_of w y.journeys) x.place =
+    let goers : goers_of w x.legs ≡ goers_of w y.legs =
+    goers-one w (R x.place) (R y.place) party x.legs y.legs x.go y.go in
+    let here : IsPlace (HasLeast 1) (goers_of w y.legs) x.place =
     subst (λ (gs : List Goer). IsPlace (HasLeast 1) gs x.place) goers x.meet in
-    let place : x.place ≡ y.place = place-one (goers_of w y.journeys) x.place y.place here y.meet in
-    let go : AllZip (IsJourney w (R y.place)) party x.journeys =
-    subst (λ (o : Option Meeting). AllZip (IsJourney w (R o)) party x.journeys) place x.go in
-    let same : x.journeys ≡ y.journeys = journeys-one w sound (R y.place) party x.journeys y.journeys go y.go in
-    let C : Option Meeting → Type 0 = λ o. IsSomeAnd a.cert (IsCertOf w v x.journeys (Meet o)) in
+    let place : x.place ≡ y.place = place-one (goers_of w y.legs) x.place y.place here y.meet in
+    let go : AllZip (IsLeg w (R y.place)) party x.legs =
+    subst (λ (o : Option Meeting). AllZip (IsLeg w (R o)) party x.legs) place x.go in
+    let same : x.legs ≡ y.legs = legs-one w sound (R y.place) party x.legs y.legs go y.go in
+    let C : Option Meeting → Type 0 = λ o. IsSomeAnd a.cert (IsCertOf w v x.legs (Meet o)) in
     let D : List Leg → Type 0 = λ js. IsSomeAnd a.cert (IsCertOf w v js (Meet y.place)) in (
       x.version ∙ sym y.version,
-      x.text ∙ ap (λ (o : Option Meeting). meet_text o x.journeys) place ∙ ap (meet_text y.place) same ∙ sym y.text,
-      certs-one w v y.journeys (Meet y.place) a.cert b.cert (subst D same (subst C place x.cert)) y.cert,
+      x.text ∙ ap (λ (o : Option Meeting). meet_text o x.legs) place ∙ ap (meet_text y.place) same ∙ sym y.text,
+      certs-one w v y.legs (Meet y.place) a.cert b.cert (subst D same (subst C place x.cert)) y.cert,
     )

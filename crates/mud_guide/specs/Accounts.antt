@@ -4,7 +4,7 @@ use Rattle.std.specs.Option.{option_map}
 use Rattle.mud_world.specs.State.{State}
 use Rattle.mud_roads.specs.declared.label.Label.{Label}
 use Rattle.mud_roads.specs.Walks.{Roads, IsLeast}
-use Rattle.mud_roads.specs.Open.{roads_of}
+use Rattle.mud_roads.specs.Passable.{roads_of}
 use Rattle.mud_cert.specs.Certificate.{Account}
 use Rattle.mud_guide.specs.Legs.{Leg}
 use Rattle.mud_guide.specs.Ways.{exits_of}
@@ -14,13 +14,13 @@ pub record AreLeastLabels (roads : Roads) (from : ℕ) (entries : List (ℕ × L
   pub rising : AllPairs (λ d e. d.0 < e.0) entries
   pub least : (room : ℕ) (l : Label) → Contains entries (room, l) ↔ IsLeast 1 roads from room l
 
--- who goes on the journey, from where, and the exits of his way
+-- whose leg it is, from where, and the exits of his way
 pub record IsMemberFor (j : Leg) (a : Account) : Type 0 where
   pub player : a.player ≡ j.player
   pub from : a.from ≡ j.from
   pub walk : a.walk ≡ option_map exits_of j.way
 
--- he who goes on the journey, with his least labels
+-- he whose leg it is, with his least labels
 pub record IsAccountOf (w : State) (j : Leg) (a : Account) : Type 0 where
   pub goes : IsMemberFor j a
   pub labels : AreLeastLabels (roads_of w j.player) j.from a.labels

@@ -12,11 +12,11 @@ use Rattle.mud_cert.specs.declared.cert.Conclusion.{Conclusion}
 use Rattle.mud_cert.specs.declared.cert.Conclusion.TheVariants.{Route, Meet}
 use Rattle.mud_guide.specs.declared.answer.Answer.{Answer}
 use Rattle.mud_guide.specs.Ways.{cost_of}
-use Rattle.mud_guide.specs.Legs.{Leg, IsJourney, goers_of}
+use Rattle.mud_guide.specs.Legs.{Leg, IsLeg, goers_of}
 use Rattle.mud_guide.specs.Accounts.{IsAccountOf}
 use Rattle.mud_guide.specs.Texts.{route_text, meet_text}
 
--- the certificate of these journeys: in form two, with an account of each and this conclusion, within the limits
+-- the certificate of these legs: in form two, with an account of each and this conclusion, within the limits
 pub record IsCertOf (w : State) (v : ℕ) (js : List Leg) (says : Conclusion) (c : Certificate) : Type 0 where
   pub version : c.version ≡ v
   pub form : c.form ≡ Two
@@ -24,22 +24,22 @@ pub record IsCertOf (w : State) (v : ℕ) (js : List Leg) (says : Conclusion) (c
   pub conclusion : c.conclusion ≡ says
   pub limits : IsCertificate c
 
--- the text tells the player's journey to the room, and a valid certificate shows it to be best
+-- the text tells the player's leg to the room, and a valid certificate shows it to be best
 pub record IsRouteAnswer (w : State) (v p to : ℕ) (a : Answer) : Type 0 where
-  pub journey : Leg
-  pub goes : IsJourney w (Some to) p journey
+  pub leg : Leg
+  pub goes : IsLeg w (Some to) p leg
   pub version : a.version ≡ v
-  pub text : string_bytes a.text ≡ route_text to journey
-  pub cert : IsSomeAnd a.cert (IsCertOf w v (journey ∷ []) (Route to (option_map cost_of journey.way)))
+  pub text : string_bytes a.text ≡ route_text to leg
+  pub cert : IsSomeAnd a.cert (IsCertOf w v (leg ∷ []) (Route to (option_map cost_of leg.way)))
   pub valid : IsSomeAnd a.cert (IsValid w)
 
--- the text tells where the party meets and each member's journey there, and a valid certificate shows it to be best
+-- the text tells where the party meets and each member's leg there, and a valid certificate shows it to be best
 pub record IsMeetAnswer (w : State) (v : ℕ) (party : List ℕ) (a : Answer) : Type 0 where
   pub place : Option Meeting
-  pub journeys : List Leg
-  pub go : AllZip (IsJourney w (option_map (λ m. m.room) place)) party journeys
-  pub meet : IsPlace (HasLeast 1) (goers_of w journeys) place
+  pub legs : List Leg
+  pub go : AllZip (IsLeg w (option_map (λ m. m.room) place)) party legs
+  pub meet : IsPlace (HasLeast 1) (goers_of w legs) place
   pub version : a.version ≡ v
-  pub text : string_bytes a.text ≡ meet_text place journeys
-  pub cert : IsSomeAnd a.cert (IsCertOf w v journeys (Meet place))
+  pub text : string_bytes a.text ≡ meet_text place legs
+  pub cert : IsSomeAnd a.cert (IsCertOf w v legs (Meet place))
   pub valid : IsSomeAnd a.cert (IsValid w)

@@ -20,12 +20,12 @@ route_text to j = codes "route " ++ (object j.from ++ (codes " to " ++ (object t
 
 -- ` at #0 cost 3` and a line for each member, `  #1 from #0 cost 3 by #5`; or ` no meeting`
 abbrev pub place_text : Option Meeting → List Leg → List ℕ
-place_text None journeys = codes " no meeting"
-place_text (Some p) journeys =
+place_text None legs = codes " no meeting"
+place_text (Some p) legs =
     codes " at " ++ (object p.room ++ (codes " cost " ++ (decimal p.cost ++ flat_map (λ j.
-    LF ∷ codes "  " ++ object j.player ++ codes " from " ++ object j.from ++ way_text j.way) journeys)))
+    LF ∷ codes "  " ++ object j.player ++ codes " from " ++ object j.from ++ way_text j.way) legs)))
 
 -- `meet #1 #2 at #0 cost 3` and the lines of the members, or `meet #1 #2 no meeting`
 abbrev pub meet_text : Option Meeting → List Leg → List ℕ
-meet_text place journeys =
-    codes "meet" ++ (flat_map (λ j. codes " " ++ object j.player) journeys ++ place_text place journeys)
+meet_text place legs =
+    codes "meet" ++ (flat_map (λ j. codes " " ++ object j.player) legs ++ place_text place legs)

@@ -2,4 +2,4 @@ pub mod Arrivals
 pub mod Gatherings
 pub mod Listings
 pub mod Members
-pub mod Parts
+pub mod Travellers

@@ -36,44 +36,44 @@ fn walk_of(alloc: Global, way: &Option<Way>) -> Result<Option<Vec<u32>>, AllocEr
     }
 }
 
-// What is claimed of the one who goes on the journey.
+// What is claimed of the one whose leg it is.
 fn account_of(
     alloc: Global,
     next: u32,
-    journey: &Leg,
+    leg: &Leg,
     labels: &Labels,
     member: usize,
 ) -> Result<Member, AllocError>
     requires few { next ≤ NUMBERS }
-    requires inside { IsInside next journey.now }
+    requires inside { IsInside next leg.now }
     requires bounded { AreBounded (label_in labels.now) }
-    ensures account { IfOk result (IsListed (label_in labels.now member) next journey.now) }
+    ensures account { IfOk result (IsListed (label_in labels.now member) next leg.now) }
     ensures limits { IfOk result IsAccount }
 {
     let entries = labels.below(alloc, member, next)?;
-    let walk = walk_of(alloc, &journey.way)?;
-    Ok(Member::new(journey.player, journey.from, entries, walk))
+    let walk = walk_of(alloc, &leg.way)?;
+    Ok(Member::new(leg.player, leg.from, entries, walk))
 }
 
-/// What is claimed of all who go on the journeys. They are the members from a number on.
+/// What is claimed of all whose legs these are. They are the members from a number on.
 pub(crate) fn accounts_of(
     alloc: Global,
     next: u32,
-    journeys: &[Leg],
+    legs: &[Leg],
     labels: &Labels,
     first: usize,
 ) -> Result<Vec<Member>, AllocError>
     requires few { next ≤ NUMBERS }
-    requires members { first + length journeys.now ≤ MOST_PARTY }
-    requires inside { All (IsInside next) journeys.now }
+    requires members { first + length legs.now ≤ MOST_PARTY }
+    requires inside { All (IsInside next) legs.now }
     requires bounded { AreBounded (label_in labels.now) }
     ensures accounts { IfOk result (λ ms.
-        AreListed (λ m. label_in labels.now (first + m)) next journeys.now ms.items) }
+        AreListed (λ m. label_in labels.now (first + m)) next legs.now ms.items) }
     ensures limits { IfOk result (λ ms. All IsAccount ms.items) }
 {
-    let mut accounts = Vec::with_capacity(alloc, journeys.len())?;
-    for member in 0..journeys.len() {
-        accounts.push(account_of(alloc, next, &journeys[member], labels, first + member)?)?;
+    let mut accounts = Vec::with_capacity(alloc, legs.len())?;
+    for member in 0..legs.len() {
+        accounts.push(account_of(alloc, next, &legs[member], labels, first + member)?)?;
     }
     Ok(accounts)
 }

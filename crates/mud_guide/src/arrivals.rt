@@ -1,7 +1,7 @@
 //! The last step of a route.
 
 ghost use Rattle.std.specs.Prelude.{◌≡◌};
-ghost use Rattle.mud_roads.specs.Open.{IsTraveller, roads_of};
+ghost use Rattle.mud_roads.specs.Passable.{IsTraveller, roads_of};
 ghost use Rattle.mud_search.specs.Least.{label_in};
 ghost use Rattle.mud_guide.specs.inner.Arrivals.{IsLast, IsBy, ends};
 

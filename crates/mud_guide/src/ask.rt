@@ -4,7 +4,7 @@ ghost use Rattle.std.specs.Prelude.{◌≡◌, ◌≢◌, ◌≤◌, [], ◌∷�
 ghost use Rattle.std.specs.Option.{option_map};
 ghost use Rattle.mud_world.specs.State.{is_player, is_room};
 ghost use Rattle.mud_world.specs.declared.limits.TheConstants.{MOST_ENTRIES};
-ghost use Rattle.mud_roads.specs.Open.{IsTraveller};
+ghost use Rattle.mud_roads.specs.Passable.{IsTraveller};
 ghost use Rattle.mud_cert.specs.Certificate.{IsAccount, IsCertificate, IsConclusion};
 ghost use Rattle.mud_cert.specs.declared.cert.Form.TheVariants.{Two};
 ghost use Rattle.mud_search.specs.Least.{label_in, AreLeast, AreBounded};
@@ -14,7 +14,7 @@ ghost use Rattle.mud_world.specs.declared.limits.TheConstants.{MOST_PARTY};
 
 use crate::accounts::accounts_of;
 use crate::answer::Answer;
-use crate::leg::journey_to;
+use crate::leg::leg_to;
 use crate::lister::{Alone, Lister};
 use crate::meeting::meeting_place;
 use crate::texts::{meet_text, route_text};
@@ -79,13 +79,13 @@ pub(crate) fn route_from(
     ensures { IfOk result (IsRouteAnswer world.now version traveller.now.player room) }
 {
     let next = world.next_number();
-    let journey = journey_to(alloc, world, traveller, labels, 0, Some(room))?;
-    let text = route_text(alloc, room, &journey)?;
+    let leg = leg_to(alloc, world, traveller, labels, 0, Some(room))?;
+    let text = route_text(alloc, room, &leg)?;
     let conclusion = Conclusion::Route {
         to: room,
-        cost: cost_of(&journey.way),
+        cost: cost_of(&leg.way),
     };
-    let accounts = accounts_of(alloc, next, slice::from_ref(&journey), labels, 0)?;
+    let accounts = accounts_of(alloc, next, slice::from_ref(&leg), labels, 0)?;
     let cert = certificate(version, accounts, conclusion);
     Ok(Answer {
         version,
@@ -150,7 +150,7 @@ pub(crate) fn meet_from<L: Lister>(
 ) -> Result<Answer, AllocError>
     requires ready { L.ready lister.now }
     requires travellers { All (IsTraveller world.now) party.now }
-    requires distinct { AllPairs (λ s t. s.player ≢ t.player) party.now }
+    requires distinct { AllPairs (λ p q. p ≢ q) (map (λ t. t.player) party.now) }
     requires two { 2 ≤ length party.now }
     requires few { length party.now ≤ MOST_PARTY }
     requires version { version ≤ MOST_ENTRIES }
@@ -160,7 +160,7 @@ pub(crate) fn meet_from<L: Lister>(
 {
     let place = meeting_place(world, party, labels);
     let listing = lister.list(alloc, world, party, labels, room_of(place))?;
-    let text = meet_text(alloc, place, listing.journeys.as_slice())?;
+    let text = meet_text(alloc, place, listing.legs.as_slice())?;
     let cert = certificate(version, listing.accounts, Conclusion::Meet(place));
     Ok(Answer {
         version,

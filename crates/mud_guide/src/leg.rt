@@ -2,11 +2,11 @@
 
 ghost use Rattle.std.specs.Prelude.{IfOk};
 ghost use Rattle.std.specs.List.{AllZip};
-ghost use Rattle.mud_roads.specs.Open.{IsTraveller, roads_of};
+ghost use Rattle.mud_roads.specs.Passable.{IsTraveller, roads_of};
 ghost use Rattle.mud_search.specs.Least.{label_in};
 ghost use Rattle.mud_guide.specs.inner.Arrivals.{Labelled};
-ghost use Rattle.mud_guide.specs.Legs.{IsJourney};
-ghost use Rattle.mud_guide.specs.inner.Parts.{AreMembers};
+ghost use Rattle.mud_guide.specs.Legs.{IsLeg};
+ghost use Rattle.mud_guide.specs.inner.Travellers.{AreMembers};
 
 use crate::routing::way_to;
 use crate::way::Way;
@@ -32,8 +32,8 @@ impl Model for Leg {
     ghost view = { λ j. record { player = j.player; from = j.from; way = j.way } };
 }
 
-/// The journey of a member to a room, if there is one to go to.
-pub(crate) fn journey_to(
+/// The leg of a member to a room, if there is one to go to.
+pub(crate) fn leg_to(
     alloc: Global,
     world: &World,
     traveller: &Traveller,
@@ -44,7 +44,7 @@ pub(crate) fn journey_to(
     requires traveller { IsTraveller world.now traveller.now }
     requires least { Labelled (roads_of world.now traveller.now.player) traveller.now.place
         (label_in labels.now member) }
-    ensures { IfOk result (IsJourney world.now to traveller.now.player) }
+    ensures { IfOk result (IsLeg world.now to traveller.now.player) }
 {
     let way = match to {
         Some(room) => way_to(alloc, world, traveller, labels, member, room)?,
@@ -57,9 +57,9 @@ pub(crate) fn journey_to(
     })
 }
 
-/// The journeys of all members to a room, if there is one to go to. The members are those from a
+/// The legs of all members to a room, if there is one to go to. The members are those from a
 /// number on.
-pub(crate) fn journeys_to(
+pub(crate) fn legs_to(
     alloc: Global,
     world: &World,
     travellers: &[Traveller],
@@ -68,12 +68,12 @@ pub(crate) fn journeys_to(
     to: Option<u32>,
 ) -> Result<Vec<Leg>, AllocError>
     requires members { AreMembers world.now (label_in labels.now) first travellers.now }
-    ensures { IfOk result (λ js. AllZip (λ t j. IsJourney world.now to t.player j) travellers.now js.items) }
+    ensures { IfOk result (λ js. AllZip (λ t j. IsLeg world.now to t.player j) travellers.now js.items) }
 {
-    let mut journeys = Vec::with_capacity(alloc, travellers.len())?;
+    let mut legs = Vec::with_capacity(alloc, travellers.len())?;
     for member in 0..travellers.len() {
         let traveller = &travellers[member];
-        journeys.push(journey_to(alloc, world, traveller, labels, first + member, to)?)?;
+        legs.push(leg_to(alloc, world, traveller, labels, first + member, to)?)?;
     }
-    Ok(journeys)
+    Ok(legs)
 }

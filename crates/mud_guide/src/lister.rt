@@ -1,13 +1,13 @@
-//! Who lists the journeys of a party, and what a certificate claims of its members.
+//! Who lists the legs of a party, and what a certificate claims of its members.
 
 ghost use Rattle.std.specs.Prelude.{⊤, IfOk};
 ghost use Rattle.std.specs.Thread.{IsSync};
 ghost use Rattle.mud_search.specs.Least.{label_in, AreBounded};
-ghost use Rattle.mud_guide.specs.inner.Parts.{AreMembers};
+ghost use Rattle.mud_guide.specs.inner.Travellers.{AreMembers};
 ghost use Rattle.mud_guide.specs.inner.Listings.{IsListing};
 
 use crate::accounts::accounts_of;
-use crate::leg::{Leg, journeys_to};
+use crate::leg::{Leg, legs_to};
 use mud_cert::Member;
 use mud_roads::Traveller;
 use mud_search::{Labels, last_share};
@@ -18,7 +18,7 @@ use std::thread::{Threads, join};
 /// How the members of a party go, and what is claimed of each.
 #[derive(Drop)]
 pub(crate) struct Listing {
-    pub(crate) journeys: Vec<Leg>,
+    pub(crate) legs: Vec<Leg>,
     pub(crate) accounts: Vec<Member>,
 }
 
@@ -94,9 +94,9 @@ fn listing_of(
     ensures { IfOk result (IsListing world.now (label_in labels.now) first to party.now) }
 {
     let next = world.next_number();
-    let journeys = journeys_to(alloc, world, party, labels, first, to)?;
-    let accounts = accounts_of(alloc, next, journeys.as_slice(), labels, first)?;
-    Ok(Listing { journeys, accounts })
+    let legs = legs_to(alloc, world, party, labels, first, to)?;
+    let accounts = accounts_of(alloc, next, legs.as_slice(), labels, first)?;
+    Ok(Listing { legs, accounts })
 }
 
 // The listing of members from a number on: of the last of them apart, by the last workers, as long as
@@ -142,7 +142,7 @@ fn listing_with<R: Threads + Sync>(
     );
     let mut listing = listing?;
     let mut others = others?;
-    listing.journeys.append(&mut others.journeys)?;
+    listing.legs.append(&mut others.legs)?;
     listing.accounts.append(&mut others.accounts)?;
     Ok(listing)
 }

@@ -4,7 +4,8 @@ ghost use Rattle.std.specs.Prelude.{◌≡◌, ◌<◌, ℕ, All, IfSome, IfNone
 ghost use Rattle.mud_world.specs.State.{is_room};
 ghost use Rattle.mud_world.specs.Sound.{IsSound};
 ghost use Rattle.mud_roads.specs.Walks.{HasLeast};
-ghost use Rattle.mud_roads.specs.Open.{IsTraveller, goer};
+ghost use Rattle.mud_roads.specs.Passable.{IsTraveller};
+ghost use Rattle.mud_roads.specs.inner.Goer.{goer};
 ghost use Rattle.mud_cert.specs.Valid.{IsPlace};
 ghost use Rattle.mud_search.specs.Least.{label_in, AreLeast};
 ghost use Rattle.mud_guide.specs.inner.Gatherings.{IsGreatest, IsBest, NoneGather, lesser};

@@ -2,7 +2,7 @@
 
 ghost use Rattle.std.specs.Prelude.{IfOk, IsSome};
 ghost use Rattle.mud_roads.specs.Walks.{IsRoute};
-ghost use Rattle.mud_roads.specs.Open.{IsTraveller, roads_of};
+ghost use Rattle.mud_roads.specs.Passable.{IsTraveller, roads_of};
 ghost use Rattle.mud_search.specs.Least.{label_in};
 ghost use Rattle.mud_guide.specs.inner.Arrivals.{Labelled};
 ghost use Rattle.mud_guide.specs.inner.Members.{IsWay};

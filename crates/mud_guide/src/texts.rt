@@ -75,42 +75,42 @@ fn push_way(alloc: Global, text: &mut String, way: &Option<Way>) -> Result<(), A
 
 /// What the guide says of a route to a room: `route #0 to #2 cost 7 by #5 #6`, or `route #0 to #2
 /// no way`.
-pub(crate) fn route_text(alloc: Global, to: u32, journey: &Leg) -> Result<String, AllocError>
-    ensures { IfOk result (λ text. string_bytes text ≡ route_text to journey.now) }
+pub(crate) fn route_text(alloc: Global, to: u32, leg: &Leg) -> Result<String, AllocError>
+    ensures { IfOk result (λ text. string_bytes text ≡ route_text to leg.now) }
 {
     let mut text = String::new(alloc);
-    push_object(alloc, &mut text, "route ", journey.from)?;
+    push_object(alloc, &mut text, "route ", leg.from)?;
     push_object(alloc, &mut text, " to ", to)?;
-    push_way(alloc, &mut text, &journey.way)?;
+    push_way(alloc, &mut text, &leg.way)?;
     Ok(text)
 }
 
 // Writes the players of a party.
-fn push_players(alloc: Global, text: &mut String, journeys: &[Leg]) -> Result<(), AllocError>
+fn push_players(alloc: Global, text: &mut String, legs: &[Leg]) -> Result<(), AllocError>
     ensures { OnOk result (string_bytes text.new ≡ string_bytes text.old
-        ++ flat_map (λ j. codes " " ++ object j.player) journeys.now) }
+        ++ flat_map (λ j. codes " " ++ object j.player) legs.now) }
 {
-    for journey in journeys {
-        push_object(alloc, text, " ", journey.player)?;
+    for leg in legs {
+        push_object(alloc, text, " ", leg.player)?;
     }
     Ok(())
 }
 
 // Writes the line of a member.
-fn push_member(alloc: Global, text: &mut String, journey: &Leg) -> Result<(), AllocError>
-    ensures { OnOk result (string_bytes text.new ≡ string_bytes text.old ++ member_text journey.now) }
+fn push_member(alloc: Global, text: &mut String, leg: &Leg) -> Result<(), AllocError>
+    ensures { OnOk result (string_bytes text.new ≡ string_bytes text.old ++ member_text leg.now) }
 {
-    push_object(alloc, text, "\n  ", journey.player)?;
-    push_object(alloc, text, " from ", journey.from)?;
-    push_way(alloc, text, &journey.way)
+    push_object(alloc, text, "\n  ", leg.player)?;
+    push_object(alloc, text, " from ", leg.from)?;
+    push_way(alloc, text, &leg.way)
 }
 
 // Writes a line for each member.
-fn push_members(alloc: Global, text: &mut String, journeys: &[Leg]) -> Result<(), AllocError>
-    ensures { OnOk result (string_bytes text.new ≡ string_bytes text.old ++ flat_map member_text journeys.now) }
+fn push_members(alloc: Global, text: &mut String, legs: &[Leg]) -> Result<(), AllocError>
+    ensures { OnOk result (string_bytes text.new ≡ string_bytes text.old ++ flat_map member_text legs.now) }
 {
-    for journey in journeys {
-        push_member(alloc, text, journey)?;
+    for leg in legs {
+        push_member(alloc, text, leg)?;
     }
     Ok(())
 }
@@ -120,15 +120,15 @@ fn push_place(
     alloc: Global,
     text: &mut String,
     place: Meeting,
-    journeys: &[Leg],
+    legs: &[Leg],
 ) -> Result<(), AllocError>
-    ensures { OnOk result (string_bytes text.new ≡ string_bytes text.old ++ place_text (Some place) journeys.now) }
+    ensures { OnOk result (string_bytes text.new ≡ string_bytes text.old ++ place_text (Some place) legs.now) }
 {
     let cost = place.cost;
     let number = format!(in alloc; " cost {cost}")?;
     push_object(alloc, text, " at ", place.room)?;
     text.push_str(number.as_str())?;
-    push_members(alloc, text, journeys)
+    push_members(alloc, text, legs)
 }
 
 /// What the guide says of a meeting: `meet #1 #6 at #0 cost 3` and a line for each member, or `meet
@@ -136,14 +136,14 @@ fn push_place(
 pub(crate) fn meet_text(
     alloc: Global,
     place: Option<Meeting>,
-    journeys: &[Leg],
+    legs: &[Leg],
 ) -> Result<String, AllocError>
-    ensures { IfOk result (λ text. string_bytes text ≡ meet_text place journeys.now) }
+    ensures { IfOk result (λ text. string_bytes text ≡ meet_text place legs.now) }
 {
     let mut text = String::from_str(alloc, "meet")?;
-    push_players(alloc, &mut text, journeys)?;
+    push_players(alloc, &mut text, legs)?;
     match place {
-        Some(place) => push_place(alloc, &mut text, place, journeys)?,
+        Some(place) => push_place(alloc, &mut text, place, legs)?,
         None => text.push_str(" no meeting")?,
     }
     Ok(text)

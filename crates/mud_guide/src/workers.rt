@@ -4,9 +4,9 @@ ghost use Rattle.std.specs.Prelude.{◌≢◌, ◌≤◌, All, AllPairs, IfOk, I
 ghost use Rattle.std.specs.Thread.{IsSync};
 ghost use Rattle.mud_world.specs.State.{is_player, is_room};
 ghost use Rattle.mud_world.specs.declared.limits.TheConstants.{MOST_ENTRIES};
-ghost use Rattle.mud_roads.specs.Open.{IsTraveller};
+ghost use Rattle.mud_roads.specs.Passable.{IsTraveller};
 ghost use Rattle.mud_guide.specs.Answers.{IsRouteAnswer, IsMeetAnswer};
-ghost use Rattle.mud_guide.specs.inner.Parts.{AreTravellers};
+ghost use Rattle.mud_guide.specs.inner.Travellers.{AreTravellers};
 ghost use Rattle.mud_world.specs.declared.limits.TheConstants.{MOST_PARTY};
 
 use crate::answer::Answer;

@@ -7,8 +7,8 @@ use Rattle.std.proofs.lemmas.Option.{none-some, slice_get-get_or}
 use Rattle.std.specs.Prelude.{All, ◌==◌, nat_lt, if◌then◌else◌}
 use Rattle.mud_chron.specs.Entry.{Entry}
 use Rattle.mud_hall.specs.Desk.{View}
-use Rattle.mud_hall.specs.Settling.{versions_by, first_apart}
-use Rattle.mud_hall.specs.inner.Checking.{lesser_of, IsLeast, Differs}
+use Rattle.mud_hall.specs.Settlement.{versions_by, first_apart}
+use Rattle.mud_hall.specs.inner.CheckFaults.{lesser_of, IsLeast, Differs}
 use Rattle.mud_hall.proofs.Least.{least_same, least_either, least_self, any_at, any_later, any_last, any_cases}
 
 -- ---- one desk

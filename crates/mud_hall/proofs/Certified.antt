@@ -19,7 +19,7 @@ use Rattle.mud_cert.specs.Valid.{IsValid, Optimal}
 use Rattle.mud_cert.specs.Laws.{ValidIsOptimal}
 use Rattle.mud_verdict.specs.Finding.{IsHistory, without_returns}
 use Rattle.mud_verdict.specs.Laws.{DropsNothing}
-use Rattle.mud_hall.specs.Told.{world_after}
+use Rattle.mud_hall.specs.Notices.{world_after}
 use Rattle.mud_hall.specs.Steps.{AreLoadable}
 use Rattle.mud_hall.specs.Right.{IsAcceptedWith, IsCertified}
 use Rattle.mud_hall.proofs.Worlds.{world-sound}

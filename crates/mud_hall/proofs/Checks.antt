@@ -13,8 +13,8 @@ use Rattle.mud_chron.specs.Entry.{Entry}
 use Rattle.mud_hall.specs.declared.fault.CloseFault.{CloseFault}
 use Rattle.mud_hall.specs.declared.fault.CloseFault.TheVariants.{OutOfMemory, SameNumber, Missing, Mismatch}
 use Rattle.mud_hall.specs.Desk.{View}
-use Rattle.mud_hall.specs.Settling.{entries_made, HasNumber, AreApart, HaveSameNumber, IsGathered, IsCloseFault}
-use Rattle.mud_hall.specs.inner.Checking.{lesser_of, IsLeast, IsUnnamed, IsCheckFault}
+use Rattle.mud_hall.specs.Settlement.{entries_made, HasNumber, AreApart, HaveSameNumber, IsGathered, IsCloseFault}
+use Rattle.mud_hall.specs.inner.CheckFaults.{lesser_of, IsLeast, IsUnnamed, IsCheckFault}
 use Rattle.mud_hall.proofs.Least.{least_same, least_either, lesser_none, front, last, at_or_last}
 use Rattle.mud_hall.proofs.Least.{any_later, any_last}
 use Rattle.mud_hall.proofs.Lists.{all_weaken}

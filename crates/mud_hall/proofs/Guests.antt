@@ -7,7 +7,7 @@ use Rattle.mud_rules.specs.declared.verdict.Query.TheVariants as query
 use Rattle.mud_rules.specs.declared.verdict.Verdict.TheVariants as verdict
 use Rattle.mud_rules.specs.Table.{decision}
 use Rattle.mud_rules.proofs.Guests.{guest-asks}
-use Rattle.mud_hall.specs.Answers.{CanAsk}
+use Rattle.mud_hall.specs.inner.Answers.{CanAsk}
 
 -- a question about a journey has a player
 pub can-ask : (w : State) (player : Option ℕ) (l : Line) (q : Query) → decision w player l ≡ verdict.Ask q

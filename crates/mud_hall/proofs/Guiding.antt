@@ -19,7 +19,7 @@ use Rattle.mud_guide.specs.Ways.{cost_of}
 use Rattle.mud_guide.specs.declared.answer.Answer.{Answer}
 use Rattle.mud_guide.specs.Answers.{IsCertOf}
 use Rattle.mud_guide.specs.Laws.{RouteIsLeast}
-use Rattle.mud_hall.specs.Told.{world_after}
+use Rattle.mud_hall.specs.Notices.{world_after}
 use Rattle.mud_hall.specs.Desk.{DeskState}
 use Rattle.mud_hall.specs.Replies.{verdict_on}
 use Rattle.mud_hall.specs.Answers.{Answered, IsGuided, Shows, Answers}
@@ -55,14 +55,14 @@ record IsTold (w : State) (v p : ℕ) (j : Journey) (g : Answer) : Type 0 where
 
 told : Known → (w : State) (v p : ℕ) (j : Journey) (g : Answer) → IsGuided w v (Some p) j g → IsTold w v p j g
 told known w v p (Route to) g x =
-    let P : Certificate → Type 0 = IsCertOf w v (x.journey ∷ []) (says.Route to (option_map cost_of x.journey.way)) in
+    let P : Certificate → Type 0 = IsCertOf w v (x.leg ∷ []) (says.Route to (option_map cost_of x.leg.way)) in
     record {
       version = x.version;
       told = route-told known.routes w v p to g x;
       good = good-cert w v P (λ c i. (i.limits, i.version)) g.cert x.cert x.valid;
     }
 told known w v p (Meet party) g x =
-    let P : Certificate → Type 0 = IsCertOf w v x.journeys (says.Meet x.place) in
+    let P : Certificate → Type 0 = IsCertOf w v x.legs (says.Meet x.place) in
     record {
       version = x.version;
       told = meeting-told known.routes known.alike w v party g x;

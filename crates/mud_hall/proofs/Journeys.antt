@@ -7,7 +7,7 @@ use Rattle.std.proofs.lemmas.List.Sums.{sum_by-cons}
 use Rattle.mud_world.specs.State.{State}
 use Rattle.mud_roads.specs.declared.label.Step.{Step}
 use Rattle.mud_roads.specs.Walks.{total, Goer, HasLeast}
-use Rattle.mud_roads.specs.Open.{roads_of}
+use Rattle.mud_roads.specs.Passable.{roads_of}
 use Rattle.mud_roads.specs.Laws.{MeetingIsAlike}
 use Rattle.mud_cert.specs.Certificate.{Account, Certificate}
 use Rattle.mud_cert.specs.declared.cert.Conclusion.{Conclusion}
@@ -15,7 +15,7 @@ use Rattle.mud_cert.specs.declared.cert.Conclusion.TheVariants.{Route, Meet}
 use Rattle.mud_cert.specs.declared.cert.Meeting.{Meeting}
 use Rattle.mud_guide.specs.declared.answer.Answer.{Answer}
 use Rattle.mud_guide.specs.Accounts.{IsAccountOf, IsMemberFor}
-use Rattle.mud_guide.specs.Legs.{Leg, IsJourney, goers_of}
+use Rattle.mud_guide.specs.Legs.{Leg, IsLeg, goers_of}
 use Rattle.mud_cert.specs.Valid.{IsPlace}
 use Rattle.mud_guide.specs.Ways.{cost_of, IsWayTo}
 use Rattle.mud_guide.specs.Answers.{IsCertOf, IsRouteAnswer, IsMeetAnswer}
@@ -41,12 +41,12 @@ best-way routes w p from (Some to) (Some ss) route =
           omega (arith, fewer, ones ss, ones ts);
     }
 
-goes-best : RouteIsLeast → (w : State) (to : Option ℕ) (p : ℕ) (j : Leg) → IsJourney w to p j → GoesBest w to p j
+goes-best : RouteIsLeast → (w : State) (to : Option ℕ) (p : ℕ) (j : Leg) → IsLeg w to p j → GoesBest w to p j
 goes-best routes w to p j goes =
     record { who = goes.player; place = goes.from; way = best-way routes w p j.from to j.way goes.way }
 
 all-go-best : RouteIsLeast → (w : State) (to : Option ℕ) (party : List ℕ) (js : List Leg)
-    → AllZip (IsJourney w to) party js → AllZip (GoesBest w to) party js
+    → AllZip (IsLeg w to) party js → AllZip (GoesBest w to) party js
 all-go-best routes w to [] [] z = tt
 all-go-best routes w to [] (j ∷ js) z = absurd z
 all-go-best routes w to (p ∷ ps) [] z = absurd z
@@ -71,10 +71,10 @@ certifies-some w v js says (Some c) is =
 pub route-told : RouteIsLeast → (w : State) (v p to : ℕ) (g : Answer) → IsRouteAnswer w v p to g
     → TellsRoute w p to (string_bytes g.text) g.cert
 route-told routes w v p to g x = record {
-  journey = x.journey;
-  goes = goes-best routes w (Some to) p x.journey x.goes;
+  leg = x.leg;
+  goes = goes-best routes w (Some to) p x.leg x.goes;
   text_is = x.text;
-  certified = certifies-some w v (x.journey ∷ []) (Route to (option_map cost_of x.journey.way)) g.cert x.cert;
+  certified = certifies-some w v (x.leg ∷ []) (Route to (option_map cost_of x.leg.way)) g.cert x.cert;
 }
 
 -- ---- meetings
@@ -88,9 +88,9 @@ pub meeting-told : RouteIsLeast → MeetingIsAlike → (w : State) (v : ℕ) (pa
     → IsMeetAnswer w v party g → TellsMeeting w party (string_bytes g.text) g.cert
 meeting-told routes alike w v party g x = record {
   place = x.place;
-  journeys = x.journeys;
-  go = all-go-best routes w (option_map (λ m. m.room) x.place) party x.journeys x.go;
-  best = best-place alike (goers_of w x.journeys) x.place x.meet;
+  legs = x.legs;
+  go = all-go-best routes w (option_map (λ m. m.room) x.place) party x.legs x.go;
+  best = best-place alike (goers_of w x.legs) x.place x.meet;
   text_is = x.text;
-  certified = certifies-some w v x.journeys (Meet x.place) g.cert x.cert;
+  certified = certifies-some w v x.legs (Meet x.place) g.cert x.cert;
 }

@@ -15,7 +15,7 @@ use Rattle.mud_chron.specs.Entry.{Entry, IsEntry}
 use Rattle.mud_chron.specs.Replay.{changes_of, AreLegalFrom, AreLegal}
 use Rattle.mud_chron.proofs.Spellable.{legal_is_spellable}
 use Rattle.mud_words.specs.Parse.{parse_of}
-use Rattle.mud_hall.specs.Told.{world_after}
+use Rattle.mud_hall.specs.Notices.{world_after}
 use Rattle.mud_hall.specs.Desk.{DeskState}
 use Rattle.mud_hall.specs.Replies.{Reply, Accepted, Became, Refused, Question, Failed}
 use Rattle.mud_hall.specs.Replies.{Replies, verdict_on}

@@ -4,7 +4,7 @@ use Rattle.std.proofs.Common.{length, Option, Some, None, slice_get, refl, sym, 
 use Rattle.std.proofs.lemmas.Bool.Decides.{nat_tests}
 use Rattle.std.proofs.lemmas.Option.{none-some, same_Some, slice_get_within, slice_get-get_or, get_or_from_slice_get}
 use Rattle.std.specs.Prelude.{Any, nat_lt, if◌then◌else◌}
-use Rattle.mud_hall.specs.inner.Checking.{lesser_of, IsLeast}
+use Rattle.mud_hall.specs.inner.CheckFaults.{lesser_of, IsLeast}
 
 -- ---- the least number of a kind
 

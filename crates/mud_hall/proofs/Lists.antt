@@ -1,14 +1,14 @@
 -- Facts about each of the first elements of a list, and the versions of one desk's entries.
 use Rattle.std.proofs.Common.{◌≡◌, ℕ, zero, suc, ◌+◌, ◌<◌, List, [], ◌∷◌, ◌++◌, length, take, drop, get_or}
 use Rattle.std.proofs.Common.{Some, slice_get}
-use Rattle.std.proofs.Common.{set, refl, sym, ap, ◌∙◌, subst, arith, add-one, append_assoc, length-drop}
+use Rattle.std.proofs.Common.{sym, ap, ◌∙◌, subst, arith, add-one, append_assoc, length-drop}
 use Rattle.std.proofs.lemmas.List.{append-nil, get_or-drop}
 use Rattle.std.proofs.lemmas.Option.{slice_get_within, slice_get-get_or, get_or_from_slice_get}
 use Rattle.std.proofs.Math.Seq.{take-suc}
 use Rattle.std.proofs.lemmas.List.Elements.{All-append}
 use Rattle.std.specs.Prelude.{All, ◌==◌, if◌then◌else◌}
 use Rattle.mud_chron.specs.Entry.{Entry}
-use Rattle.mud_hall.specs.Settling.{versions_by}
+use Rattle.mud_hall.specs.Settlement.{versions_by}
 
 pub take_snoc : {X : Type 0} (xs : List X) (i : ℕ) (d x : X) → i < length xs → x ≡ get_or xs i d
     → take (i + 1) xs ≡ take i xs ++ x ∷ []
@@ -27,11 +27,6 @@ all_snoc {X} P xs i d x all lt at p =
 
 pub all_weaken : {X : Type 0} (P Q : X → Type 0) (xs : List X) → ((x : X) → P x → Q x) → All P xs → All Q xs
 all_weaken P Q xs f all k d lt = f (get_or xs k d) (all k d lt)
-
-pub set_same : {X : Type 0} (xs : List X) (i : ℕ) (x y : X) → x ≡ get_or xs i x → y ≡ x → set xs i y ≡ xs
-set_same [] i x y at same = refl
-set_same (z ∷ xs) zero x y at same = cc
-set_same (z ∷ xs) (suc i) x y at same = ap (λ r. z ∷ r) (set_same xs i x y at same)
 
 pub versions-snoc : (n v : ℕ) (es : List Entry) (e : Entry)
     → versions_by n v (es ++ e ∷ []) ≡ versions_by n v es ++ (if e.desk == n then (v + length es) ∷ [] else [])

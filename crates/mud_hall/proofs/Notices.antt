@@ -8,7 +8,7 @@ use Rattle.std.specs.Prelude.{MatchBool}
 use Rattle.mud_world.specs.State.{State}
 use Rattle.mud_chron.specs.Entry.{Entry}
 use Rattle.mud_row.specs.Known.{Standing}
-use Rattle.mud_hall.specs.Told.{world_after, notice, notices}
+use Rattle.mud_hall.specs.Notices.{world_after, notice, notices}
 use Rattle.mud_hall.specs.inner.Desks.{notice_in, took_in, state_of}
 use Rattle.mud_hall.specs.Desk.{DeskState, TakesIn}
 

@@ -13,7 +13,7 @@ use Rattle.mud_words.specs.Words.{words}
 use Rattle.mud_words.specs.Prepositions.{phrase_at, preposition_of}
 use Rattle.mud_words.specs.Parse.{parse_of}
 use Rattle.mud_key.specs.declared.limits.TheConstants.{LAST_NUMBER}
-use Rattle.mud_key.specs.Reading.{names_in, name_in}
+use Rattle.mud_key.specs.Finds.{names_in, name_in}
 use Rattle.mud_world.specs.State.{State, is_player, is_room, place_of}
 use Rattle.mud_world.specs.Legal.{refusal}
 use Rattle.mud_world.specs.declared.change.Deed.TheVariants.{Player}
@@ -21,7 +21,7 @@ use Rattle.mud_roads.specs.declared.label.Label.{Label}
 use Rattle.mud_roads.specs.declared.label.Step.{Step}
 use Rattle.mud_roads.specs.Walks.{Roads, Walk, IsLeast, Goer, HasLeast, total}
 use Rattle.mud_roads.specs.Labels.{start_label}
-use Rattle.mud_roads.specs.Open.{roads_of}
+use Rattle.mud_roads.specs.Passable.{roads_of}
 use Rattle.mud_rules.specs.Table.{verb_named, decision}
 use Rattle.mud_rules.specs.Outcome.{outcome}
 use Rattle.mud_rules.specs.Journeys.{meeting}
@@ -39,10 +39,10 @@ use Rattle.mud_cert.specs.Lookup.{label_at}
 use Rattle.mud_cert.specs.Valid.{States, IsMember, GoesTo, IsValid}
 use Rattle.mud_cert.proofs.Finds.{contains-nil}
 use Rattle.mud_guide.specs.declared.answer.Answer.{Answer}
-use Rattle.mud_guide.specs.Legs.{Leg, IsJourney}
+use Rattle.mud_guide.specs.Legs.{Leg, IsLeg}
 use Rattle.mud_guide.specs.Accounts.{IsAccountOf}
 use Rattle.mud_guide.specs.Answers.{IsRouteAnswer, IsMeetAnswer}
-use Rattle.mud_hall.specs.Told.{world_after}
+use Rattle.mud_hall.specs.Notices.{world_after}
 use Rattle.mud_hall.specs.Desk.{DeskState, new_desk, as_player, as_accepted, HandsOut, with_told}
 use Rattle.mud_hall.specs.inner.Desks.{took_in}
 use Rattle.mud_hall.specs.Replies.{Accepted, Became, verdict_on, Comes, Acts}
@@ -85,7 +85,7 @@ two P a b p q = All-cons P a (b ∷ []) p (All-cons P b [] q (All-nil P))
 abbrev Apart : Account → Account → Type 0
 Apart a b = a.player ≢ b.player
 
-goes : (w : State) (p : ℕ) → IsStill w p → IsJourney w (Some 0) p (journey p)
+goes : (w : State) (p : ℕ) → IsStill w p → IsLeg w (Some 0) p (journey p)
 goes w p still = record { player = refl; from = still.place; way = refl }
 
 least : (w : State) (p : ℕ) → IsStill w p → IsLeast 1 (roads_of w p) 0 0 start_label
@@ -189,7 +189,7 @@ route-answer heap = record {
 route-is : (heap : Global) → IsRouteAnswer (world_after []) 0 1 0 (route-answer heap)
 unfolding digits
 route-is heap = record {
-  journey = journey 1;
+  leg = journey 1;
   goes = goes (world_after []) 1 in-hall;
   version = refl;
   text = refl;
@@ -274,7 +274,7 @@ meet-is heap =
     let w = world_after (ann ∷ []) in
     record {
       place = met;
-      journeys = journey 1 ∷ journey 2 ∷ [];
+      legs = journey 1 ∷ journey 2 ∷ [];
       go = (goes w 1 first-there, (goes w 2 second-there, tt));
       meet = record {
         gathers = record {

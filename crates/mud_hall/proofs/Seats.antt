@@ -8,32 +8,20 @@ use Rattle.mud_world.specs.State.{State, is_player}
 use Rattle.mud_world.specs.Sound.{IsSound}
 use Rattle.mud_world.specs.Legal.{refusal}
 use Rattle.mud_world.specs.History.{world_from, world_of}
-use Rattle.mud_world.specs.inner.Parts.{step_or_same}
+use Rattle.mud_world.specs.inner.Fields.{step_or_same}
 use Rattle.mud_world.specs.Opening.{opening_state}
 use Rattle.mud_world.specs.declared.change.Change.{Change}
 use Rattle.mud_world.specs.declared.refusal.Refusal.{Refusal}
-use Rattle.mud_world.proofs.Begun.{opening-sound}
-use Rattle.mud_world.proofs.Sounding.{soundness_law}
+use Rattle.mud_world.proofs.Worlds.{step-sound}
 use Rattle.mud_world.proofs.Players.{players_stay}
 use Rattle.mud_chron.specs.Entry.{Entry}
-use Rattle.mud_roads.specs.Open.{Knowledge, IsTraveller}
+use Rattle.mud_roads.specs.Passable.{Knowledge, IsTraveller}
 use Rattle.mud_chron.specs.Replay.{changes_of, world_at}
-use Rattle.mud_hall.specs.Told.{world_after}
+use Rattle.mud_hall.specs.Notices.{world_after}
 use Rattle.mud_row.specs.Known.{Standing}
 use Rattle.mud_hall.specs.Desk.{IsHeld}
 use Rattle.mud_hall.specs.inner.Desks.{IsSeated}
-
-step-sound : (w : State) (e : Change) (o : Option Refusal) → refusal w e ≡ o → IsSound w → IsSound (step_or_same w e)
-step-sound w e None is sound = rw is (soundness_law w e sound is)
-step-sound w e (Some f) is sound = rw is sound
-
-from-sound : (w : State) (es : List Change) → IsSound w → IsSound (world_from w es)
-from-sound w [] sound = sound
-from-sound w (e ∷ es) sound = from-sound (step_or_same w e) es (step-sound w e (refusal w e) refl sound)
-
--- the world after a history is sound
-pub world-sound : (h : List Entry) → IsSound (world_after h)
-world-sound h = from-sound opening_state (changes_of h) opening-sound
+use Rattle.mud_hall.proofs.Worlds.{world-sound}
 
 step-stays : (w : State) (e : Change) (p : ℕ) (o : Option Refusal) → refusal w e ≡ o → IsSound w
     → IsTrue (is_player w p) → IsTrue (is_player (step_or_same w e) p)

@@ -7,7 +7,8 @@ use Rattle.mud_rules.specs.declared.verdict.Query.TheVariants as query
 use Rattle.mud_rules.specs.declared.verdict.Verdict.TheVariants.{Ask}
 use Rattle.mud_guide.specs.declared.answer.Answer.{Answer}
 use Rattle.mud_hall.specs.inner.Desks.{IsResponse}
-use Rattle.mud_hall.specs.Answers.{answer_shown, IsGuided, IsProven, IsShown}
+use Rattle.mud_hall.specs.Answers.{answer_shown, IsGuided, IsShown}
+use Rattle.mud_hall.specs.inner.Answers.{IsProven}
 
 pub guided : (w : State) (v : ℕ) (player : Option ℕ) (q : Query) (j : Journey) (a : Answer) → q ≡ query.Journey j
     → a.version ≡ v → IsGuided w v player j a → IsResponse w v player (Ask q) (Some a)

@@ -13,17 +13,18 @@ use Rattle.mud_world.specs.declared.change.Deed.TheVariants.{Dig, Make, Lock, Un
 use Rattle.mud_world.specs.declared.change.Deed.TheVariants.{Cost, Player, Rename, Recycle, Say, Emote}
 use Rattle.mud_world.proofs.Histories.{world_of-legal}
 use Rattle.mud_world.proofs.Players.{players_stay, new_players_are_players}
-use Rattle.mud_rules.specs.Outcome.{IsActor}
-use Rattle.mud_roads.specs.Open.{Knowledge}
+use Rattle.mud_rules.specs.inner.Outcome.{IsActor}
+use Rattle.mud_roads.specs.Passable.{Knowledge}
 use Rattle.mud_chron.specs.Entry.{Entry}
 use Rattle.mud_chron.specs.Replay.{changes_of}
 use Rattle.std.proofs.lemmas.List.{map_push}
 use Rattle.mud_chron.specs.Replay.{world_at}
 use Rattle.mud_row.specs.Known.{Standing}
-use Rattle.mud_hall.specs.Told.{world_after}
+use Rattle.mud_hall.specs.Notices.{world_after}
 use Rattle.mud_hall.specs.inner.Desks.{IsSeated}
 use Rattle.mud_hall.specs.Desk.{IsHeld}
-use Rattle.mud_hall.proofs.Seats.{world-sound, known-on}
+use Rattle.mud_hall.proofs.Seats.{known-on}
+use Rattle.mud_hall.proofs.Worlds.{world-sound}
 
 -- a replica that has taken all in stands in the world of all
 pub all_in : (list : List Entry) (at : ℕ) → at ≡ length list → world_at list at ≡ world_after list

@@ -5,7 +5,7 @@ use Rattle.mud_world.proofs.Worlds.{worlds_law}
 use Rattle.mud_roads.proofs.Walking.{walks_law}
 use Rattle.mud_chron.specs.Entry.{Entry}
 use Rattle.mud_chron.specs.Replay.{changes_of}
-use Rattle.mud_hall.specs.Told.{world_after}
+use Rattle.mud_hall.specs.Notices.{world_after}
 use Rattle.mud_hall.specs.Laws.{WalksGo}
 
 -- the world after a history is sound

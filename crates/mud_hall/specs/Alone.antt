@@ -1,12 +1,12 @@
 -- A desk that nobody else uses.
 use Rattle.std.specs.Prelude.{◌≡◌, ◌≤◌, ℕ, List, length, Option, IfSome, IsTrue}
 use Rattle.mud_world.specs.State.{State, is_player}
-use Rattle.mud_roads.specs.Open.{Knowledge, IsTraveller}
+use Rattle.mud_roads.specs.Passable.{Knowledge, IsTraveller}
 use Rattle.mud_world.specs.declared.limits.TheConstants.{MOST_ENTRIES}
 use Rattle.mud_chron.specs.Entry.{Entry}
-use Rattle.mud_hall.specs.Told.{world_after}
+use Rattle.mud_hall.specs.Notices.{world_after}
 use Rattle.mud_hall.specs.Desk.{DeskState, new_desk, as_player}
-use Rattle.mud_hall.specs.Settling.{versions_by}
+use Rattle.mud_hall.specs.Settlement.{versions_by}
 
 -- how many entries the history can have, and the desk's state
 pub record Alone : Type 0 where

@@ -1,6 +1,6 @@
 -- What a line that asks is answered.
 use Rattle.std.specs.Prelude.{◌≡◌, ℕ, List, ◌++◌, length, codes, string_bytes, Option, Some, None}
-use Rattle.std.specs.Option.{IsSome, IsSomeAnd}
+use Rattle.std.specs.Option.{IsSomeAnd}
 use Rattle.mud_words.specs.Line.{Line}
 use Rattle.mud_world.specs.State.{State}
 use Rattle.mud_world.specs.declared.refusal.Refusal.TheVariants.{NotUnderstood}
@@ -18,7 +18,7 @@ use Rattle.mud_cert.specs.Certificate.{Certificate}
 use Rattle.mud_cert.specs.Text.{cert_text}
 use Rattle.mud_guide.specs.declared.answer.Answer.{Answer}
 use Rattle.mud_guide.specs.Answers.{IsRouteAnswer, IsMeetAnswer}
-use Rattle.mud_hall.specs.Told.{world_after}
+use Rattle.mud_hall.specs.Notices.{world_after}
 use Rattle.mud_hall.specs.Desk.{DeskState}
 use Rattle.mud_hall.specs.Replies.{verdict_on}
 use Rattle.mud_chron.specs.declared.format.Format.TheVariants.{Two}
@@ -43,10 +43,6 @@ IsGuided w v (Some p) (Meet party) g = IsMeetAnswer w v party g
 abbrev pub IsProof : Option Certificate → Answered → Type 0
 IsProof cert a = IsSomeAnd cert (λ c. a.text ++ codes "\n" ≡ codes "proof\n" ++ cert_text c) × (a.cert ≡ cert)
 
--- the answer is the text of the certificate of the guide's answer
-abbrev pub IsProven : State → ℕ → Option ℕ → Journey → Answer → Type 0
-IsProven w v player journey a = (g : Answer) × IsGuided w v player journey g × IsProof g.cert (answer_shown a)
-
 -- the answer to a question; the last line of a history has no end either
 abbrev pub IsShown : List Entry → Option ℕ → Query → Answered → Type 0
 IsShown h player (query.View view) a = (a.text ≡ show_text (world_after h) player view) × (a.cert ≡ None)
@@ -66,10 +62,3 @@ Shows h player other a = (a.text ≡ refusal_text NotUnderstood) × (a.cert ≡ 
 pub record Answers (s : DeskState) (line : Line) (a : Answered) : Type 0 where
   pub version : a.version ≡ length s.seen
   pub shows : Shows s.seen s.player (verdict_on s.seen s.player line) a
-
--- a guest asks for no journey. Only private clauses cite it.
-abbrev pub CanAsk : Option ℕ → Query → Type 0
-CanAsk player (query.View view) = Unit {0}
-CanAsk player (query.Journey journey) = IsSome player
-CanAsk player (query.Proof journey) = IsSome player
-CanAsk player query.History = Unit {0}

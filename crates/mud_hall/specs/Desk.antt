@@ -5,12 +5,12 @@ use mathlib.Core.List.{IsPrefix}
 use Rattle.mud_world.specs.State.{is_player}
 use Rattle.mud_world.specs.Legal.{is_arrival}
 use Rattle.mud_world.specs.declared.change.Change.{Change}
-use Rattle.mud_roads.specs.Open.{Knowledge, IsTraveller}
+use Rattle.mud_roads.specs.Passable.{Knowledge, IsTraveller}
 use Rattle.mud_chron.specs.declared.limits.TheConstants.{MOST_DESKS}
 use Rattle.mud_chron.specs.Entry.{Entry}
 use Rattle.mud_chron.specs.Replay.{world_at}
 use Rattle.mud_row.specs.Known.{Known, Standing}
-use Rattle.mud_hall.specs.Told.{world_after, notices}
+use Rattle.mud_hall.specs.Notices.{world_after, notices}
 
 -- a desk: its number, its player or none, the entries that it has seen, the versions of its calls, and what it was told
 pub record DeskState : Type 0 where
@@ -73,8 +73,8 @@ pub record View : Type 0 where
   pub at : ℕ
 
 -- what it is not told yet: the notices of the entries that its world has not taken in
-abbrev pub untold : View → List (List ℕ)
-untold v = notices v.state.player (take v.at v.state.seen) (drop v.at v.state.seen)
+abbrev pub pending : View → List (List ℕ)
+pending v = notices v.state.player (take v.at v.state.seen) (drop v.at v.state.seen)
 
 -- what is true of every desk of this hall. A reader need not look into this: contracts only hand it on
 pub record IsHeld (cells : List ℕ) (loaded : List Entry) (number : ℕ) (player : Option ℕ) (t : Option Knowledge)

@@ -4,13 +4,13 @@ use mathlib.Core.List.{IsPrefix}
 use Rattle.mud_world.specs.State.{State, is_player, place_of}
 use Rattle.mud_roads.specs.declared.label.Step.{Step}
 use Rattle.mud_roads.specs.Walks.{Walk}
-use Rattle.mud_roads.specs.Open.{roads_of}
+use Rattle.mud_roads.specs.Passable.{roads_of}
 use Rattle.mud_roads.specs.Laws.{IsWalked}
 use Rattle.mud_rules.specs.declared.verdict.Query.TheVariants as query
 use Rattle.mud_rules.specs.declared.verdict.Verdict.{Verdict}
 use Rattle.mud_rules.specs.declared.verdict.Verdict.TheVariants as verdict
 use Rattle.mud_chron.specs.Entry.{Entry}
-use Rattle.mud_hall.specs.Told.{world_after}
+use Rattle.mud_hall.specs.Notices.{world_after}
 use Rattle.mud_hall.specs.Answers.{Answered}
 use Rattle.mud_hall.specs.Steps.{Hall, AreLoadable, Begins, HallStep, IsRun}
 use Rattle.mud_hall.specs.Right.{TellsJourney, IsCertified}

@@ -1,10 +1,10 @@
-pub mod Told
+pub mod Notices
 pub mod Desk
 pub mod Replies
 pub mod Answers
-pub mod Opening
+pub mod NewHall
 pub mod Alone
-pub mod Settling
+pub mod Settlement
 pub mod Steps
 pub mod Right
 pub mod Laws

@@ -6,7 +6,7 @@ use mathlib.Core.List.{IsPrefix}
 use Rattle.mud_world.specs.State.{State, place_of}
 use Rattle.mud_roads.specs.declared.label.Step.{Step}
 use Rattle.mud_roads.specs.Walks.{Walk, NoWalk, HasLeast}
-use Rattle.mud_roads.specs.Open.{roads_of}
+use Rattle.mud_roads.specs.Passable.{roads_of}
 use Rattle.mud_rules.specs.declared.verdict.Journey.{Journey}
 use Rattle.mud_rules.specs.declared.verdict.Journey.TheVariants as question
 use Rattle.mud_world.specs.declared.limits.TheConstants.{MOST_ENTRIES}
@@ -47,25 +47,25 @@ pub record GoesBest (w : State) (to : Option ℕ) (p : ℕ) (j : Leg) : Type 0 w
   pub way : IsBestWay w p j.from to j.way
 
 -- the certificate is of those who go so, and concludes this
-pub record Certifies (journeys : List Leg) (says : Conclusion) (c : Certificate) : Type 0 where
-  pub members : AllZip IsMemberFor journeys c.members
+pub record Certifies (legs : List Leg) (says : Conclusion) (c : Certificate) : Type 0 where
+  pub members : AllZip IsMemberFor legs c.members
   pub conclusion : c.conclusion ≡ says
 
 -- the text tells a best way of p to the room, and the certificate is of that way
 pub record TellsRoute (w : State) (p to : ℕ) (text : List ℕ) (cert : Option Certificate) : Type 0 where
-  pub journey : Leg
-  pub goes : GoesBest w (Some to) p journey
-  pub text_is : text ≡ route_text to journey
-  pub certified : IsSomeAnd cert (Certifies (journey ∷ []) (Route to (option_map cost_of journey.way)))
+  pub leg : Leg
+  pub goes : GoesBest w (Some to) p leg
+  pub text_is : text ≡ route_text to leg
+  pub certified : IsSomeAnd cert (Certifies (leg ∷ []) (Route to (option_map cost_of leg.way)))
 
 -- the text tells the best meeting room by costs, or that there is none, and each best way; the certificate is of those
 pub record TellsMeeting (w : State) (party : List ℕ) (text : List ℕ) (cert : Option Certificate) : Type 0 where
   pub place : Option Meeting
-  pub journeys : List Leg
-  pub go : AllZip (GoesBest w (option_map (λ m. m.room) place)) party journeys
-  pub best : IsPlace (HasLeast 0) (goers_of w journeys) place
-  pub text_is : text ≡ meet_text place journeys
-  pub certified : IsSomeAnd cert (Certifies journeys (Meet place))
+  pub legs : List Leg
+  pub go : AllZip (GoesBest w (option_map (λ m. m.room) place)) party legs
+  pub best : IsPlace (HasLeast 0) (goers_of w legs) place
+  pub text_is : text ≡ meet_text place legs
+  pub certified : IsSomeAnd cert (Certifies legs (Meet place))
 
 -- the journey that p asked for is told as it is, and the certificate is of what is told
 abbrev pub TellsJourney : State → ℕ → Journey → List ℕ → Option Certificate → Type 0

@@ -1,2 +1,3 @@
-pub mod Checking
+pub mod CheckFaults
 pub mod Desks
+pub mod Answers

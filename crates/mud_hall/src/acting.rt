@@ -5,8 +5,8 @@ ghost use Rattle.std.specs.Prelude.{length, Some, IfOk, IfErr, OnOk, Err, string
 ghost use Rattle.mud_words.specs.Line.{line_of};
 ghost use Rattle.mud_rules.specs.Outcome.{IsLawful};
 ghost use Rattle.mud_rules.specs.Replies.{reply_text};
-ghost use Rattle.mud_hall.specs.Told.{world_after};
-ghost use Rattle.mud_hall.specs.Desk.{as_player, as_accepted, untold};
+ghost use Rattle.mud_hall.specs.Notices.{world_after};
+ghost use Rattle.mud_hall.specs.Desk.{as_player, as_accepted, pending};
 ghost use Rattle.mud_hall.specs.Replies.{Failed, reply_shown, Acts, Comes, Stores, verdict_on};
 
 use crate::desk::Desk;
@@ -25,7 +25,7 @@ impl<J: HallName> Desk<J> {
     pub(crate) fn act(&mut self, alloc: Global, row: &Row, said: &Parsed) -> Result<Reply, Fault>
         requires { row.now ≡ J.cells }
         ensures acts { Acts (length row.now) self.old.state (line_of said.now) (reply_shown result) self.new.state }
-        ensures told { reply_shown result ≢ Failed Fault.OutOfMemory → untold self.new ≡ [] }
+        ensures told { reply_shown result ≢ Failed Fault.OutOfMemory → pending self.new ≡ [] }
     {
         self.take_in(alloc, row)?;
         self.reply(alloc, row, said)
@@ -38,7 +38,7 @@ impl<J: HallName> Desk<J> {
         ensures comes { Comes (length row.now) self.old.state
             (verdict_on self.old.state.seen self.old.state.player (line_of said.now)) (reply_shown result)
             self.new.state }
-        ensures told { reply_shown result ≢ Failed Fault.OutOfMemory → untold self.new ≡ [] }
+        ensures told { reply_shown result ≢ Failed Fault.OutOfMemory → pending self.new ≡ [] }
     {
         match self.verdict(alloc, said)? {
             Verdict::Refused(refusal) => {
@@ -69,7 +69,7 @@ impl<J: HallName> Desk<J> {
         requires all { self.old.at ≡ length self.old.state.seen }
         requires lawful { IsLawful (world_after self.old.state.seen) self.old.state.player (Verdict.Become player) }
         ensures state { self.new.state ≡ as_player self.old.state player }
-        ensures told { untold self.new ≡ [] }
+        ensures told { pending self.new ≡ [] }
     {
         self.player = Some(player);
     }
@@ -80,7 +80,7 @@ impl<J: HallName> Desk<J> {
         requires all { self.old.at ≡ length self.old.state.seen }
         requires lawful { IsLawful (world_after self.old.state.seen) self.old.state.player (Verdict.Change change) }
         ensures stores { Stores (length row.now) self.old.state change (reply_shown result) self.new.state }
-        ensures told { reply_shown result ≢ Failed Fault.OutOfMemory → untold self.new ≡ [] }
+        ensures told { reply_shown result ≢ Failed Fault.OutOfMemory → pending self.new ≡ [] }
     {
         let text = self.text(alloc, row, &change)?;
         let version = self.add(alloc, row, change)?;
@@ -110,7 +110,7 @@ impl<J: HallName> Desk<J> {
         ensures version { IfOk result (λ v. v ≡ length self.old.state.seen + 1) }
         ensures accepted { OnOk result (self.new.state ≡ as_accepted self.old.state change) }
         ensures fault { IfErr result (λ f. Stores (length row.now) self.old.state change (Failed f) self.new.state) }
-        ensures told { result ≢ Err Fault.OutOfMemory → untold self.new ≡ [] }
+        ensures told { result ≢ Err Fault.OutOfMemory → pending self.new ≡ [] }
     {
         let entry = self.entry(alloc, change)?;
         self.publish(row, entry)
@@ -136,7 +136,7 @@ impl<J: HallName> Desk<J> {
         ensures accepted { OnOk result (self.new.state ≡ as_accepted self.old.state entry.value.change) }
         ensures fault { IfErr result
             (λ f. Stores (length row.now) self.old.state entry.value.change (Failed f) self.new.state) }
-        ensures told { result ≢ Err Fault.OutOfMemory → untold self.new ≡ [] }
+        ensures told { result ≢ Err Fault.OutOfMemory → pending self.new ≡ [] }
     {
         let actor = entry.change().actor;
         self.calls.reserve(1)?;

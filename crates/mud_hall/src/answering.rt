@@ -4,13 +4,15 @@ ghost use Rattle.std.specs.Prelude.{◌≡◌, ◌≤◌, None, IfOk, string_byt
 ghost use Rattle.std.specs.Option.{IsSome};
 ghost use Rattle.mud_words.specs.Line.{line_of};
 ghost use Rattle.mud_world.specs.State.{is_player};
-ghost use Rattle.mud_roads.specs.Open.{IsTraveller};
-ghost use Rattle.mud_rules.specs.Outcome.{IsJourney, IsLawful, IsQuestion};
+ghost use Rattle.mud_roads.specs.Passable.{IsTraveller};
+ghost use Rattle.mud_rules.specs.Outcome.{IsLawful};
+ghost use Rattle.mud_rules.specs.inner.Outcome.{IsJourney, IsQuestion};
 ghost use Rattle.mud_rules.specs.Replies.{refusal_text};
 ghost use Rattle.mud_rules.specs.Answers.{show_text};
 ghost use Rattle.mud_rules.specs.Table.{decision};
 ghost use Rattle.mud_world.specs.declared.limits.TheConstants.{MOST_ENTRIES};
-ghost use Rattle.mud_hall.specs.Answers.{IsGuided, IsProven, CanAsk};
+ghost use Rattle.mud_hall.specs.Answers.{IsGuided};
+ghost use Rattle.mud_hall.specs.inner.Answers.{IsProven, CanAsk};
 ghost use Rattle.mud_hall.specs.inner.Desks.{IsResponse, IsSight};
 
 use crate::guide::Guide;

@@ -4,7 +4,7 @@ ghost use Rattle.std.specs.Prelude.{◌≡◌, ◌++◌, length, codes, string_b
 ghost use Rattle.mud_words.specs.Line.{line_of};
 ghost use Rattle.mud_rules.specs.Outcome.{IsLawful};
 ghost use Rattle.mud_chron.specs.inner.Texts.{written_text};
-ghost use Rattle.mud_hall.specs.Told.{world_after};
+ghost use Rattle.mud_hall.specs.Notices.{world_after};
 ghost use Rattle.mud_hall.specs.Replies.{verdict_on};
 ghost use Rattle.mud_hall.specs.Answers.{answer_shown, Answers};
 ghost use Rattle.mud_world.specs.State.{is_player};

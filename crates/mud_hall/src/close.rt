@@ -4,9 +4,10 @@ ghost use Rattle.std.specs.Prelude.{◌≡◌, ◌≤◌, ◌+◌, ◌↔◌, �
 ghost use mathlib.Core.List.{IsPrefix};
 ghost use Rattle.mud_world.specs.declared.limits.TheConstants.{MOST_ENTRIES};
 ghost use Rattle.mud_chron.specs.declared.limits.TheConstants.{MOST_DESKS};
-ghost use Rattle.mud_hall.specs.Settling.{IsGathered, IsSettled, IsCloseFault, IsAtOdds, IsMissing};
-ghost use Rattle.mud_hall.specs.Settling.{HasNumber, AreApart, HaveSameNumber, versions_by, entries_made, first_apart};
-ghost use Rattle.mud_hall.specs.inner.Checking.{lesser_of, IsLeast, Differs, IsUnnamed, IsCheckFault};
+ghost use Rattle.mud_hall.specs.Settlement.{IsGathered, IsSettled, IsCloseFault, IsAtOdds, IsMissing};
+ghost use Rattle.mud_hall.specs.Settlement.{HasNumber, AreApart, HaveSameNumber, versions_by, entries_made};
+ghost use Rattle.mud_hall.specs.Settlement.{first_apart};
+ghost use Rattle.mud_hall.specs.inner.CheckFaults.{lesser_of, IsLeast, Differs, IsUnnamed, IsCheckFault};
 
 use crate::desk::Desk;
 use crate::entries::Made;

@@ -7,9 +7,9 @@ ghost use Rattle.std.specs.Option.{option_to_list};
 ghost use mathlib.Core.List.{IsPrefix};
 ghost use Rattle.mud_world.specs.declared.limits.TheConstants.{MOST_ENTRIES};
 ghost use Rattle.mud_chron.specs.declared.limits.TheConstants.{MOST_DESKS};
-ghost use Rattle.mud_hall.specs.Told.{notice_text};
+ghost use Rattle.mud_hall.specs.Notices.{notice_text};
 ghost use Rattle.mud_hall.specs.inner.Desks.{notice_in};
-ghost use Rattle.mud_hall.specs.Desk.{View, TakesIn, Learns, IsNew, as_guest, untold, with_told};
+ghost use Rattle.mud_hall.specs.Desk.{View, TakesIn, Learns, IsNew, as_guest, pending, with_told};
 
 use crate::name::HallName;
 use mud_chron::Entry;
@@ -37,7 +37,7 @@ pub struct Desk<J: HallName> {
 
 impl<J: HallName> Model for Desk<J> {
     ghost use Rattle.std.specs.Prelude.{◌++◌, map, take, drop, string_bytes};
-    ghost use Rattle.mud_hall.specs.Told.{notices};
+    ghost use Rattle.mud_hall.specs.Notices.{notices};
     ghost use Rattle.mud_hall.specs.Desk.{View, IsHeld};
 
     ghost Value = { View };
@@ -204,7 +204,7 @@ impl<J: HallName> Desk<J> {
     /// will be told later. It takes no memory.
     pub fn take_told(&mut self) -> Vec<String>
         ensures told { self.old.state.told ≡ map string_bytes result.items ++ self.new.state.told }
-        ensures rest { self.new ≡ record { state = with_told self.old.state (untold self.old); at = self.old.at } }
+        ensures rest { self.new ≡ record { state = with_told self.old.state (pending self.old); at = self.old.at } }
     {
         let empty = Vec::new(*Vec::allocator(&self.told));
         mem::replace(&mut self.told, empty)

@@ -2,7 +2,7 @@
 
 ghost use Rattle.std.specs.Prelude.{◌≡◌, ◌≤◌, ⊤, ℕ, Some, IfOk, IfSome, IsTrue};
 ghost use Rattle.mud_world.specs.State.{is_player};
-ghost use Rattle.mud_rules.specs.Outcome.{IsJourney};
+ghost use Rattle.mud_rules.specs.inner.Outcome.{IsJourney};
 ghost use Rattle.mud_world.specs.declared.limits.TheConstants.{MOST_ENTRIES};
 ghost use Rattle.mud_hall.specs.Answers.{IsGuided};
 ghost use Rattle.mud_hall.specs.inner.Desks.{Travels};

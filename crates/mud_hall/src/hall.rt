@@ -4,7 +4,7 @@ ghost use Rattle.std.specs.Prelude.{◌≡◌, ◌≢◌, ◌≤◌, ◌<◌, �
 ghost use Rattle.std.specs.Prelude.{Some, IfSome, IsTrue};
 ghost use Rattle.std.specs.Thread.{IsSync};
 ghost use Rattle.mud_world.specs.State.{is_player};
-ghost use Rattle.mud_rules.specs.Outcome.{IsJourney};
+ghost use Rattle.mud_rules.specs.inner.Outcome.{IsJourney};
 ghost use Rattle.mud_hall.specs.Answers.{IsGuided};
 ghost use Rattle.std.specs.List.{AllByRecursion};
 ghost use mathlib.Core.List.{IsPrefix};
@@ -12,10 +12,10 @@ ghost use Rattle.mud_words.specs.Line.{line_of};
 ghost use Rattle.mud_words.specs.Parse.{parse_of};
 ghost use Rattle.mud_world.specs.declared.limits.TheConstants.{MOST_ENTRIES};
 ghost use Rattle.mud_chron.specs.Entry.{IsEntry};
-ghost use Rattle.mud_hall.specs.Desk.{IsNew, TakesIn, untold};
+ghost use Rattle.mud_hall.specs.Desk.{IsNew, TakesIn, pending};
 ghost use Rattle.mud_hall.specs.Replies.{Failed, reply_shown, Acts};
 ghost use Rattle.mud_hall.specs.Answers.{answer_shown, Answers};
-ghost use Rattle.mud_hall.specs.Opening.{Begun, IsLoadFault};
+ghost use Rattle.mud_hall.specs.NewHall.{Begun, IsLoadFault};
 ghost use Rattle.mud_hall.specs.Steps.{AreLoadable};
 ghost use Rattle.mud_hall.specs.inner.Desks.{Travels};
 
@@ -58,7 +58,7 @@ pub struct NewHall {
 
 impl Model for NewHall {
     ghost use Rattle.std.specs.Prelude.{◌≡◌};
-    ghost use Rattle.mud_hall.specs.Opening.{Begun};
+    ghost use Rattle.mud_hall.specs.NewHall.{Begun};
 
     ghost Value = { Begun };
 
@@ -182,8 +182,8 @@ fn are_entries(entries: &[Entry])
 
 /// One history, and the desks of those who make it. Its lock keeps how many desks were given and what was loaded; a
 /// second one keeps the world that new desks copy, so that who acts never waits for that. How many entries the history
-/// can have, and which were loaded, its type says. It has no model: so the prover finds by itself that threads may
-/// share a hall.
+/// can have, and which were loaded, its type says. That threads may share a hall is `hall_sync` of proofs/Crosses.antt,
+/// shown there from the same of its parts: the prover's own search finds no proof of all at once.
 #[derive(Drop)]
 pub struct Hall<J: HallName> {
     pub(crate) kept: Mutex<Kept<J>>,
@@ -277,7 +277,7 @@ impl<J: HallName> Hall<J> {
     /// take the entry. After a fault the history has no entry of this call.
     pub fn act<R: Wait>(&self, rt: &R, desk: &mut Desk<J>, line: &str) -> Result<Reply, Fault>
         ensures acts { Acts (length J.cells) desk.old.state (parse_of line.now) (reply_shown result) desk.new.state }
-        ensures told { reply_shown result ≢ Failed Fault.OutOfMemory → untold desk.new ≡ [] }
+        ensures told { reply_shown result ≢ Failed Fault.OutOfMemory → pending desk.new ≡ [] }
     {
         let said = parse(self.alloc, line)?;
         self.act_on(rt, desk, &said)
@@ -286,7 +286,7 @@ impl<J: HallName> Hall<J> {
     /// Acts on what a line says, as [`Hall::act`] on the line.
     pub fn act_on<R: Wait>(&self, rt: &R, desk: &mut Desk<J>, said: &Parsed) -> Result<Reply, Fault>
         ensures acts { Acts (length J.cells) desk.old.state (line_of said.now) (reply_shown result) desk.new.state }
-        ensures told { reply_shown result ≢ Failed Fault.OutOfMemory → untold desk.new ≡ [] }
+        ensures told { reply_shown result ≢ Failed Fault.OutOfMemory → pending desk.new ≡ [] }
     {
         let kept = self.lock_for(rt, desk)?;
         let reply = desk.act(self.alloc, &self.row, said);
@@ -300,7 +300,7 @@ impl<J: HallName> Desk<J> {
     /// Takes in all entries that are found. It waits for nobody.
     pub fn see(&mut self, hall: &Hall<J>) -> Result<(), Fault>
         ensures state { TakesIn self.old.state self.new.state }
-        ensures told { OnOk result (untold self.new ≡ []) }
+        ensures told { OnOk result (pending self.new ≡ []) }
         ensures fault { IfErr result (λ f. f ≡ Fault.OutOfMemory) }
     {
         self.see_to(hall, u32::MAX)
@@ -311,7 +311,7 @@ impl<J: HallName> Desk<J> {
     pub fn see_to(&mut self, hall: &Hall<J>, most: u32) -> Result<(), Fault>
         ensures state { TakesIn self.old.state self.new.state }
         ensures most { length self.new.state.seen ≤ max (length self.old.state.seen) most }
-        ensures told { OnOk result (untold self.new ≡ []) }
+        ensures told { OnOk result (pending self.new ≡ []) }
         ensures fault { IfErr result (λ f. f ≡ Fault.OutOfMemory) }
     {
         self.take_in_to(hall.alloc, &hall.row, most)?;
@@ -322,7 +322,7 @@ impl<J: HallName> Desk<J> {
     /// waits for nobody.
     pub fn ask(&mut self, hall: &Hall<J>, line: &str) -> Result<Answer, Fault>
         ensures same { self.new.state ≡ self.old.state }
-        ensures told { OnOk result (untold self.new ≡ []) }
+        ensures told { OnOk result (pending self.new ≡ []) }
         ensures ok { IfOk result (λ a. Answers self.old.state (parse_of line.now) (answer_shown a)) }
         ensures fault { IfErr result (λ f. f ≡ Fault.OutOfMemory) }
     {
@@ -333,7 +333,7 @@ impl<J: HallName> Desk<J> {
     /// Answers what a line says, as [`Desk::ask`] the line.
     pub fn ask_on(&mut self, hall: &Hall<J>, said: &Parsed) -> Result<Answer, Fault>
         ensures same { self.new.state ≡ self.old.state }
-        ensures told { OnOk result (untold self.new ≡ []) }
+        ensures told { OnOk result (pending self.new ≡ []) }
         ensures ok { IfOk result (λ a. Answers self.old.state (line_of said.now) (answer_shown a)) }
         ensures fault { IfErr result (λ f. f ≡ Fault.OutOfMemory) }
     {
@@ -353,7 +353,7 @@ impl<J: HallName> Desk<J> {
         gate: &G,
     ) -> Result<Answer, Fault>
         ensures same { self.new.state ≡ self.old.state }
-        ensures told { OnOk result (untold self.new ≡ []) }
+        ensures told { OnOk result (pending self.new ≡ []) }
         ensures ok { IfOk result (λ a. Answers self.old.state (parse_of line.now) (answer_shown a)) }
         ensures fault { IfErr result (λ f. f ≡ Fault.OutOfMemory) }
     {
@@ -371,7 +371,7 @@ impl<J: HallName> Desk<J> {
         gate: &G,
     ) -> Result<Answer, Fault>
         ensures same { self.new.state ≡ self.old.state }
-        ensures told { OnOk result (untold self.new ≡ []) }
+        ensures told { OnOk result (pending self.new ≡ []) }
         ensures ok { IfOk result (λ a. Answers self.old.state (line_of said.now) (answer_shown a)) }
         ensures fault { IfErr result (λ f. f ≡ Fault.OutOfMemory) }
     {

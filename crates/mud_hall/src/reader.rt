@@ -3,7 +3,7 @@
 ghost use Rattle.std.specs.Prelude.{◌≡◌, ◌≤◌, ◌++◌, length, IfOk};
 ghost use mathlib.Core.List.{IsPrefix};
 ghost use Rattle.mud_world.specs.declared.limits.TheConstants.{MOST_ENTRIES};
-ghost use Rattle.mud_hall.specs.Settling.{IsGathered};
+ghost use Rattle.mud_hall.specs.Settlement.{IsGathered};
 
 use crate::close::gather;
 use crate::desk::Desk;

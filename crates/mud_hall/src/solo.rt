@@ -5,14 +5,15 @@ ghost use Rattle.std.specs.Prelude.{Some, None, IfOk, IfErr, IfSome, OnOk, OnErr
 ghost use Rattle.std.specs.Thread.{IsSync};
 ghost use Rattle.mud_world.specs.State.{is_player};
 ghost use Rattle.mud_world.specs.Legal.{refusal, after};
-ghost use Rattle.mud_roads.specs.Open.{IsTraveller};
+ghost use Rattle.mud_roads.specs.Passable.{IsTraveller};
 ghost use Rattle.mud_world.specs.declared.limits.TheConstants.{MOST_ENTRIES};
 ghost use Rattle.mud_chron.specs.inner.Texts.{written_text};
 ghost use Rattle.mud_words.specs.Line.{line_of};
 ghost use Rattle.mud_words.specs.Parse.{parse_of};
-ghost use Rattle.mud_rules.specs.Outcome.{IsJourney, IsLawful};
+ghost use Rattle.mud_rules.specs.Outcome.{IsLawful};
+ghost use Rattle.mud_rules.specs.inner.Outcome.{IsJourney};
 ghost use Rattle.mud_rules.specs.Replies.{reply_text};
-ghost use Rattle.mud_hall.specs.Told.{world_after};
+ghost use Rattle.mud_hall.specs.Notices.{world_after};
 ghost use Rattle.mud_hall.specs.Desk.{as_player, as_accepted, with_told};
 ghost use Rattle.mud_hall.specs.Replies.{reply_shown, verdict_on, Replies, Stores};
 ghost use Rattle.mud_hall.specs.Answers.{answer_shown, Answers, IsGuided};

@@ -10,10 +10,10 @@ use Rattle.mud_chron.specs.Entry.{Entry}
 use Rattle.mud_chron.specs.declared.format.Format.TheVariants.{Two}
 use Rattle.mud_chron.specs.Text.{journal_text}
 use Rattle.mud_hall.specs.Desk.{View}
-use Rattle.mud_hall.specs.Settling.{IsGathered}
+use Rattle.mud_hall.specs.Settlement.{IsGathered}
 use Rattle.mud_journal.specs.Disk.{Kept, Holds, HoldsFront, Adds, AddsInPart}
 use Rattle.mud_journal.proofs.Disks.{unchanged}
-use Rattle.mud_house.specs.Journaled.{IsWritten}
+use Rattle.mud_house.specs.JournalText.{IsWritten}
 
 -- all is synced
 front_of_all : (kept : Option Kept) (es : List Entry) → Holds kept es → HoldsFront kept es es

@@ -13,13 +13,13 @@ use Rattle.mud_chron.specs.Entry.{Entry}
 use Rattle.mud_chron.specs.inner.Texts.{written_text}
 use Rattle.mud_chron.specs.Text.{line_feed}
 use Rattle.mud_hall.specs.Desk.{View}
-use Rattle.mud_hall.specs.Settling.{HasNumber, IsSettled, entries_made}
+use Rattle.mud_hall.specs.Settlement.{HasNumber, IsSettled, entries_made}
 use Rattle.mud_hall.specs.Steps.{AreLoadable}
 use Rattle.mud_journal.specs.Disk.{Kept, Holds}
 use Rattle.mud_house.specs.declared.fault.ListenFault.{ListenFault}
 use Rattle.mud_house.specs.declared.fault.ListenFault.TheVariants.{OutOfMemory, Write}
 use Rattle.mud_house.specs.declared.limits.Limits.{Limits}
-use Rattle.mud_house.specs.Listening.{MayEnd, Opening, Settles, SettlesInPart, IsListenFault, lines_of, opening_lines}
+use Rattle.mud_house.specs.Listener.{MayEnd, Opening, Settles, SettlesInPart, IsListenFault, lines_of, opening_lines}
 
 abbrev number_of : View → ℕ
 number_of d = d.state.number

@@ -5,10 +5,10 @@ ghost use Rattle.mud_ends.specs.Ends.{Writer};
 ghost use Rattle.mud_chron.specs.Entry.{Entry};
 ghost use Rattle.mud_world.specs.declared.limits.TheConstants.{MOST_ENTRIES};
 ghost use mathlib.Core.List.{IsPrefix};
-ghost use Rattle.mud_hall.specs.Settling.{IsGathered};
+ghost use Rattle.mud_hall.specs.Settlement.{IsGathered};
 ghost use Rattle.mud_hall.specs.Steps.{AreLoadable};
 ghost use Rattle.mud_journal.specs.Disk.{Holds};
-ghost use Rattle.mud_house.specs.Listening.{MayEnd, IsListenFault};
+ghost use Rattle.mud_house.specs.Listener.{MayEnd, IsListenFault};
 
 use crate::fault::ListenFault;
 use crate::limits::Limits;

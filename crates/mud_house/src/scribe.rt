@@ -2,7 +2,7 @@
 
 ghost use Rattle.std.specs.Prelude.{◌≡◌, false, length, IfOk, OnOk};
 ghost use mathlib.Core.List.{IsPrefix};
-ghost use Rattle.mud_hall.specs.Settling.{IsGathered};
+ghost use Rattle.mud_hall.specs.Settlement.{IsGathered};
 ghost use Rattle.mud_journal.specs.Disk.{Holds};
 
 use mud_hall::{Desk, Hall, HallName, Reader};
@@ -23,7 +23,7 @@ pub struct Scribe<J: HallName, D: Disk + Drop> {
 impl<J: HallName, D: Disk + Drop> Model for Scribe<J, D> {
     ghost use Rattle.mud_key.specs.TreeCode.{coded_number_tree};
     ghost use Rattle.std.specs.Coded.{codes};
-    ghost use Rattle.mud_house.specs.Journaled.{Written, IsWritten};
+    ghost use Rattle.mud_house.specs.JournalText.{Written, IsWritten};
 
     ghost Value = { Written };
 

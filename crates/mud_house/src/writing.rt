@@ -5,7 +5,7 @@ ghost use Rattle.std.specs.Prelude.{string_bytes};
 ghost use Rattle.std.specs.Io.KnownBytes.{Appends};
 ghost use Rattle.mud_chron.specs.Text.{history_text};
 ghost use Rattle.mud_chron.specs.declared.format.Format.TheVariants.{Two};
-ghost use Rattle.mud_house.specs.Listening.{opening_lines};
+ghost use Rattle.mud_house.specs.Listener.{opening_lines};
 
 use crate::doors::Ports;
 use crate::fault::ListenFault;

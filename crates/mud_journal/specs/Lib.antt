@@ -1,3 +1,3 @@
 pub mod Disk
-pub mod Opening
+pub mod OpenFaults
 pub mod Laws

@@ -3,7 +3,7 @@
 ghost use Rattle.std.specs.Prelude.{◌≡◌, ◌≢◌, ◌+◌, IfOk, IfErr, length};
 ghost use Rattle.mud_chron.specs.declared.format.Format.TheVariants.{Two};
 ghost use Rattle.mud_chron.specs.Fronts.{Recovers, HasFrontFault};
-ghost use Rattle.mud_journal.specs.Opening.{IsRefusedAs};
+ghost use Rattle.mud_journal.specs.OpenFaults.{IsRefusedAs};
 
 use crate::disk::Disk;
 use crate::fault::OpenFault;

@@ -9,7 +9,7 @@ use Rattle.mud_world.specs.State.{State}
 use Rattle.mud_world.specs.Opening.{opening_state}
 use Rattle.mud_world.specs.Legal.{refusal, after, deed_result}
 use Rattle.mud_world.specs.History.{world_from}
-use Rattle.mud_world.specs.inner.Parts.{step_or_same}
+use Rattle.mud_world.specs.inner.Fields.{step_or_same}
 use Rattle.mud_world.specs.declared.change.Change.{Change}
 use Rattle.mud_world.specs.declared.change.Deed.{Deed}
 use Rattle.mud_world.specs.declared.change.Deed.TheVariants.{Dig, Make, Lock, Unlock, Move, Walk, Cost, Player, Rename}
@@ -17,7 +17,7 @@ use Rattle.mud_world.specs.declared.change.Deed.TheVariants.{Recycle, Say, Emote
 use Rattle.mud_chron.specs.Entry.{Entry}
 use Rattle.mud_chron.specs.Replay.{changes_of, AreLegalFrom}
 use Rattle.mud_keeping.specs.Shorter.{is_talk, without_talk, has_talk}
-use Rattle.mud_keeping.specs.inner.Shortening.{IsQuiet}
+use Rattle.mud_keeping.specs.inner.ShorterHistory.{IsQuiet}
 use Rattle.mud_keeping.specs.Laws.{TalkChangesNothing}
 
 -- talk leaves the world as it is

@@ -6,9 +6,9 @@ use Rattle.mud_chron.specs.Entry.{Entry}
 use Rattle.mud_chron.specs.Text.{history_text}
 use Rattle.mud_chron.specs.declared.format.Format.TheVariants.{Two}
 use Rattle.mud_chron.specs.Replay.{changes_of, AreLegal, HasIllegal}
-use Rattle.mud_keeping.specs.Reading.{KeepsEntries, HasKeptFault, IsRecovered}
+use Rattle.mud_keeping.specs.Recovery.{KeepsEntries, HasKeptFault, IsRecovered}
 use Rattle.mud_keeping.specs.Shorter.{IsShortened}
-use Rattle.mud_keeping.specs.Shown.{shown_text}
+use Rattle.mud_keeping.specs.Rows.{shown_text}
 use Rattle.mud_keeping.specs.declared.answering.Note.{Note}
 use Rattle.mud_keeping.specs.declared.answering.Note.TheVariants.{Nothing, Torn, Shortened}
 

@@ -1,6 +1,6 @@
-pub mod Reading
+pub mod Recovery
 pub mod Shorter
-pub mod Shown
+pub mod Rows
 pub mod Laws
 pub mod Answer
 pub mod inner

@@ -1,1 +1,1 @@
-pub mod Shortening
+pub mod ShorterHistory

@@ -3,7 +3,7 @@
 ghost use Rattle.std.specs.Prelude.{◌≢◌, ◌≤◌, length, IfOk, IfErr, string_bytes};
 ghost use Rattle.mud_world.specs.declared.limits.TheConstants.{MOST_ENTRIES};
 ghost use Rattle.mud_chron.specs.Fronts.{HasFrontFault};
-ghost use Rattle.mud_keeping.specs.Reading.{KeepsEntries, HasKeptFault, IsRecovered};
+ghost use Rattle.mud_keeping.specs.Recovery.{KeepsEntries, HasKeptFault, IsRecovered};
 
 use mud_chron::{ChronFault, Entry, read_front, read_history, write_history};
 use std::alloc::Global;

@@ -3,7 +3,7 @@
 ghost use Rattle.std.specs.Prelude.{◌≡◌, true, IfOk, IfErr, IfSome};
 ghost use Rattle.mud_chron.specs.Replay.{HasIllegal};
 ghost use Rattle.mud_keeping.specs.Shorter.{IsShortened};
-ghost use Rattle.mud_keeping.specs.inner.Shortening.{LeadsTo, IsShorter};
+ghost use Rattle.mud_keeping.specs.inner.ShorterHistory.{LeadsTo, IsShorter};
 
 use crate::comparing::same_worlds;
 use crate::talk::{has_talk, without_talk};

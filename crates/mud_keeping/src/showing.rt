@@ -1,29 +1,20 @@
 //! The world as a table.
 
 ghost use Rattle.std.specs.Prelude.{◌≡◌, ◌++◌, [], string_bytes, IfOk, OnOk};
-ghost use Rattle.std.specs.Fmt.{decimal};
 ghost use Rattle.std.specs.Option.{option_map_or};
 ghost use Rattle.mud_key.specs.Printed.{number_text};
 ghost use Rattle.mud_world.specs.State.{record_at};
-ghost use Rattle.mud_keeping.specs.Shown.{kind_word, head_text, where_text, lock_text, row, shown_text};
+ghost use Rattle.mud_keeping.specs.Rows.{kind_word, head_text, where_text, lock_text, row, shown_text};
 
-use itoa::Buffer;
 use mud_chron::write_names;
 use mud_key::{Key, print};
 use mud_world::{Kind, Record, World};
 use std::alloc::{AllocError, Global};
 
-fn push_decimal(out: &mut String, number: u32) -> Result<(), AllocError>
-    ensures { OnOk result (string_bytes out.new ≡ string_bytes out.old ++ decimal number) }
-{
-    out.push_str(Buffer::new().format(number))
-}
-
 fn push_number(out: &mut String, number: u32) -> Result<(), AllocError>
     ensures { OnOk result (string_bytes out.new ≡ string_bytes out.old ++ number_text number) }
 {
-    out.push_str("#")?;
-    push_decimal(out, number)
+    write!(out, "#{number}")
 }
 
 // A word and the number of an object.
@@ -54,8 +45,7 @@ fn push_where(out: &mut String, kind: Kind) -> Result<(), AllocError>
         Kind::Exit(passage) => {
             push_object(out, " from ", passage.source)?;
             push_object(out, " to ", passage.destination)?;
-            out.push_str(" cost ")?;
-            push_decimal(out, passage.cost)
+            write!(out, " cost {}", passage.cost)
         }
         Kind::Thing { place } => push_object(out, " in ", place),
         Kind::Player { place } => push_object(out, " in ", place),

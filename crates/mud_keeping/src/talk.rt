@@ -2,7 +2,7 @@
 
 ghost use Rattle.std.specs.Prelude.{◌≡◌, IfOk};
 ghost use Rattle.mud_keeping.specs.Shorter.{is_talk, without_talk, has_talk};
-ghost use Rattle.mud_keeping.specs.inner.Shortening.{IsQuiet};
+ghost use Rattle.mud_keeping.specs.inner.ShorterHistory.{IsQuiet};
 
 use mud_chron::Entry;
 use mud_world::Deed;

@@ -16,9 +16,10 @@ use Rattle.mud_key.specs.Name.{IsName}
 use Rattle.mud_key.specs.inner.NamesTexts.{IsNamesText, NamesReadAs, NameReadsAs, is_only, one}
 use Rattle.mud_key.specs.inner.NameReader.{Stand, name_run, name_start, names_at_end}
 use Rattle.mud_key.specs.KeyText.{SpellsKey, ReadsAs}
-use Rattle.mud_key.specs.inner.Machine.{run, start, State, Mode, chain_at_end}
+use Rattle.mud_key.specs.inner.Machine.{run, start, MachineState, Mode, chain_at_end}
 use Rattle.mud_key.specs.inner.Builder.{outer_settled}
-use Rattle.mud_key.specs.Reading.{names_in, name_in, key_in, is_within_limits, Finds, FindsKey}
+use Rattle.mud_key.specs.Finds.{names_in, name_in, key_in, Finds, FindsKey}
+use Rattle.mud_key.specs.inner.Limits.{is_within_limits}
 use Rattle.mud_key.specs.Laws.{IsTheName, IsTheKey}
 use Rattle.mud_key.proofs.NamesSound.{names_sound}
 use Rattle.mud_key.proofs.NamesTaken.{names_taken, each_name, one_list}
@@ -136,7 +137,7 @@ is_within k e = let parts = and_parts (nat_le (objects_of k) MOST_OBJECTS) (nat_
 abbrev limited : Tree (List ℕ) → Option (Tree (List ℕ))
 limited key = if is_within_limits key then Some key else None
 
-abbrev whole_of : State → Option (Tree (List ℕ))
+abbrev whole_of : MachineState → Option (Tree (List ℕ))
 whole_of s = outer_settled s.0 s.1
 
 limited_is : (k key : Tree (List ℕ)) (b : Bool) → is_within_limits k ≡ b → (if b then Some k else None) ≡ Some key
@@ -153,7 +154,7 @@ settled_key text key m (Some k) at e h =
     let parts = limited_is k key (is_within_limits k) refl h in
     subst (λ k. SpellsKey text k × IsWithinLimits k) parts.0 (sound text m k at e, is_within k parts.1)
 
-found_key : (text : List ℕ) (key : Tree (List ℕ)) (s : Option State) → run start text ≡ s
+found_key : (text : List ℕ) (key : Tree (List ℕ)) (s : Option MachineState) → run start text ≡ s
     → option_and_then limited (option_and_then whole_of s) ≡ Some key → SpellsKey text key × IsWithinLimits key
 found_key text key None at h = absurd (let bad : ◌≡◌ {A = Option (Tree (List ℕ))} None (Some key) = h in cc)
 found_key text key (Some ([], m)) at h = settled_key text key m (chain_at_end m) at refl h

@@ -13,7 +13,7 @@ use Rattle.mud_key.specs.Name.{IsNameByte, IsName}
 use Rattle.mud_key.specs.Names.{AreNames}
 use Rattle.mud_key.specs.inner.NamesTexts.{SpellsName, SpellsNames, IsNamesText, one, more}
 use Rattle.mud_key.specs.inner.NamesTexts.{without_outer_spaces}
-use Rattle.mud_key.specs.Parts.{without_leading_spaces, parts_of}
+use Rattle.mud_key.specs.Commas.{without_leading_spaces, parts_of}
 use Rattle.mud_key.proofs.Spaces.{none_in_front}
 
 -- ---- a name with spaces round it, without its outer spaces

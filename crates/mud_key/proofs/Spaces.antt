@@ -9,7 +9,7 @@ use Rattle.std.proofs.lemmas.Bool.{eqb-true}
 use Rattle.std.specs.Str.Pattern.{FindsCharPrefix, FindsCharSuffix, CutsPrefixes, CutsSuffixes, IsFullyTrimmed}
 use Rattle.std.specs.Str.Pattern.{IsTrimStartMatches, IsTrimEndMatches}
 use Rattle.std.proofs.lemmas.Str.Pattern.{drop_at_char}
-use Rattle.mud_key.specs.Parts.{without_leading_spaces}
+use Rattle.mud_key.specs.Commas.{without_leading_spaces}
 
 -- ---- in front
 

@@ -3,9 +3,9 @@ use Rattle.std.specs.Prelude.{◌≡◌, ◌↔◌, ℕ, List, Some}
 use Rattle.mud_key.specs.Tree.{Tree, IsWithinLimits}
 use Rattle.mud_key.specs.Name.{IsName}
 use Rattle.mud_key.specs.Names.{AreNames}
-use Rattle.mud_key.specs.Parts.{parts_of}
+use Rattle.mud_key.specs.Commas.{parts_of}
 use Rattle.mud_key.specs.KeyText.{SpellsKey}
-use Rattle.mud_key.specs.Reading.{names_in, name_in, key_in}
+use Rattle.mud_key.specs.Finds.{names_in, name_in, key_in}
 
 -- the names found are the parts of the text, where these are the names of an object
 abbrev pub AreTheNames : Type 0

@@ -3,11 +3,11 @@ pub mod TreeCode
 pub mod Name
 pub mod Names
 pub mod Lines
-pub mod Parts
+pub mod Commas
 pub mod Node
 pub mod KeyText
 pub mod Namer
 pub mod Printed
-pub mod Reading
+pub mod Finds
 pub mod Laws
 pub mod inner

@@ -5,9 +5,7 @@ use Rattle.mud_key.specs.declared.namer.Miss.TheVariants as miss
 use Rattle.mud_key.specs.declared.key_fault.KeyFault.{KeyFault}
 use Rattle.mud_key.specs.declared.key_fault.KeyFault.TheVariants.{OutOfMemory, NoSuch, Ambiguous}
 use Rattle.mud_key.specs.declared.operator.Operator.{Operator}
-use Rattle.mud_key.specs.declared.node.Node.{Node}
 use Rattle.mud_key.specs.Tree.{Tree, Has, Asks, Not, Join}
-use Rattle.mud_key.specs.Node.{key_of}
 
 -- f of the value, or the same miss
 abbrev pub result_map : {A B : Type 0} → (A → B) → Result A Miss → Result B Miss
@@ -26,11 +24,6 @@ resolved meaning (Asks o) = result_map Asks (meaning o)
 resolved meaning (Not k) = result_map Not (resolved meaning k)
 resolved meaning (Join op a b) = joined_result op (resolved meaning a) (resolved meaning b)
 
--- the fault that tells of a miss
-abbrev pub fault_of : Miss → KeyFault
-fault_of miss.NoSuch = NoSuch
-fault_of miss.Ambiguous = Ambiguous
-
 -- `resolve` answered what was resolved, unless memory ran out
 abbrev pub ResolvesAs : Result (Tree ℕ) Miss → Result (Tree ℕ) KeyFault → Type 0
 ResolvesAs r (Ok k) = r ≡ Ok k
@@ -38,11 +31,3 @@ ResolvesAs r (Err OutOfMemory) = Unit {0}
 ResolvesAs r (Err NoSuch) = r ≡ Err miss.NoSuch
 ResolvesAs r (Err Ambiguous) = r ≡ Err miss.Ambiguous
 ResolvesAs r (Err other) = ⊥
-
--- the same of a node, for private parts only
-abbrev pub NodeResolvesAs : Result (Tree ℕ) Miss → Result (Node ℕ) KeyFault → Type 0
-NodeResolvesAs r (Ok k) = r ≡ Ok (key_of k)
-NodeResolvesAs r (Err OutOfMemory) = Unit {0}
-NodeResolvesAs r (Err NoSuch) = r ≡ Err miss.NoSuch
-NodeResolvesAs r (Err Ambiguous) = r ≡ Err miss.Ambiguous
-NodeResolvesAs r (Err other) = ⊥

@@ -41,12 +41,3 @@ pub record ReadsBack (text : List ℕ) (key : Tree ℕ) : Type 0 where
   pub is_key_text : (read : Tree (List ℕ)) × SpellsKey text read
   pub again : (read : Tree (List ℕ)) → SpellsKey text read → (meaning : List ℕ → Result ℕ Miss)
       → ((n : ℕ) → n ≤ LAST_NUMBER → meaning (number_text n) ≡ Ok n) → resolved meaning read ≡ Ok key
-
--- the parentheses that `in_parentheses` puts round a key, or none; only clauses of private parts cite them
-abbrev pub opening_of : Tree (List ℕ) → List ℕ
-opening_of (Join op a b) = codes "("
-opening_of other = []
-
-abbrev pub closing_of : Tree (List ℕ) → List ℕ
-closing_of (Join op a b) = codes ")"
-closing_of other = []

@@ -5,3 +5,7 @@ pub mod Machine
 pub mod NameReader
 pub mod NamesTexts
 pub mod Scan
+pub mod Namer
+pub mod Parentheses
+pub mod Limits
+pub mod Tokens

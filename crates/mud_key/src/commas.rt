@@ -1,7 +1,7 @@
 //! The parts of a text at its commas.
 
 ghost use Rattle.std.specs.Prelude.{◌≡◌, IfOk, map, string_bytes};
-ghost use Rattle.mud_key.specs.Parts.{parts_of};
+ghost use Rattle.mud_key.specs.Commas.{parts_of};
 ghost use Rattle.mud_key.specs.inner.NamesTexts.{without_outer_spaces};
 
 use std::alloc::{AllocError, Global};

@@ -4,7 +4,7 @@ ghost use Rattle.std.specs.Prelude.{◌≡◌};
 ghost use Rattle.mud_key.specs.Tree.{IsWithinLimits};
 ghost use Rattle.mud_key.specs.Node.{reading_of};
 ghost use Rattle.mud_key.specs.KeyText.{ReadsAs};
-ghost use Rattle.mud_key.specs.Reading.{FindsKey};
+ghost use Rattle.mud_key.specs.Finds.{FindsKey};
 
 use crate::builder::build;
 use crate::key_fault::KeyFault;

@@ -17,3 +17,7 @@ pub const MOST_NOTS: usize = 64;
 
 /// The most digits after a sharp (docs/KEYS.md, "Keys").
 pub const MOST_DIGITS: usize = 9;
+
+/// How many numbers have at most `MOST_DIGITS` digits: versions, costs and numbers of exits in a certificate are below
+/// it (docs/CERTIFICATES.md, "The text").
+pub const AMOUNTS: u64 = 1_000_000_000;

@@ -3,7 +3,7 @@
 ghost use Rattle.std.specs.Prelude.{◌≡◌, IfOk, map, string_bytes};
 ghost use Rattle.mud_key.specs.Name.{IsName};
 ghost use Rattle.mud_key.specs.inner.NamesTexts.{is_only};
-ghost use Rattle.mud_key.specs.Reading.{name_in, Finds};
+ghost use Rattle.mud_key.specs.Finds.{name_in, Finds};
 
 use crate::names::{Names, NamesFault};
 use std::alloc::{AllocError, Global};

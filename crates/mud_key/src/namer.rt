@@ -5,7 +5,8 @@ ghost use Rattle.mud_key.specs.declared.limits.TheConstants.{LAST_NUMBER};
 ghost use Rattle.mud_key.specs.declared.namer.Miss.{Miss};
 ghost use Rattle.mud_key.specs.Tree.{AllObjects};
 ghost use Rattle.mud_key.specs.Node.{reading_of, key_of};
-ghost use Rattle.mud_key.specs.Namer.{ResolvesAs, NodeResolvesAs, resolved, fault_of};
+ghost use Rattle.mud_key.specs.Namer.{ResolvesAs, resolved};
+ghost use Rattle.mud_key.specs.inner.Namer.{NodeResolvesAs, fault_of};
 
 use crate::key::{Key, join, not};
 use crate::key_fault::KeyFault;

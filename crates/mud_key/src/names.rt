@@ -1,7 +1,7 @@
 //! The names of an object.
 
 ghost use Rattle.std.specs.Prelude.{◌≡◌, [], ◌∷◌, IfOk, map, string_bytes};
-ghost use Rattle.mud_key.specs.Reading.{names_in, Finds};
+ghost use Rattle.mud_key.specs.Finds.{names_in, Finds};
 ghost use Rattle.mud_key.specs.Names.{AreNames};
 ghost use Rattle.mud_key.specs.inner.NamesTexts.{NamesReadAs};
 

@@ -3,7 +3,8 @@
 ghost use Rattle.std.specs.Prelude.{◌≡◌, ◌++◌, IfOk, OnOk, string_bytes, codes, ℕ, List, ◌≤◌};
 ghost use Rattle.mud_key.specs.KeyText.{sign, SpellsKey};
 ghost use Rattle.mud_key.specs.Node.{key_of};
-ghost use Rattle.mud_key.specs.Printed.{printed, by_text, ReadsBack, opening_of, closing_of, opens};
+ghost use Rattle.mud_key.specs.Printed.{printed, by_text, ReadsBack, opens};
+ghost use Rattle.mud_key.specs.inner.Parentheses.{opening_of, closing_of};
 
 use crate::key::Key;
 use crate::node::Node;

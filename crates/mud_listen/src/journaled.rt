@@ -8,7 +8,7 @@ ghost use Rattle.mud_chron.specs.Entry.{Entry};
 ghost use Rattle.mud_world.specs.declared.limits.TheConstants.{MOST_ENTRIES};
 ghost use Rattle.mud_chron.specs.declared.limits.TheConstants.{MOST_DESKS};
 ghost use Rattle.mud_journal.specs.Disk.{Holds, Begins};
-ghost use Rattle.mud_house.specs.Listening.{MayEnd, Settles, SettlesInPart, IsListenFault};
+ghost use Rattle.mud_house.specs.Listener.{MayEnd, Settles, SettlesInPart, IsListenFault};
 ghost use Rattle.mud_search.specs.declared.limits.TheConstants.{MOST_WORKERS};
 
 use crate::listen::{is_well_ended, resume_hall, serve_house};

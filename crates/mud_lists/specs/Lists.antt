@@ -1,5 +1,5 @@
 -- A list for each number.
-use Rattle.std.specs.Prelude.{◌≡◌, ◌⊎◌, IsTrue, ℕ, Bool, List, [], nat_eq, if◌then◌else◌}
+use Rattle.std.specs.Prelude.{◌≡◌, ℕ, Bool, List, [], nat_eq, if◌then◌else◌}
 use Rattle.std.specs.Option.{unwrap_or}
 use Rattle.std.specs.Map.{lookup}
 
@@ -14,8 +14,3 @@ AreSame old new = (n : ℕ) → list_at new n ≡ list_at old n
 -- the lists of the holders that pass the test are changed by f, and no others
 abbrev pub AreChanged : (ℕ → Bool) → (List ℕ → List ℕ) → List (ℕ × List ℕ) → List (ℕ × List ℕ) → Type 0
 AreChanged test f old new = (n : ℕ) → list_at new n ≡ (if test n then f (list_at old n) else list_at old n)
-
--- some lists of the holders that pass the test may be changed by f, and no others
-abbrev pub AreBetween : (ℕ → Bool) → (List ℕ → List ℕ) → List (ℕ × List ℕ) → List (ℕ × List ℕ) → Type 0
-AreBetween test f old new =
-    (n : ℕ) → (list_at new n ≡ list_at old n) ⊎ (IsTrue (test n) × (list_at new n ≡ f (list_at old n)))

@@ -8,11 +8,6 @@ use Rattle.std.specs.Str.{str_to_ascii_lowercase}
 abbrev pub owner_of : List (List ℕ × ℕ) → List ℕ → Option ℕ
 owner_of owners text = lookup (bytes_eq text) owners
 
--- the texts have this owner, or none, and each other text has the owner that it had
-abbrev pub AreOwnersSet : List (List ℕ) → Option ℕ → List (List ℕ × ℕ) → List (List ℕ × ℕ) → Type 0
-AreOwnersSet texts owner old new =
-    (t : List ℕ) → owner_of new t ≡ (if list_any (bytes_eq t) texts then owner else owner_of old t)
-
 -- the text is one of these in lower case
 abbrev pub is_lower_of : List (List ℕ) → List ℕ → Bool
 is_lower_of texts t = list_any (λ a. bytes_eq t (str_to_ascii_lowercase a)) texts

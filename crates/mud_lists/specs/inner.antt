@@ -1,2 +1,4 @@
 pub mod Texts
 pub mod Views
+pub mod Lists
+pub mod Owners

@@ -5,7 +5,8 @@ ghost use Rattle.std.specs.Prelude.{List};
 ghost use Rattle.std.specs.Char.{to_ascii_lowercase};
 ghost use Rattle.std.specs.Str.{str_to_ascii_lowercase};
 ghost use Rattle.indexmap.specs.IndexMap.{spare};
-ghost use Rattle.mud_lists.specs.Owners.{owner_of, AreOwnersSet, AreOwnersPassed};
+ghost use Rattle.mud_lists.specs.Owners.{owner_of, AreOwnersPassed};
+ghost use Rattle.mud_lists.specs.inner.Owners.{AreOwnersSet};
 ghost use Rattle.mud_lists.specs.inner.Views.{seen_of};
 ghost use Rattle.mud_lists.specs.inner.Texts.{items_of};
 

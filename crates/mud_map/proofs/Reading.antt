@@ -7,7 +7,7 @@ use Rattle.mud_world.proofs.Records.{bool_cases}
 use Rattle.mud_key.specs.declared.codes.TheConstants.{LF}
 use Rattle.mud_chron.specs.declared.codes.TheConstants.{QUOTE}
 use Rattle.mud_map.specs.declared.codes.TheConstants.{BACKSLASH, SMALL_N}
-use Rattle.mud_map.specs.Quoted.{escaped_byte, escape, meaning, before, read_quoted}
+use Rattle.mud_map.specs.Quotes.{escaped_byte, escape, meaning, before, read_quoted}
 use Rattle.mud_map.specs.Laws.{IsReadAsMeant}
 
 -- a byte that is neither quote nor backslash is read as itself

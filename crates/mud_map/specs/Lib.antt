@@ -1,4 +1,4 @@
-pub mod Quoted
+pub mod Quotes
 pub mod Map
 pub mod Laws
-pub mod Mapped
+pub mod MapResult

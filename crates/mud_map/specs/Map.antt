@@ -13,7 +13,7 @@ use Rattle.mud_roads.specs.declared.label.Label.{Label}
 use Rattle.mud_cert.specs.Certificate.{Account, Certificate}
 use Rattle.mud_cert.specs.declared.cert.Conclusion.{Conclusion}
 use Rattle.mud_cert.specs.declared.cert.Conclusion.TheVariants.{Meet}
-use Rattle.mud_map.specs.Quoted.{in_quotes}
+use Rattle.mud_map.specs.Quotes.{in_quotes}
 
 -- what is drawn into a map: what is claimed of some players, and the room where they meet, if there is one
 pub record Drawing : Type 0 where

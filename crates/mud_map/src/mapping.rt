@@ -2,9 +2,9 @@
 
 ghost use Rattle.std.specs.Prelude.{◌≡◌, ◌≢◌, ◌⊎◌, IfOk, IfErr};
 ghost use Rattle.mud_chron.specs.Replay.{changes_of, AreLegal};
-ghost use Rattle.mud_keeping.specs.Reading.{KeepsEntries, HasKeptFault};
+ghost use Rattle.mud_keeping.specs.Recovery.{KeepsEntries, HasKeptFault};
 ghost use Rattle.mud_keeping.specs.Answer.{KeepsIllegal};
-ghost use Rattle.mud_map.specs.Mapped.{IsMap, IsMapWith, HasNoMap};
+ghost use Rattle.mud_map.specs.MapResult.{IsMap, IsMapWith, HasNoMap};
 
 use crate::drawing::{map, map_with};
 use mud_cert::{CertFault, read};

@@ -1,7 +1,7 @@
 //! Texts in double quotes.
 
 ghost use Rattle.std.specs.Prelude.{◌≡◌, ◌++◌, OnOk};
-ghost use Rattle.mud_map.specs.Quoted.{escaped_byte, escape, in_quotes};
+ghost use Rattle.mud_map.specs.Quotes.{escaped_byte, escape, in_quotes};
 
 use crate::codes::BACKSLASH;
 use mud_chron::codes::QUOTE;

@@ -8,8 +8,10 @@ use Rattle.mud_nvt.specs.declared.codes.TheConstants.{IAC, SE, SB}
 use Rattle.mud_nvt.specs.declared.telnet.Piece.{Piece}
 use Rattle.mud_nvt.specs.declared.telnet.Piece.TheVariants.{Data, Command}
 use Rattle.mud_nvt.specs.declared.telnet.Position.TheVariants.{Between, Inside}
-use Rattle.mud_nvt.specs.Telnet.{is_verb, pieces, pieces_up_to, first_piece, behind_iac, behind_end, request}
-use Rattle.mud_nvt.specs.Telnet.{subnegotiation}
+use Rattle.mud_nvt.specs.Telnet.{pieces}
+use Rattle.mud_nvt.specs.inner.Telnet.{pieces_up_to, first_piece, behind_iac, behind_end, request}
+use Rattle.mud_nvt.specs.Grammar.{is_verb}
+use Rattle.mud_nvt.specs.inner.Telnet.{subnegotiation}
 use Rattle.mud_nvt.specs.Grammar.{IsInside, at_end, a_byte, a_pair, Spells, a_plain_byte, a_doubled_iac, a_command}
 use Rattle.mud_nvt.specs.Grammar.{a_request, a_subnegotiation, Cuts, to_rest, to_piece}
 use Rattle.mud_nvt.proofs.Cutting.{scan, pieces_is, Begins, first_piece_begins}

@@ -6,9 +6,10 @@ use Rattle.mud_nvt.specs.declared.telnet.Piece.{Piece}
 use Rattle.mud_nvt.specs.declared.telnet.Piece.TheVariants.{Data, Command, Subnegotiation}
 use Rattle.mud_nvt.specs.declared.telnet.Position.{Position}
 use Rattle.mud_nvt.specs.declared.telnet.Position.TheVariants.{Between, BehindIac, BehindVerb, Inside, InsideBehindIac}
-use Rattle.mud_nvt.specs.Telnet.{behind_end, is_verb, request, subnegotiation, behind_iac, first_piece, pieces_up_to}
+use Rattle.mud_nvt.specs.inner.Telnet.{behind_end, request, subnegotiation, behind_iac, first_piece, pieces_up_to}
+use Rattle.mud_nvt.specs.Grammar.{is_verb}
 use Rattle.mud_nvt.specs.Telnet.{pieces}
-use Rattle.mud_nvt.specs.Machine.{next_place, finished_piece}
+use Rattle.mud_nvt.specs.inner.Machine.{next_place, finished_piece}
 
 -- the piece, if there is one, and then the others
 abbrev pub put : Option Piece → List Piece → List Piece

@@ -11,10 +11,11 @@ use Rattle.mud_nvt.specs.declared.TheConstants.{MOST}
 use Rattle.mud_nvt.specs.declared.telnet.Piece.TheVariants.{Data}
 use Rattle.mud_nvt.specs.declared.telnet.Position.TheVariants.{Between}
 use Rattle.mud_nvt.specs.declared.strokes.Stroke.TheVariants.{Character}
-use Rattle.mud_nvt.specs.Lines.{IsPrintable}
-use Rattle.mud_nvt.specs.Editing.{stroke}
-use Rattle.mud_nvt.specs.Machine.{Held, next, byte_units, run, run_units}
-use Rattle.mud_nvt.specs.inner.Typing.{IsTyped, with_text}
+use Rattle.mud_nvt.specs.inner.Lines.{IsPrintable}
+use Rattle.mud_nvt.specs.Strokes.{stroke}
+use Rattle.mud_nvt.specs.Held.{Held}
+use Rattle.mud_nvt.specs.inner.Machine.{next, byte_units, run, run_units}
+use Rattle.mud_nvt.specs.inner.Lines.{IsTyped, with_text}
 
 -- a terminal that is between two pieces, with a line that isn't too long
 abbrev pub typing : Bool → List ℕ → Held

@@ -12,11 +12,13 @@ use Rattle.mud_nvt.specs.declared.telnet.Piece.TheVariants.{Data, Command, Reque
 use Rattle.mud_nvt.specs.declared.strokes.Stroke.{Stroke}
 use Rattle.mud_nvt.specs.declared.strokes.Stroke.TheVariants.{Character, EraseCharacter, EraseLine, EndLine}
 use Rattle.mud_nvt.specs.declared.strokes.Stroke.TheVariants.{AreYouThere, Refuse, Nothing}
-use Rattle.mud_nvt.specs.Editing.{stroke}
+use Rattle.mud_nvt.specs.Strokes.{stroke}
 use Rattle.mud_nvt.specs.Units.{Given, Text, TooLong, Ayt, units}
-use Rattle.mud_nvt.specs.Lines.{IsPrintable, IsSound, IsPlain}
-use Rattle.mud_nvt.specs.Machine.{Held, start, next, next_text, text_with, stroke_units, finished_piece, after_piece}
-use Rattle.mud_nvt.specs.Machine.{piece_units, byte_units, run_units}
+use Rattle.mud_nvt.specs.Lines.{IsSound}
+use Rattle.mud_nvt.specs.inner.Lines.{IsPrintable, IsPlain}
+use Rattle.mud_nvt.specs.Held.{Held}
+use Rattle.mud_nvt.specs.inner.Machine.{start, next, next_text, text_with, stroke_units, finished_piece, after_piece}
+use Rattle.mud_nvt.specs.inner.Machine.{piece_units, byte_units, run_units}
 use Rattle.mud_nvt.proofs.Whole.{units_is}
 
 plain_if : (t : Bool) (r s : Stroke) → IsPlain r → IsPlain s → IsPlain (if t then r else s)

@@ -5,9 +5,10 @@ use Rattle.std.specs.List.{list_any}
 use Rattle.mud_nvt.specs.declared.telnet.Piece.{Piece}
 use Rattle.mud_nvt.specs.declared.strokes.Stroke.{Stroke}
 use Rattle.mud_nvt.specs.Telnet.{pieces}
-use Rattle.mud_nvt.specs.Editing.{strokes}
-use Rattle.mud_nvt.specs.Machine.{Held, start, next, next_place, finished_piece, after_piece, piece_strokes}
-use Rattle.mud_nvt.specs.Machine.{byte_strokes, run}
+use Rattle.mud_nvt.specs.Strokes.{strokes}
+use Rattle.mud_nvt.specs.Held.{Held}
+use Rattle.mud_nvt.specs.inner.Machine.{start, next, next_place, finished_piece, after_piece, piece_strokes}
+use Rattle.mud_nvt.specs.inner.Machine.{byte_strokes, run}
 use Rattle.mud_nvt.specs.Memory.{takes_memory, StopsBefore}
 use Rattle.mud_nvt.proofs.Cutting.{put, scan, pieces_is}
 use Rattle.mud_nvt.proofs.Typing.{strokes_behind}

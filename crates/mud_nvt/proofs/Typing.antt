@@ -7,9 +7,9 @@ use Rattle.mud_nvt.specs.declared.telnet.Piece.{Piece}
 use Rattle.mud_nvt.specs.declared.strokes.Stroke.{Stroke}
 use Rattle.mud_nvt.specs.declared.strokes.Stroke.TheVariants.{Character, EraseCharacter, EraseLine, EndLine}
 use Rattle.mud_nvt.specs.declared.strokes.Stroke.TheVariants.{AreYouThere, Refuse, Nothing}
-use Rattle.mud_nvt.specs.Editing.{line, is_too_long, stroke, is_cr}
+use Rattle.mud_nvt.specs.Strokes.{line, is_too_long, stroke, is_cr}
 use Rattle.mud_nvt.specs.Units.{Given, units_at, units_after}
-use Rattle.mud_nvt.specs.Machine.{next_text, next_too_long, stroke_units, without_last}
+use Rattle.mud_nvt.specs.inner.Machine.{next_text, next_too_long, stroke_units, without_last}
 
 -- what is kept is what these strokes, the latest first, leave of the line
 pub record Keeps (earlier : List Stroke) (too_long : Bool) (text : List ℕ) : Type 0 where

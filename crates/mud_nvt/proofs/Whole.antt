@@ -6,8 +6,9 @@ use Rattle.mud_nvt.specs.declared.telnet.Piece.{Piece}
 use Rattle.mud_nvt.specs.declared.telnet.Position.TheVariants.{Between}
 use Rattle.mud_nvt.specs.Units.{Given, units}
 use Rattle.mud_nvt.specs.History.{TakesIn}
-use Rattle.mud_nvt.specs.Machine.{Held, start, next, next_place, finished_piece, after_piece, piece_units}
-use Rattle.mud_nvt.specs.Machine.{run, run_units}
+use Rattle.mud_nvt.specs.Held.{Held}
+use Rattle.mud_nvt.specs.inner.Machine.{start, next, next_place, finished_piece, after_piece, piece_units}
+use Rattle.mud_nvt.specs.inner.Machine.{run, run_units}
 use Rattle.mud_nvt.proofs.Cutting.{put, scan, pieces_is}
 use Rattle.mud_nvt.proofs.Typing.{walk, walk_is}
 

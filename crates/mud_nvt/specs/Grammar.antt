@@ -1,9 +1,12 @@
 -- The same pieces by a grammar: each has its spellings, and the rest is less than a whole one.
-use Rattle.std.specs.Prelude.{ℕ, List, [], ◌∷◌, ◌++◌, ◌==◌, true, false, ◌≡◌, ◌≢◌}
-use Rattle.mud_nvt.specs.declared.codes.TheConstants.{IAC, SE, SB}
+use Rattle.std.specs.Prelude.{ℕ, List, [], ◌∷◌, ◌++◌, ◌==◌, true, false, ◌≡◌, ◌≢◌, ◌||◌, Bool}
+use Rattle.mud_nvt.specs.declared.codes.TheConstants.{IAC, SE, SB, WILL, WONT, DO, DONT}
 use Rattle.mud_nvt.specs.declared.telnet.Piece.{Piece}
 use Rattle.mud_nvt.specs.declared.telnet.Piece.TheVariants.{Data, Command, Request, Subnegotiation}
-use Rattle.mud_nvt.specs.Telnet.{is_verb}
+
+-- whether the byte is one of the four that ask about an option
+abbrev pub is_verb : ℕ → Bool
+is_verb b = (b == WILL) || (b == WONT) || (b == DO) || (b == DONT)
 
 -- what may stand inside a subnegotiation: bytes, and IAC with another byte than SE after it
 pub data IsInside : List ℕ → Type 0 where

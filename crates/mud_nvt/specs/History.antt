@@ -1,7 +1,8 @@
 -- A terminal, and all bytes that came to it.
 use Rattle.std.specs.Prelude.{ℕ, List, ◌++◌, ◌≡◌}
 use Rattle.mud_nvt.specs.Units.{Given, units}
-use Rattle.mud_nvt.specs.Machine.{Held, start, run}
+use Rattle.mud_nvt.specs.Held.{Held}
+use Rattle.mud_nvt.specs.inner.Machine.{start, run}
 
 -- these bytes, and no others, came to the terminal. A reader need not look into this: `new` makes one after no bytes,
 -- `feed` leads on from there, and what is claimed of the units names only their definition

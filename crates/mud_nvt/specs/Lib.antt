@@ -1,9 +1,9 @@
 pub mod Telnet
 pub mod Grammar
-pub mod Editing
+pub mod Strokes
 pub mod Units
-pub mod Machine
-pub mod Shown
+pub mod Held
+pub mod UnitViews
 pub mod Lines
 pub mod History
 pub mod Memory

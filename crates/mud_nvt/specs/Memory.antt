@@ -5,8 +5,8 @@ use Rattle.mud_nvt.specs.declared.strokes.Stroke.{Stroke}
 use Rattle.mud_nvt.specs.declared.strokes.Stroke.TheVariants.{EraseCharacter, EraseLine}
 use Rattle.mud_nvt.specs.declared.strokes.Stroke.TheVariants.{Nothing}
 use Rattle.mud_nvt.specs.Telnet.{pieces}
-use Rattle.mud_nvt.specs.Editing.{strokes}
-use Rattle.mud_nvt.specs.Machine.{Held}
+use Rattle.mud_nvt.specs.Strokes.{strokes}
+use Rattle.mud_nvt.specs.Held.{Held}
 use Rattle.mud_nvt.specs.History.{StandsAfter}
 
 -- whether a stroke may take memory: a character that is typed, and what gives a unit

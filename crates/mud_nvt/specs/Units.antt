@@ -5,7 +5,7 @@ use Rattle.mud_nvt.specs.declared.strokes.Stroke.{Stroke}
 use Rattle.mud_nvt.specs.declared.strokes.Stroke.TheVariants.{EndLine}
 use Rattle.mud_nvt.specs.declared.strokes.Stroke.TheVariants.{AreYouThere, Refuse}
 use Rattle.mud_nvt.specs.Telnet.{pieces}
-use Rattle.mud_nvt.specs.Editing.{strokes, line, is_too_long}
+use Rattle.mud_nvt.specs.Strokes.{strokes, line, is_too_long}
 
 -- a unit as a caller sees it, with the bytes of its text
 pub data Given : Type 0 where

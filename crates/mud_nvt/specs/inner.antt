@@ -1,1 +1,3 @@
-pub mod Typing
+pub mod Lines
+pub mod Machine
+pub mod Telnet

@@ -26,7 +26,7 @@
 //! long.
 //!
 //! **What is proved.** The units of all bytes are defined over the whole list, without any state
-//! (`specs/Telnet`, `specs/Editing`, `specs/Units`). Whatever pieces came, the units so far are
+//! (`specs/Telnet`, `specs/Strokes`, `specs/Units`). Whatever pieces came, the units so far are
 //! those of all bytes so far. Where memory is refused, `feed` says how many bytes are done: the
 //! units are those up to there, the next byte is one that types a character or gives a unit, and
 //! feeding the rest goes on as if nothing had happened. Texts are of bytes 32 to 126, at most
@@ -40,11 +40,13 @@
 ghost use Rattle.std.specs.Prelude.{◌≡◌, ◌≤◌, [], ◌∷◌, ◌++◌, length, OnOk, OnErr, IfOk, IfErr, IsTrue, take};
 ghost use Rattle.std.specs.Prelude.{◌+◌, ◌<◌, slice_index, All, IfSome};
 ghost use Rattle.std.specs.List.{list_any};
-ghost use Rattle.mud_nvt.specs.Machine.{next, byte_units, byte_strokes, after_stroke, stroke_units, run, run_units};
-ghost use Rattle.mud_nvt.specs.inner.Typing.{IsTyped, with_text};
+ghost use Rattle.mud_nvt.specs.inner.Machine.{next, byte_units, byte_strokes, after_stroke, stroke_units, run};
+ghost use Rattle.mud_nvt.specs.inner.Machine.{run_units};
+ghost use Rattle.mud_nvt.specs.inner.Lines.{IsTyped, with_text};
 ghost use Rattle.mud_nvt.specs.Memory.{takes_memory, StopsBefore};
-ghost use Rattle.mud_nvt.specs.Shown.{unit_shown, all_shown};
-ghost use Rattle.mud_nvt.specs.Lines.{IsPlain, IsPrintable, IsSound};
+ghost use Rattle.mud_nvt.specs.UnitViews.{unit_shown, all_shown};
+ghost use Rattle.mud_nvt.specs.Lines.{IsSound};
+ghost use Rattle.mud_nvt.specs.inner.Lines.{IsPlain, IsPrintable};
 ghost use Rattle.mud_nvt.specs.History.{StandsAfter, TakesIn};
 
 mod codes;
@@ -106,9 +108,9 @@ impl<A: Allocator> Model for Nvt<A> {
     ghost use Rattle.std.specs.Prelude.{◌≤◌, All};
     ghost use Rattle.std.specs.Str.{IsAscii};
     ghost use Rattle.std.specs.String.{string_bytes, string_len};
-    ghost use Rattle.mud_nvt.specs.Machine.{Held};
+    ghost use Rattle.mud_nvt.specs.Held.{Held};
     ghost use Rattle.mud_nvt.specs.declared.TheConstants.{MOST};
-    ghost use Rattle.mud_nvt.specs.Lines.{IsPrintable};
+    ghost use Rattle.mud_nvt.specs.inner.Lines.{IsPrintable};
 
     ghost Value = { Held };
 

@@ -1,8 +1,8 @@
 //! What a piece does to the line that is being typed.
 
 ghost use Rattle.std.specs.Prelude.{◌≡◌};
-ghost use Rattle.mud_nvt.specs.Editing.{stroke, is_cr};
-ghost use Rattle.mud_nvt.specs.Lines.{IsPlain};
+ghost use Rattle.mud_nvt.specs.Strokes.{stroke, is_cr};
+ghost use Rattle.mud_nvt.specs.inner.Lines.{IsPlain};
 
 use crate::codes::{AYT, BS, CR, DEL, DO, DONT, EC, EL, HT, LF, NUL, SPACE, TILDE, WILL, WONT};
 use crate::telnet::Piece;

@@ -1,7 +1,7 @@
 //! Which bytes belong together: the pieces of what comes over the connection.
 
 ghost use Rattle.std.specs.Prelude.{◌≡◌};
-ghost use Rattle.mud_nvt.specs.Machine.{next_place, finished_piece};
+ghost use Rattle.mud_nvt.specs.inner.Machine.{next_place, finished_piece};
 
 use crate::codes::{DO, DONT, IAC, SB, SE, WILL, WONT};
 

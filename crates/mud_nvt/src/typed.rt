@@ -1,7 +1,7 @@
 //! Characters that are typed one after the other.
 
 ghost use Rattle.std.specs.Prelude.{◌≤◌, All, length, take};
-ghost use Rattle.mud_nvt.specs.Lines.{IsPrintable};
+ghost use Rattle.mud_nvt.specs.inner.Lines.{IsPrintable};
 
 use crate::codes::{SPACE, TILDE};
 

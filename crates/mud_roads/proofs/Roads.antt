@@ -18,7 +18,7 @@ use Rattle.mud_world.specs.Sound.{IsSound, IsPlacedWell}
 use Rattle.mud_world.proofs.Records.{record_cases, bool_cases, in_bounds}
 use Rattle.mud_world.proofs.Listed.{leaving_law}
 use Rattle.mud_roads.specs.declared.label.Step.{Step}
-use Rattle.mud_roads.specs.Open.{passable, step_by, open_step, roads_of, Knowledge, IsTraveller}
+use Rattle.mud_roads.specs.Passable.{passable, step_by, open_step, roads_of, Knowledge, IsTraveller}
 use Rattle.mud_roads.specs.Laws.{IsRoad}
 
 -- ---- what a list of numbers gives

@@ -8,7 +8,7 @@ use Rattle.mud_world.specs.State.{State, passage_of}
 use Rattle.mud_world.specs.Sound.{IsSound}
 use Rattle.mud_roads.specs.declared.label.Step.{Step}
 use Rattle.mud_roads.specs.Walks.{Roads, EndsLeast, RouteBack}
-use Rattle.mud_roads.specs.Open.{roads_of}
+use Rattle.mud_roads.specs.Passable.{roads_of}
 use Rattle.mud_roads.specs.Laws.{RouteIsOne, MeetingIsOne}
 use Rattle.mud_roads.proofs.Roads.{road-at}
 

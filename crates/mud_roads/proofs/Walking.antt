@@ -16,10 +16,10 @@ use Rattle.mud_world.specs.declared.refusal.Refusal.TheVariants.{NoSuch, WrongKi
 use Rattle.mud_world.specs.Truth.{key_true}
 use Rattle.mud_world.specs.Kinds.{kind_at, kind_place, kind_passage, is_player_kind, is_exit_kind}
 use Rattle.mud_world.specs.State.{State, record_at, exists, has, is_exit, is_number, is_player, place_of, comes_to}
-use Rattle.mud_world.specs.State.{within, passage_of, destination_of, leaving_of, opens, unlocked}
+use Rattle.mud_world.specs.State.{within, passage_of, destination_of, leaving_of, unlocked_in, unlocked}
 use Rattle.mud_world.specs.Sound.{IsSound}
 use Rattle.mud_world.specs.Legal.{fails, refusal, after as world_after}
-use Rattle.mud_world.specs.inner.Parts.{with_record, with_place, leaves_from}
+use Rattle.mud_world.specs.inner.Fields.{with_record, with_place, leaves_from}
 use Rattle.mud_world.proofs.KindLemmas.{same_passage, same_player}
 use Rattle.mud_world.proofs.Records.{record_cases, lookup-set_value_same, lookup-set_value_other}
 use Rattle.mud_world.proofs.Numbering.{passing-keep}
@@ -28,8 +28,8 @@ use Rattle.mud_world.proofs.Least.{refusals_law}
 use Rattle.mud_world.proofs.Sounding.{soundness_law}
 use Rattle.mud_roads.specs.declared.label.Step.{Step}
 use Rattle.mud_roads.specs.Walks.{Roads, Walk}
-use Rattle.mud_roads.specs.Open.{passable, roads_of}
-use Rattle.mud_roads.specs.Open.{open_step}
+use Rattle.mud_roads.specs.Passable.{passable, roads_of}
+use Rattle.mud_roads.specs.Passable.{open_step}
 use Rattle.mud_roads.specs.Laws.{IsRoad, IsWalked}
 use Rattle.mud_roads.proofs.Roads.{road-at}
 
@@ -87,18 +87,20 @@ module _ (w : State) (p y : ℕ) (r : Record) (at : record_at w p ≡ Some r) wh
   kept_within = λ i o.
       (ap (λ b. b && comes_to w' w.next o p) (kept is_some refl o) ∙ ap (λ b. exists w o && b) (kept_comes w.next o)) i
 
-  kept_opens : (n o : ℕ) → opens w' n (λ a. within w' a p) o ≡ opens w n (λ a. within w a p) o
-  kept_opens zero o = kept (λ v. option_map_or (λ r. is_none r.key) v false) refl o
-  kept_opens (suc n) o =
-      let again : opens w' n (λ a. within w' a p) ≡ opens w n (λ a. within w a p) = λ i o. (kept_opens n o) i in
+  kept_unlocked_in : (n o : ℕ) → unlocked_in w' n (λ a. within w' a p) o ≡ unlocked_in w n (λ a. within w a p) o
+  kept_unlocked_in zero o = kept (λ v. option_map_or (λ r. is_none r.key) v false) refl o
+  kept_unlocked_in (suc n) o =
+      let again : unlocked_in w' n (λ a. within w' a p) ≡ unlocked_in w n (λ a. within w a p) =
+      λ i o. (kept_unlocked_in n o) i in
+      let held : ℕ → Bool = λ a. within w a p in
       ap (λ (f : ℕ → Bool). has w' o (λ r. option_map_or (key_true (λ a. within w' a p) f) r.key true)) again
-      ∙ ap (λ (f : ℕ → Bool). has w' o (λ r. option_map_or (key_true f (opens w n (λ a. within w a p))) r.key true))
+      ∙ ap (λ (f : ℕ → Bool). has w' o (λ r. option_map_or (key_true f (unlocked_in w n held)) r.key true))
       kept_within
       ∙ kept (λ v. option_map_or
-      (λ r. option_map_or (key_true (λ a. within w a p) (opens w n (λ a. within w a p))) r.key true) v false) refl o
+      (λ r. option_map_or (key_true held (unlocked_in w n held)) r.key true) v false) refl o
 
   kept_unlocked : (n : ℕ) → unlocked w' p n ≡ unlocked w p n
-  kept_unlocked n = kept_opens 4 n
+  kept_unlocked n = kept_unlocked_in 4 n
 
   kept_passable : (n : ℕ) → passable w' p n ≡ passable w p n
   kept_passable n =

@@ -9,7 +9,7 @@ use Rattle.mud_roads.specs.declared.label.Step.{Step}
 use Rattle.mud_roads.specs.Walks.{Roads, Walk, total, IsLeast, NoWalk, Least, IsRoute, Goer, HasLeast, IsMeeting}
 use Rattle.mud_roads.specs.Walks.{Gathers}
 use Rattle.mud_roads.specs.Labels.{AreValid}
-use Rattle.mud_roads.specs.Open.{passable, roads_of}
+use Rattle.mud_roads.specs.Passable.{passable, roads_of}
 
 -- one at most is so
 abbrev pub IsOne : {A : Type 0} → (A → Type 0) → Type 0

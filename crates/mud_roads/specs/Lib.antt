@@ -1,5 +1,5 @@
 pub mod Walks
 pub mod Labels
-pub mod Open
+pub mod Passable
 pub mod Laws
 pub mod inner

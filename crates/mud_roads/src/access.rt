@@ -1,7 +1,7 @@
 //! What is unlocked for a player.
 
 ghost use Rattle.std.specs.Prelude.{◌≡◌, ℕ, [], ◌++◌, IfOk, OnOk, slice_index_or, false};
-ghost use Rattle.mud_roads.specs.Open.{passable, open_step, roads_of};
+ghost use Rattle.mud_roads.specs.Passable.{passable, open_step, roads_of};
 ghost use Rattle.mud_roads.specs.inner.Tables.{Knows};
 
 use crate::Step;
@@ -13,12 +13,12 @@ use std::alloc::{AllocError, Global};
 #[derive(Drop)]
 pub(crate) struct Access {
     pub(crate) player: u32,
-    opened: Vec<bool>,
+    marks: Vec<bool>,
 }
 
 // Whether each object is unlocked for the player, by number.
 fn unlocked_for(alloc: Global, world: &World, player: u32) -> Result<Vec<bool>, AllocError>
-    ensures { IfOk result (λ opened. Knows world.now player opened.items) }
+    ensures { IfOk result (λ marks. Knows world.now player marks.items) }
 {
     let holding = world.carried(player)?;
     world.judge(alloc, &holding)
@@ -27,18 +27,18 @@ fn unlocked_for(alloc: Global, world: &World, player: u32) -> Result<Vec<bool>, 
 impl Access {
     // What is unlocked for the player.
     pub(crate) fn of(alloc: Global, world: &World, player: u32) -> Result<Access, AllocError>
-        ensures knows { IfOk result (λ a. Knows world.now player a.opened.items) }
+        ensures knows { IfOk result (λ a. Knows world.now player a.marks.items) }
         ensures player { IfOk result (λ a. a.player ≡ player) }
     {
-        let opened = unlocked_for(alloc, world, player)?;
-        Ok(Access { player, opened })
+        let marks = unlocked_for(alloc, world, player)?;
+        Ok(Access { player, marks })
     }
 
     // Whether the object is unlocked for him.
     fn is_unlocked(&self, number: u32) -> bool
-        ensures { result ≡ slice_index_or self.now.opened.items number false }
+        ensures { result ≡ slice_index_or self.now.marks.items number false }
     {
-        match self.opened.get(number as usize) {
+        match self.marks.get(number as usize) {
             Some(open) => *open,
             None => false,
         }
@@ -46,7 +46,7 @@ impl Access {
 
     // The step that an exit makes, where it is open to him.
     pub(crate) fn step_by(&self, world: &World, exit: u32) -> Option<Step>
-        requires { Knows world.now self.now.player self.now.opened.items }
+        requires { Knows world.now self.now.player self.now.marks.items }
         ensures { result ≡ open_step world.now self.now.player exit }
     {
         let passage = world.passage(exit)?;
@@ -63,7 +63,7 @@ impl Access {
 
     // Whether the number is an exit's that is open to him.
     pub(crate) fn passes(&self, world: &World, exit: u32) -> bool
-        requires { Knows world.now self.now.player self.now.opened.items }
+        requires { Knows world.now self.now.player self.now.marks.items }
         ensures { result ≡ passable world.now self.now.player exit }
     {
         match world.passage(exit) {
@@ -73,14 +73,14 @@ impl Access {
     }
 
     // Adds the open exits that leave a room, by rising number.
-    #[tactic(auto, unfolding(crate::specs::Open::roads_of))]
+    #[tactic(auto, unfolding(crate::specs::Passable::roads_of))]
     pub(crate) fn add_steps(
         &self,
         world: &World,
         room: u32,
         steps: &mut Vec<Step>,
     ) -> Result<(), AllocError>
-        requires { Knows world.now self.now.player self.now.opened.items }
+        requires { Knows world.now self.now.player self.now.marks.items }
         ensures { OnOk result (steps.new.items ≡ steps.old.items ++ roads_of world.now self.now.player room) }
     {
         for exit in world.leaving(room) {
@@ -93,7 +93,7 @@ impl Access {
 
     // His roads: for each number the open exits that leave the room.
     pub(crate) fn roads(&self, alloc: Global, world: &World) -> Result<Table, AllocError>
-        requires { Knows world.now self.now.player self.now.opened.items }
+        requires { Knows world.now self.now.player self.now.marks.items }
         ensures { IfOk result (λ t. (room : ℕ) → slice_index_or t room [] ≡ roads_of world.now self.now.player room) }
     {
         let count = world.next_number();

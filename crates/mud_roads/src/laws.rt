@@ -4,7 +4,7 @@ ghost use Rattle.mud_roads.specs.Laws.{LeastIsAlike, ValidIsLeast, LeastIsValid,
 ghost use Rattle.mud_roads.specs.Laws.{RouteIsOne, MeetingIsOne, MeetingIsAlike};
 ghost use Rattle.std.specs.Prelude.{ℕ, AllPairs, Contains, ◌<◌, ◌↔◌, Some, IsTrue, List, ◌≡◌};
 ghost use Rattle.mud_roads.specs.Walks.{Least, Roads, Walk};
-ghost use Rattle.mud_roads.specs.Open.{roads_of};
+ghost use Rattle.mud_roads.specs.Passable.{roads_of};
 ghost use Rattle.mud_roads.specs.declared.label.Step.{Step};
 ghost use Rattle.mud_world.specs.Sound.{IsSound};
 ghost use Rattle.mud_world.specs.State.{State, is_player, place_of};

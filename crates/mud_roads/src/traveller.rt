@@ -2,7 +2,7 @@
 
 ghost use Rattle.std.specs.Prelude.{◌≡◌, IfOk, IsTrue};
 ghost use Rattle.mud_world.specs.State.{is_player};
-ghost use Rattle.mud_roads.specs.Open.{passable, open_step, roads_of, known_roads, IsTraveller};
+ghost use Rattle.mud_roads.specs.Passable.{passable, open_step, roads_of, known_roads, IsTraveller};
 
 use crate::Step;
 use crate::access::Access;
@@ -22,13 +22,13 @@ pub struct Traveller {
 }
 
 impl Model for Traveller {
-    ghost use Rattle.mud_roads.specs.Open.{Knowledge, knowledge_of, knowledge_code};
+    ghost use Rattle.mud_roads.specs.Passable.{Knowledge, knowledge_of, knowledge_code};
 
     ghost Value = { Knowledge };
 
     ghost coded = { knowledge_code };
 
-    ghost view = { λ t. knowledge_of t.access.player t.place t.access.opened.items t.roads };
+    ghost view = { λ t. knowledge_of t.access.player t.place t.access.marks.items t.roads };
 }
 
 impl Traveller {

@@ -10,7 +10,8 @@ use Rattle.std.specs.Prelude.{MatchOption, IfSome, Result, Ok, Err, OnErr}
 use Rattle.std.specs.Option.{option_copied}
 use Rattle.mud_chron.specs.Entry.{Entry}
 use Rattle.std.proofs.Math.ListN.{length-set}
-use Rattle.mud_row.specs.Known.{Known, Fills, entry_at, names_of, entry_first, known_front, known_of, AreCounted}
+use Rattle.mud_row.specs.Known.{Known, Fills, entry_at, known_of, AreCounted}
+use Rattle.mud_row.specs.inner.Known.{names_of, entry_first, known_front}
 
 -- the note at a place has the name of the cell at that place
 pub name_at : (cells : List (Global × ℕ)) (ns : List (Note Entry)) (i : ℕ) (c : Global × ℕ) (n : Note Entry)
@@ -32,6 +33,9 @@ same_length (c ∷ cells) (n ∷ ns) e = ap suc (same_length cells ns cc)
 pub names-length : (ns : List (Note Entry)) → length (names_of ns) ≡ length ns
 names-length [] = refl
 names-length (n ∷ ns) = ap suc (names-length ns)
+
+pub names_as_many : (xs ys : List (Note Entry)) → names_of xs ≡ names_of ys → length xs ≡ length ys
+names_as_many xs ys same = omega (arith, ap length same, names-length xs, names-length ys)
 
 pub names-set : (ns : List (Note Entry)) (i : ℕ) (n m : Note Entry) → n ≡ get_or ns i n → m.cell ≡ n.cell
     → names_of (set ns i m) ≡ names_of ns

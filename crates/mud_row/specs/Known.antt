@@ -1,10 +1,11 @@
 -- What is known of a row of cells, each of which takes one entry and keeps it.
-use Rattle.std.specs.Prelude.{◌≡◌, ◌≤◌, ◌+◌, length, ℕ, zero, suc, List, [], ◌∷◌, ◌++◌, Option, Some, None}
+use Rattle.std.specs.Prelude.{◌≡◌, ◌≤◌, ◌+◌, length, ℕ, zero, suc, List, ◌++◌, Option, None}
 use Rattle.std.specs.Prelude.{slice_get, take, drop}
 use Rattle.once_cell.specs.declared.race.note.Note.{Note}
 use Rattle.mud_world.specs.declared.limits.TheConstants.{MOST_ENTRIES}
 use Rattle.mud_chron.specs.Entry.{Entry}
 use Rattle.mud_chron.specs.Text.{entries_text}
+use Rattle.mud_row.specs.inner.Known.{names_of, known_front}
 
 -- a pass: the names of the cells of its row, in order, and the entries of the first cells, which it knows
 pub record Known : Type 0 where
@@ -16,22 +17,6 @@ pub record Standing : Type 0 where
   pub row : List ℕ
   pub list : List Entry
   pub at : ℕ
-
--- the names of the cells that these notes are of
-abbrev pub names_of : List (Note Entry) → List ℕ
-names_of [] = []
-names_of (n ∷ ns) = n.cell ∷ names_of ns
-
--- entries with this one in front, if there is one
-abbrev pub entry_first : Option Entry → List Entry → List Entry
-entry_first None es = []
-entry_first (Some e) es = e ∷ es
-
--- the entries of the first so many notes, up to one that knows none
-abbrev pub known_front : ℕ → List (Note Entry) → List Entry
-known_front zero ns = []
-known_front (suc k) [] = []
-known_front (suc k) (n ∷ ns) = entry_first n.known (known_front k ns)
 
 -- what a holder of notes knows. A reader need not look into this: contracts give each entry, and speak of a `Known`
 abbrev pub known_of : ℕ → List (Note Entry) → Known

@@ -6,7 +6,7 @@
 ghost use Rattle.std.specs.Prelude.{◌≡◌, ◌⊎◌, ◌≤◌, length, take, IfOk};
 ghost use mathlib.Core.List.{IsPrefix};
 ghost use Rattle.mud_world.specs.declared.limits.TheConstants.{MOST_ENTRIES};
-ghost use Rattle.mud_row.specs.Known.{names_of, known_front};
+ghost use Rattle.mud_row.specs.inner.Known.{names_of, known_front};
 
 use mud_chron::Entry;
 use once_cell::race::Note;

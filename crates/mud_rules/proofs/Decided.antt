@@ -11,7 +11,7 @@ use Rattle.mud_key.specs.declared.limits.TheConstants.{LAST_NUMBER}
 use Rattle.mud_key.specs.Name.{IsName}
 use Rattle.mud_key.specs.Names.{AreNames}
 use Rattle.mud_key.specs.Tree.{Tree, Has, Asks, Not, Join, AllObjects, IsKey}
-use Rattle.mud_key.specs.Reading.{names_in, name_in, key_in}
+use Rattle.mud_key.specs.Finds.{names_in, name_in, key_in}
 use Rattle.mud_key.specs.Namer.{result_map, joined_result, resolved}
 use Rattle.mud_key.specs.declared.namer.Miss.{Miss}
 use Rattle.mud_key.specs.declared.namer.Miss.TheVariants.{NoSuch as MissNoSuch}
@@ -20,15 +20,15 @@ use Rattle.mud_key.proofs.NamesTaken.{are_names}
 use Rattle.mud_key.proofs.Resolving.{resolved_key}
 use Rattle.mud_words.specs.Line.{Line}
 use Rattle.mud_words.specs.Parse.{parse_of}
-use Rattle.mud_words.specs.inner.Searching.{join_words}
+use Rattle.mud_words.specs.inner.Spots.{join_words}
 use Rattle.mud_words.specs.declared.Prep.TheVariants.{With, To, Is}
 use Rattle.mud_world.specs.Speech.{is_speech}
 use Rattle.mud_world.specs.Refusals.{number, lesser}
 use Rattle.mud_world.specs.State.{State, exists, named_player, is_room, is_player}
 use Rattle.mud_world.specs.Sound.{IsSound}
 use Rattle.mud_world.specs.Legal.{refusal, is_arrival}
-use Rattle.mud_world.specs.Parts.{HasParts, IsTarget}
-use Rattle.mud_world.specs.inner.Parts.{AreDoors}
+use Rattle.mud_world.specs.DeedParts.{HasParts, IsTarget}
+use Rattle.mud_world.specs.inner.Fields.{AreDoors}
 use Rattle.mud_world.specs.declared.change.Change.{Change}
 use Rattle.mud_world.specs.declared.change.Deed.{Deed}
 use Rattle.mud_world.specs.declared.change.Deed.TheVariants as deed
@@ -46,20 +46,17 @@ use Rattle.mud_rules.specs.declared.verdict.View.TheVariants.{Look, LookAt}
 use Rattle.mud_rules.specs.declared.verdict.Query.TheVariants as query
 use Rattle.mud_rules.specs.declared.verdict.Verdict.{Verdict}
 use Rattle.mud_rules.specs.declared.verdict.Verdict.TheVariants as verdict
-use Rattle.mud_rules.specs.Matching.{is_empty, number_in, local_match, match_among, object_number}
-use Rattle.mud_rules.specs.Outcome.{outcome, does, does_read, object_meant, of_kind, on_found, if_shaped}
-use Rattle.mud_rules.specs.Outcome.{IsActor, IsJourney, IsQuestion, IsLawful}
+use Rattle.mud_rules.specs.Matches.{is_empty, number_in, local_match, match_among, object_number}
+use Rattle.mud_rules.specs.Outcome.{outcome, does, does_read, object_meant, of_kind, on_found, if_shaped, IsLawful}
+use Rattle.mud_rules.specs.inner.Outcome.{IsActor, IsJourney, IsQuestion}
 use Rattle.mud_rules.specs.declared.verdict.Journey.{Journey}
 use Rattle.mud_rules.specs.declared.verdict.Journey.TheVariants.{Route}
 use Rattle.mud_rules.proofs.Parties.{meet-lawful}
-use Rattle.mud_rules.specs.Commands.{key_meant}
-use Rattle.mud_rules.specs.Commands.{doors_in, is_bar, target_in, dig_between}
-use Rattle.mud_rules.specs.inner.Parts.{create, rename, cost, lock, dig_room, has_bar, dig_exits, connect_named}
-use Rattle.mud_rules.specs.inner.Parts.{connect, route, meet, is_aimed}
-use Rattle.mud_rules.specs.inner.Parts.{near_named}
-use Rattle.mud_rules.specs.inner.Parts.{first_of, has_empty_side}
-use Rattle.mud_rules.specs.Shapes.{all_of, looked_at, is_pair, text_behind}
-use Rattle.mud_rules.specs.Shapes.{object_named, object_before}
+use Rattle.mud_rules.specs.Commands.{key_meant, doors_in, is_bar, target_in, dig_between, create, rename, cost, lock}
+use Rattle.mud_rules.specs.Commands.{dig_room, has_bar, dig_exits, connect_named, connect, near_named, has_empty_side}
+use Rattle.mud_rules.specs.Journeys.{route, meet}
+use Rattle.mud_rules.specs.Shapes.{is_aimed, first_of, all_of, looked_at, is_pair, text_behind, object_named}
+use Rattle.mud_rules.specs.Shapes.{object_before}
 use Rattle.mud_rules.specs.Table.{connect_line, journey_of, command, other_line, guest, decision, verb_named}
 use Rattle.mud_rules.specs.Laws.{IsMade}
 use Rattle.mud_rules.proofs.Bounds.{number_of_object}

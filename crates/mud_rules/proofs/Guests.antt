@@ -2,7 +2,7 @@
 use Rattle.std.proofs.Common.{◌≡◌, ℕ, Bool, true, false, List, Option, Some, None, subst}
 use Rattle.std.specs.Prelude.{not}
 use Rattle.std.specs.Option.{option_map_or}
-use Rattle.mud_key.specs.Reading.{name_in}
+use Rattle.mud_key.specs.Finds.{name_in}
 use Rattle.mud_words.specs.Line.{Line}
 use Rattle.mud_world.specs.State.{State, named_player}
 use Rattle.mud_world.specs.declared.refusal.Refusal.{Refusal}
@@ -17,8 +17,9 @@ use Rattle.mud_rules.specs.declared.verdict.Query.TheVariants as query
 use Rattle.mud_rules.specs.declared.verdict.Verdict.{Verdict}
 use Rattle.mud_rules.specs.declared.verdict.Verdict.TheVariants as verdict
 use Rattle.mud_rules.specs.Outcome.{outcome, if_shaped}
-use Rattle.mud_rules.specs.Matching.{is_empty}
-use Rattle.mud_rules.specs.inner.Parts.{connect, connect_named, first_of}
+use Rattle.mud_rules.specs.Matches.{is_empty}
+use Rattle.mud_rules.specs.Commands.{connect, connect_named}
+use Rattle.mud_rules.specs.Shapes.{first_of}
 use Rattle.mud_rules.specs.Table.{guest, decision, verb_named}
 use Rattle.mud_rules.specs.declared.verdict.Journey.{Journey}
 use Rattle.mud_rules.proofs.Ordered.{outcome_is}

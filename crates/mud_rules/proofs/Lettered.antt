@@ -1,5 +1,5 @@
 -- Verbs by their first letter.
-use Rattle.std.proofs.Common.{◌≡◌, ◌<◌, ℕ, false, eqb, List, [], ◌∷◌, ◌++◌, length, Option, None}
+use Rattle.std.proofs.Common.{◌≡◌, ◌<◌, ℕ, false, eqb, List, [], ◌∷◌, length, Option, None}
 use Rattle.std.proofs.Common.{get_or, filter, refl, sym, subst, inl, inr, arith}
 use Rattle.std.specs.Char.{to_ascii_lowercase}
 use Rattle.std.specs.Map.{lookup}
@@ -7,13 +7,10 @@ use Rattle.std.specs.Str.{bytes_eq, str_eq_ignore_ascii_case, str_to_ascii_lower
 use Rattle.std.proofs.lemmas.Bool.{cases_eq}
 use Rattle.std.proofs.lemmas.Bool.Decides.{nat_tests}
 use Rattle.mud_rules.specs.declared.verb.Verb.{Verb}
-use Rattle.mud_rules.specs.Table.{question_verbs, other_verbs, verb_named}
+use Rattle.mud_rules.specs.Table.{verbs, verb_named}
 
 abbrev Rows : Type 0
 Rows = List (List ℕ × Verb)
-
-abbrev all_rows : Rows
-all_rows = question_verbs ++ other_verbs
 
 -- the verb that a word in lower case is among some rows
 abbrev among : List ℕ → Rows → Option Verb
@@ -21,18 +18,18 @@ among word rows = lookup (λ other. bytes_eq word (str_to_ascii_lowercase other)
 
 -- rows among which words that begin with a letter find what they find among all
 abbrev pub Serves : ℕ → Rows → Type 0
-Serves letter rows = (ls : List ℕ) → among (letter ∷ ls) rows ≡ among (letter ∷ ls) all_rows
+Serves letter rows = (ls : List ℕ) → among (letter ∷ ls) rows ≡ among (letter ∷ ls) verbs
 
 -- those of all rows that begin with a letter
 abbrev pub with_letter : ℕ → Rows
-with_letter letter = filter (λ row. eqb (get_or row.0 0 0) letter) all_rows
+with_letter letter = filter (λ row. eqb (get_or row.0 0 0) letter) verbs
 
 pub by_letter : (letter : ℕ) (rows : Rows) → Serves letter rows → (c : ℕ) (cs : List ℕ) → to_ascii_lowercase c ≡ letter
     → lookup (str_eq_ignore_ascii_case (c ∷ cs)) rows ≡ verb_named (c ∷ cs)
 unfolding verb_named
 by_letter letter rows serves c cs same =
     let word : ℕ → List ℕ = λ l. l ∷ str_to_ascii_lowercase cs in
-    subst (λ (l : ℕ). among (word l) rows ≡ among (word l) all_rows) (sym same) (serves (str_to_ascii_lowercase cs))
+    subst (λ (l : ℕ). among (word l) rows ≡ among (word l) verbs) (sym same) (serves (str_to_ascii_lowercase cs))
 
 differs : (b c : ℕ) → (b ≡ c → ⊥) → eqb b c ≡ false
 differs b c other = elim (cases_eq b c) [ inl same ↦ absurd (other same) | inr _ ↦ grind (arith, nat_tests) ]

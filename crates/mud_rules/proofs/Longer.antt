@@ -14,9 +14,8 @@ use Rattle.mud_world.specs.declared.record.Record.{Record}
 use Rattle.mud_rules.specs.declared.matching.Likeness.TheVariants.{Equal, Prefix}
 use Rattle.mud_rules.specs.declared.matching.Match.{Match}
 use Rattle.mud_rules.specs.declared.matching.Match.TheVariants.{NoSuch, Ambiguous}
-use Rattle.mud_rules.specs.Matching.{is_like, sole, sole_like}
-use Rattle.mud_rules.specs.inner.Parts.{is_named}
-use Rattle.mud_rules.specs.inner.Steps.{fits, sole_fit}
+use Rattle.mud_rules.specs.Matches.{is_like, sole, sole_like}
+use Rattle.mud_rules.specs.inner.Steps.{is_named, fits, sole_fit}
 use Rattle.mud_rules.proofs.Least.{bool_cases}
 
 -- ---- one name

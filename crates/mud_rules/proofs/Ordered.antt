@@ -14,13 +14,13 @@ use Rattle.mud_world.specs.declared.refusal.Refusal.TheVariants.{BadCost, Recurs
 use Rattle.mud_world.specs.declared.refusal.Refusal.TheVariants.{LockedThing, InUse, WorldFull, PartyBad}
 use Rattle.mud_world.specs.Refusals.{lesser}
 use Rattle.mud_world.specs.State.{State}
-use Rattle.mud_world.specs.Legal.{fails, refusal, refusals}
+use Rattle.mud_world.specs.Legal.{fails, refusal}
+use Rattle.mud_world.specs.inner.Refusals.{refusals}
 use Rattle.mud_rules.specs.declared.verdict.Verdict.TheVariants.{Change as Changes, Refused}
 use Rattle.mud_rules.specs.Outcome.{outcome}
 use Rattle.mud_rules.specs.declared.verdict.Journey.TheVariants.{Meet}
-use Rattle.mud_rules.specs.Journeys.{meeting, least_refusal}
-use Rattle.mud_rules.specs.inner.Parts.{members, all_refusals, refuses}
-use Rattle.mud_rules.specs.inner.Steps.{unfit}
+use Rattle.mud_rules.specs.Journeys.{meeting, least_refusal, members}
+use Rattle.mud_rules.specs.inner.Steps.{all_refusals, refuses, unfit}
 use Rattle.mud_rules.proofs.Least.{lesser_first, find-append_miss}
 
 -- three refusals are of lines only

@@ -11,14 +11,14 @@ use Rattle.mud_world.specs.declared.refusal.Refusal.{Refusal}
 use Rattle.mud_world.specs.declared.refusal.Refusal.TheVariants.{NoSuch, WrongKind, PartyBad}
 use Rattle.mud_world.specs.Refusals.{number, lesser, refused_if}
 use Rattle.mud_world.specs.State.{State, is_player}
-use Rattle.mud_rules.specs.Matching.{match_among}
+use Rattle.mud_rules.specs.Matches.{match_among}
 use Rattle.mud_rules.specs.Party.{IsParty, all_distinct, is_party}
-use Rattle.mud_rules.specs.Journeys.{player_meant, least_refusal}
-use Rattle.mud_rules.specs.inner.Parts.{members, meet}
+use Rattle.mud_rules.specs.Journeys.{player_meant, least_refusal, members, meet}
 use Rattle.mud_rules.specs.inner.Steps.{unfit}
-use Rattle.mud_key.specs.Parts.{parts_of}
+use Rattle.mud_key.specs.Commas.{parts_of}
 use Rattle.mud_rules.specs.declared.verdict.Journey.TheVariants.{Meet}
-use Rattle.mud_rules.specs.Outcome.{IsJourney, of_kind, object_meant as meant}
+use Rattle.mud_rules.specs.Outcome.{of_kind, object_meant as meant}
+use Rattle.mud_rules.specs.inner.Outcome.{IsJourney}
 use Rattle.mud_rules.proofs.Least.{bool_cases}
 use Rattle.mud_rules.proofs.Ordered.{meeting_is}
 

@@ -1,16 +1,12 @@
 -- What a line asks, the verb of a question asks.
-use Rattle.std.proofs.Common.{◌≡◌, ℕ, Bool, true, false, List, [], ◌∷◌, Option, None, Some, Result, Ok, Err}
-use Rattle.std.proofs.Common.{refl, sym, ◌∙◌, subst, ap}
-use Rattle.std.specs.Prelude.{not, ◌&&◌, ◌||◌, is_none, if◌then◌else◌}
-use Rattle.std.specs.Option.{option_map_or, option_or, is_some}
-use Rattle.std.specs.List.{list_any}
-use Rattle.std.specs.Map.{lookup}
-use Rattle.std.specs.Str.{str_eq_ignore_ascii_case}
-use Rattle.std.proofs.lemmas.Bool.{true≢false}
-use Rattle.mud_key.specs.Reading.{name_in}
+use Rattle.std.proofs.Common.{◌≡◌, ℕ, Bool, true, false, List, Option, None, Some, Result, Ok, Err}
+use Rattle.std.proofs.Common.{refl, subst}
+use Rattle.std.specs.Prelude.{not, ◌&&◌, is_none, if◌then◌else◌}
+use Rattle.std.specs.Option.{option_map_or}
+use Rattle.mud_key.specs.Finds.{name_in}
 use Rattle.mud_words.specs.Line.{Line}
 use Rattle.mud_words.specs.Parse.{parse_of}
-use Rattle.mud_words.specs.inner.Searching.{join_words}
+use Rattle.mud_words.specs.inner.Spots.{join_words}
 use Rattle.mud_words.specs.declared.Prep.TheVariants.{To}
 use Rattle.mud_world.specs.Refusals.{lesser}
 use Rattle.mud_world.specs.State.{State, named_player}
@@ -25,17 +21,14 @@ use Rattle.mud_rules.specs.declared.verdict.View.TheVariants.{Look, LookAt, Inve
 use Rattle.mud_rules.specs.declared.verdict.Query.TheVariants as query
 use Rattle.mud_rules.specs.declared.verdict.Verdict.{Verdict}
 use Rattle.mud_rules.specs.declared.verdict.Verdict.TheVariants as verdict
-use Rattle.mud_rules.specs.Matching.{is_empty}
-use Rattle.mud_rules.specs.inner.Steps.{asks}
+use Rattle.mud_rules.specs.Matches.{is_empty}
 use Rattle.mud_rules.specs.Outcome.{outcome, does, on_found, if_shaped}
-use Rattle.mud_rules.specs.inner.Parts.{connect, connect_named, dig_room, dig_exits, first_of, has_empty_side}
-use Rattle.mud_rules.specs.Shapes.{all_of, looked_at, object_named, is_pair, text_behind}
-use Rattle.mud_rules.specs.Table.{journey_of}
-use Rattle.mud_rules.specs.Table.{question_verbs, other_verbs, verb_named, connect_line, command, other_line, guest}
-use Rattle.mud_rules.specs.Table.{decision}
+use Rattle.mud_rules.specs.Commands.{connect, connect_named, dig_room, dig_exits, has_empty_side}
+use Rattle.mud_rules.specs.Shapes.{first_of, all_of, looked_at, object_named, is_pair, text_behind}
+use Rattle.mud_rules.specs.Table.{verb_named, connect_line, journey_of, command, other_line, guest, decision}
+use Rattle.mud_rules.specs.Table.{asks, is_question}
 use Rattle.mud_rules.specs.Laws.{AreQuestions}
 use Rattle.mud_rules.proofs.Ordered.{outcome_is}
-use Rattle.mud_rules.proofs.Finding.{lookup-append}
 
 -- what is asked, only a question asks
 abbrev AsksIf : Bool → Verdict → Type 0
@@ -123,8 +116,7 @@ asks-guest w l (Some verb.Connect) = asks-connect_line false w l
 asks-guest w l (Some verb.Quit) = asks-shaped true (is_empty l.args) (verdict.Ask (query.View Quit)) refl
 asks-guest w l (Some other) = tt
 
-asks-decision : (w : State) (player : Option ℕ) (l : Line)
-    → AsksIf (option_map_or asks (verb_named l.verb) false) (decision w player l)
+asks-decision : (w : State) (player : Option ℕ) (l : Line) → AsksIf (is_question l) (decision w player l)
 unfolding decision
 asks-decision w None l = asks-guest w l (verb_named l.verb)
 asks-decision w (Some p) l = go (verb_named l.verb)
@@ -133,51 +125,5 @@ asks-decision w (Some p) l = go (verb_named l.verb)
     go None = asks-other w p l
     go (Some v) = asks-command w p l v
 
--- ---- words of questions
-
--- no other word is that of a verb that asks
-plain : (test : List ℕ → Bool) (rows : List (List ℕ × Verb)) → list_any (λ row. asks row.1) rows ≡ false
-    → option_map_or asks (lookup test rows) false ≡ false
-plain test [] none = refl
-plain test (row ∷ rows) none = go (test row.0) (asks row.1) refl none (plain test rows)
-  where
-    go : (here asking : Bool) → asks row.1 ≡ asking → (asking || list_any (λ row. asks row.1) rows) ≡ false
-        → (list_any (λ row. asks row.1) rows ≡ false → option_map_or asks (lookup test rows) false ≡ false)
-        → option_map_or asks (if here then Some row.1 else lookup test rows) false ≡ false
-    go here true is none later = absurd (true≢false none)
-    go true false is none later = is
-    go false false is none later = later none
-
--- what a word of a question names, asks
-asking : (test : List ℕ → Bool) (rows : List (List ℕ × Verb)) → list_any (λ row. not (asks row.1)) rows ≡ false
-    → is_some (lookup test rows) ≡ option_map_or asks (lookup test rows) false
-asking test [] all = refl
-asking test (row ∷ rows) all = go (test row.0) (asks row.1) refl all (asking test rows)
-  where
-    go : (here asked : Bool) → asks row.1 ≡ asked → (not asked || list_any (λ row. not (asks row.1)) rows) ≡ false
-        → (list_any (λ row. not (asks row.1)) rows ≡ false
-        → is_some (lookup test rows) ≡ option_map_or asks (lookup test rows) false)
-        → is_some (if here then Some row.1 else lookup test rows)
-        ≡ option_map_or asks (if here then Some row.1 else lookup test rows) false
-    go here false is all later = absurd (true≢false all)
-    go true true is all later = sym is
-    go false true is all later = later all
-
-either : (question other : Option Verb) → is_some question ≡ option_map_or asks question false
-    → option_map_or asks other false ≡ false → is_some question ≡ option_map_or asks (option_or question other) false
-either None other asking plain = sym plain
-either (Some v) other asking plain = asking
-
--- the words of questions are those whose verb asks
-pub questioned : (text : List ℕ)
-    → is_some (lookup (str_eq_ignore_ascii_case text) question_verbs) ≡ option_map_or asks (verb_named text) false
-unfolding verb_named
-questioned text =
-    let test : List ℕ → Bool = str_eq_ignore_ascii_case text in
-    either (lookup test question_verbs) (lookup test other_verbs) (asking test question_verbs refl)
-    (plain test other_verbs refl)
-    ∙ sym (ap (λ o. option_map_or asks o false) (lookup-append test question_verbs other_verbs))
-
 pub are_questions : AreQuestions
-are_questions w player l q is =
-    questioned l.verb ∙ subst (AsksIf (option_map_or asks (verb_named l.verb) false)) is (asks-decision w player l)
+are_questions w player l q is = subst (AsksIf (is_question l)) is (asks-decision w player l)

@@ -2,9 +2,8 @@
 use Rattle.std.proofs.Common.{◌≡◌, ℕ, Bool, true, false, cond, List, [], ◌∷◌, refl, ◌∙◌, ap, sym}
 use Rattle.std.specs.Prelude.{◌||◌, if◌then◌else◌}
 use Rattle.std.specs.List.{list_any, slice_split, onto_first}
-use Rattle.mud_rules.specs.Matching.{is_empty}
-use Rattle.mud_rules.specs.Commands.{is_bar}
-use Rattle.mud_rules.specs.inner.Parts.{has_empty_side}
+use Rattle.mud_rules.specs.Matches.{is_empty}
+use Rattle.mud_rules.specs.Commands.{is_bar, has_empty_side}
 use Rattle.mud_rules.proofs.Least.{bool_cases}
 
 -- of the sides between bars one is empty; fresh says that nothing stands in this side yet

@@ -7,8 +7,8 @@ use Rattle.mud_world.specs.declared.record.Kind.TheVariants.{Room, Exit}
 use Rattle.mud_rules.specs.declared.verdict.View.{View}
 use Rattle.mud_rules.specs.declared.verdict.View.TheVariants.{Look, LookAt, Inventory, KeyOf, Version, Quit}
 use Rattle.mud_world.specs.State.{State, record_at, place_of, is_number, contents_of, leaving_of, key_of}
-use Rattle.mud_rules.specs.Matching.{is_empty}
-use Rattle.mud_rules.specs.Listing.{entry_text, object_list, listed_under}
+use Rattle.mud_rules.specs.Matches.{is_empty}
+use Rattle.mud_rules.specs.ObjectLists.{entry_text, object_list, listed_under}
 
 -- what is seen of a kind: the exits of a room, the ends and the cost of an exit
 abbrev pub kind_text : State → ℕ → Kind → List ℕ

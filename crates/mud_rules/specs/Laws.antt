@@ -9,7 +9,7 @@ use Rattle.mud_world.specs.declared.change.Doors.{Doors}
 use Rattle.mud_world.specs.declared.refusal.Refusal.{Refusal}
 use Rattle.mud_world.specs.declared.refusal.Refusal.TheVariants.{BadName, BadKey, BadCost}
 use Rattle.mud_words.specs.Line.{Line}
-use Rattle.mud_world.specs.Parts.{HasParts}
+use Rattle.mud_world.specs.DeedParts.{HasParts}
 use Rattle.mud_world.specs.State.{State}
 use Rattle.mud_world.specs.Legal.{refusal}
 use Rattle.mud_rules.specs.declared.verdict.Verdict.TheVariants.{Ask}

@@ -1,4 +1,4 @@
-pub mod Matching
+pub mod Matches
 pub mod Party
 pub mod Outcome
 pub mod Commands
@@ -6,8 +6,8 @@ pub mod Journeys
 pub mod Shapes
 pub mod Table
 pub mod Laws
-pub mod Listing
+pub mod ObjectLists
 pub mod Replies
 pub mod Answers
-pub mod Hearing
+pub mod HeardLine
 pub mod inner

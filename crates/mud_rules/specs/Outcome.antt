@@ -1,24 +1,19 @@
 -- How the refusals of a line come together.
-use Rattle.std.specs.Prelude.{◌≡◌, ℕ, nat_lt, Bool, true, false}
-use Rattle.std.specs.Prelude.{Option, Some, None, is_none, unwrap_or, Result, Ok, Err, IsTrue, if◌then◌else◌}
+use Rattle.std.specs.Prelude.{◌≡◌, ℕ, nat_lt, Bool}
+use Rattle.std.specs.Prelude.{Option, None, is_none, unwrap_or, Result, Ok, Err, IsTrue, if◌then◌else◌}
 use Rattle.std.specs.Option.{option_map_or}
-use Rattle.std.specs.List.{All}
 use Rattle.mud_world.specs.declared.change.Change.{Change}
 use Rattle.mud_world.specs.declared.change.Deed.{Deed}
 use Rattle.mud_world.specs.declared.refusal.Refusal.{Refusal}
 use Rattle.mud_world.specs.declared.refusal.Refusal.TheVariants.{NotUnderstood, Ambiguous, WrongKind}
 use Rattle.mud_world.specs.Refusals.{number, refused_if, lesser}
-use Rattle.mud_world.specs.State.{State, is_room, is_player}
-use Rattle.mud_world.specs.Legal.{refusal, is_arrival}
+use Rattle.mud_world.specs.State.{State, is_player}
+use Rattle.mud_world.specs.Legal.{refusal}
 use Rattle.mud_rules.specs.declared.matching.Match.{Match}
 use Rattle.mud_rules.specs.declared.matching.Match.TheVariants.{Ambiguous as MeansSeveral}
-use Rattle.mud_rules.specs.declared.verdict.Journey.{Journey}
-use Rattle.mud_rules.specs.declared.verdict.Journey.TheVariants.{Route, Meet}
-use Rattle.mud_rules.specs.declared.verdict.Query.{Query}
-use Rattle.mud_rules.specs.declared.verdict.Query.TheVariants as query
 use Rattle.mud_rules.specs.declared.verdict.Verdict.{Verdict}
 use Rattle.mud_rules.specs.declared.verdict.Verdict.TheVariants.{Change as Changes, Ask, Become, Refused}
-use Rattle.mud_rules.specs.Party.{IsParty}
+use Rattle.mud_rules.specs.inner.Outcome.{IsActor, IsQuestion}
 
 -- ---- a change and its refusals
 
@@ -64,22 +59,6 @@ abbrev pub if_shaped : Bool → Verdict → Verdict
 if_shaped fits v = if fits then v else Refused NotUnderstood
 
 -- ---- what is true of all that a line comes to
-
--- the player is the actor; of a new player the actor is the next number
-pub record IsActor (w : State) (player : Option ℕ) (e : Change) : Type 0 where
-  pub old : is_arrival e.deed ≡ false → player ≡ Some e.actor
-  pub new : is_arrival e.deed ≡ true → e.actor ≡ w.next
-
--- a room that is asked for is a room of the world, and those who are to meet are a party of its players
-abbrev pub IsJourney : State → Journey → Type 0
-IsJourney w (Route to) = IsTrue (is_room w to)
-IsJourney w (Meet party) = All (λ p. IsTrue (is_player w p)) party × IsParty party
-
--- what is true of every question
-abbrev pub IsQuestion : State → Query → Type 0
-IsQuestion w (query.Journey journey) = IsJourney w journey
-IsQuestion w (query.Proof journey) = IsJourney w journey
-IsQuestion w other = Unit {0}
 
 -- what follows of a verdict. A reader need not look into this: the clause `decision` says what the verdict is
 abbrev pub IsLawful : State → Option ℕ → Verdict → Type 0

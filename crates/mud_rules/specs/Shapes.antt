@@ -1,7 +1,7 @@
 -- The shapes of lines: which words, texts and objects a line gives to its command, or the refusal of another shape.
-use Rattle.std.specs.Prelude.{ℕ, Bool, true, false, not, ◌&&◌, List, ◌∷◌, codes, Option, Some, Result, Ok}
-use Rattle.std.specs.Prelude.{Err}
-use Rattle.std.specs.Prelude.{if◌then◌else◌}
+use Rattle.std.specs.Prelude.{ℕ, Bool, true, false, not, ◌&&◌, List, [], ◌∷◌, get_or, codes, Option, Some, Result}
+use Rattle.std.specs.Prelude.{Ok, Err, if◌then◌else◌}
+use Rattle.std.specs.List.{join_with_byte}
 use Rattle.std.specs.Str.{str_eq_ignore_ascii_case}
 use Rattle.mud_words.specs.declared.codes.TheConstants.{SPACE}
 use Rattle.mud_words.specs.declared.Prep.{Prep}
@@ -10,15 +10,18 @@ use Rattle.mud_words.specs.Line.{Line}
 use Rattle.mud_world.specs.declared.refusal.Refusal.{Refusal}
 use Rattle.mud_world.specs.declared.refusal.Refusal.TheVariants.{NotUnderstood, NoSuch}
 use Rattle.mud_world.specs.State.{State}
-use Rattle.mud_rules.specs.Matching.{is_empty, local_match}
+use Rattle.mud_rules.specs.Matches.{is_empty, local_match}
 use Rattle.mud_rules.specs.Outcome.{object_meant, both}
-use Rattle.std.specs.List.{join_with_byte}
 
 -- ---- words
 
 -- the words after the verb
 abbrev pub all_of : Line → List ℕ
 all_of l = join_with_byte SPACE l.args
+
+-- the word after the verb, or the empty text; further words are ignored
+abbrev pub first_of : Line → List ℕ
+first_of l = get_or l.args 0 []
 
 -- without a first `at` that has more after it
 abbrev pub looked_at : List (List ℕ) → List (List ℕ)
@@ -38,6 +41,10 @@ is_prep p q = false
 -- two texts of some byte, with this between them
 abbrev pub is_pair : Prep → Line → Bool
 is_pair prep l = is_prep prep l.prep && (not (is_empty l.direct) && not (is_empty l.indirect))
+
+-- a text of some byte after this, and none before it
+abbrev pub is_aimed : Prep → Line → Bool
+is_aimed prep l = is_prep prep l.prep && (is_empty l.direct && not (is_empty l.indirect))
 
 -- ---- what a line gives
 

@@ -4,7 +4,7 @@ ghost use Rattle.std.specs.Prelude.{◌≡◌, ◌++◌, [], Some, not, codes, f
 ghost use Rattle.std.specs.Option.{option_map_or};
 ghost use Rattle.mud_key.specs.Printed.{printed, by_text};
 ghost use Rattle.mud_world.specs.State.{contents_of, is_number, key_of, leaving_of, place_of};
-ghost use Rattle.mud_rules.specs.Listing.{object_list, listed_under};
+ghost use Rattle.mud_rules.specs.ObjectLists.{object_list, listed_under};
 ghost use Rattle.mud_rules.specs.Answers.{kind_text, look_text, inventory_text, key_of_text, show_text};
 
 use crate::View;

@@ -2,8 +2,7 @@
 
 ghost use Rattle.std.specs.Prelude.{◌≡◌, IfOk};
 ghost use Rattle.mud_words.specs.Line.{line_of};
-ghost use Rattle.mud_rules.specs.Commands.{dig_between};
-ghost use Rattle.mud_rules.specs.inner.Parts.{cost, create, dig_exits, dig_room, rename};
+ghost use Rattle.mud_rules.specs.Commands.{dig_between, cost, create, dig_exits, dig_room, rename};
 ghost use Rattle.mud_rules.specs.Outcome.{on_found};
 ghost use Rattle.mud_rules.specs.Shapes.{text_behind};
 ghost use Rattle.mud_rules.specs.Table.{command};

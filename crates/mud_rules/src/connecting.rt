@@ -2,7 +2,7 @@
 
 ghost use Rattle.std.specs.Prelude.{◌≡◌, IfOk};
 ghost use Rattle.mud_words.specs.Line.{line_of};
-ghost use Rattle.mud_rules.specs.inner.Parts.{connect_named, connect as connect_as};
+ghost use Rattle.mud_rules.specs.Commands.{connect_named, connect as connect_as};
 ghost use Rattle.mud_rules.specs.Table.{connect_line};
 
 use crate::Verdict;

@@ -1,8 +1,7 @@
 //! Where exits lead that are to be dug.
 
 ghost use Rattle.std.specs.Prelude.{◌≡◌, IfOk};
-ghost use Rattle.mud_rules.specs.Commands.{doors_in, target_in};
-ghost use Rattle.mud_rules.specs.inner.Parts.{has_empty_side};
+ghost use Rattle.mud_rules.specs.Commands.{doors_in, target_in, has_empty_side};
 
 use crate::matching::object_number;
 use crate::naming::names_in;

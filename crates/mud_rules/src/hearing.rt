@@ -4,8 +4,8 @@ ghost use Rattle.std.specs.Prelude.{◌≡◌, ◌++◌, Some, IfOk, codes, fals
 ghost use Rattle.std.specs.Option.{option_map, option_map_or};
 ghost use Rattle.mud_world.specs.State.{is_number, place_of};
 ghost use Rattle.mud_world.specs.declared.change.Deed.TheVariants as deed;
-ghost use Rattle.mud_rules.specs.Hearing.{heard_in, moved_line, heard_deed, heard_line};
-ghost use Rattle.mud_rules.specs.Listing.{first_name};
+ghost use Rattle.mud_rules.specs.HeardLine.{heard_in, moved_line, heard_deed, heard_line};
+ghost use Rattle.mud_rules.specs.ObjectLists.{first_name};
 
 use crate::listing::first_name;
 use crate::moving::together;

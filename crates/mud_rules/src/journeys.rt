@@ -1,13 +1,12 @@
 //! Routes and meetings.
 
 ghost use Rattle.std.specs.Prelude.{◌≡◌, map, IfOk};
-ghost use Rattle.mud_key.specs.Parts.{parts_of};
+ghost use Rattle.mud_key.specs.Commas.{parts_of};
 ghost use Rattle.mud_world.specs.State.{is_room};
-ghost use Rattle.mud_rules.specs.Matching.{match_among};
+ghost use Rattle.mud_rules.specs.Matches.{match_among};
 ghost use Rattle.mud_rules.specs.Party.{all_distinct, is_party};
 ghost use Rattle.mud_rules.specs.Outcome.{object_meant, of_kind};
-ghost use Rattle.mud_rules.specs.Journeys.{player_meant, meeting, least_refusal};
-ghost use Rattle.mud_rules.specs.inner.Parts.{route, members, meet};
+ghost use Rattle.mud_rules.specs.Journeys.{player_meant, meeting, least_refusal, route, members, meet};
 ghost use Rattle.mud_rules.specs.inner.Steps.{unfit};
 
 use crate::actor::Actor;

@@ -24,16 +24,16 @@
 //! ```
 //!
 //! Proved: the verdict is exactly that of the table in `specs/Table.antt`, with the commands of
-//! `Commands.antt` and `Journeys.antt` and the matching of `Matching.antt`. The tests of a command
+//! `Commands.antt` and `Journeys.antt` and the matching of `Matches.antt`. The tests of a command
 //! and the conditions of its change are one list of refusals, tried by rising number
 //! (`Outcome.antt`), and so are the refusals of a meeting. A change in a verdict is legal and of the
 //! player who typed the line, a room that is asked for is one of the world, and those who are to
 //! meet are a [`Party`] of its players. All texts are exactly those of `Replies.antt`,
-//! `Answers.antt` and `Hearing.antt`. Want of memory is the one error. The functions of [`laws`]
-//! prove what the table comes to: that one list gives the lesser of the command's own refusal and
-//! that of its change; a line whose text can't be read is refused as it would be whatever the text
-//! were read as; in a sound world a change that a line comes to is legal, and its names, keys and
-//! texts are such.
+//! `Answers.antt` and `HeardLine.antt`. Want of memory is the one error. The functions of [`laws`]
+//! prove what the table comes to: a line whose text can't be read is refused as it would be
+//! whatever the text were read as; in a sound world a change that a line comes to is legal, and its
+//! names, keys and texts are such; what a line asks is asked by the verb of a question, in every
+//! world and whoever typed it.
 #![tactic(auto)]
 
 mod actor;

@@ -3,7 +3,7 @@
 ghost use Rattle.std.specs.Prelude.{◌≡◌, ◌++◌, ◌∷◌, [], ◌+◌, ◌<◌, OnOk, codes, decimal, filter, not, string_bytes};
 ghost use Rattle.std.specs.Prelude.{if◌then◌else◌};
 ghost use Rattle.mud_world.specs.State.{is_number};
-ghost use Rattle.mud_rules.specs.Listing.{first_name, entry_text};
+ghost use Rattle.mud_rules.specs.ObjectLists.{first_name, entry_text};
 ghost use Rattle.mud_rules.specs.inner.Steps.{listed_after};
 
 use mud_world::World;

@@ -4,8 +4,7 @@ ghost use Rattle.std.specs.Prelude.{◌≡◌, ◌≤◌, Result, IfOk, if◌the
 ghost use Rattle.mud_key.specs.declared.limits.TheConstants.{LAST_NUMBER};
 ghost use Rattle.mud_words.specs.Line.{line_of};
 ghost use Rattle.mud_world.specs.State.{exists};
-ghost use Rattle.mud_rules.specs.Commands.{key_meant};
-ghost use Rattle.mud_rules.specs.inner.Parts.{lock, near_named};
+ghost use Rattle.mud_rules.specs.Commands.{key_meant, lock, near_named};
 ghost use Rattle.mud_rules.specs.Table.{command};
 ghost use Rattle.mud_rules.specs.declared.verb.Verb.{Verb};
 

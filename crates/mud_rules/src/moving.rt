@@ -5,8 +5,7 @@ ghost use Rattle.mud_words.specs.Line.{line_of};
 ghost use Rattle.mud_world.specs.Conditions.{shares_room};
 ghost use Rattle.mud_world.specs.declared.change.Deed.TheVariants as deed;
 ghost use Rattle.mud_rules.specs.Outcome.{object_meant, on_found, does};
-ghost use Rattle.mud_rules.specs.Commands.{give};
-ghost use Rattle.mud_rules.specs.inner.Parts.{drop_down, put};
+ghost use Rattle.mud_rules.specs.Commands.{give, drop_down, put};
 ghost use Rattle.mud_rules.specs.Table.{command};
 ghost use Rattle.mud_rules.specs.declared.verb.Verb.{Verb};
 

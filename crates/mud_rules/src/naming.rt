@@ -1,7 +1,7 @@
 //! Names in lines.
 
 ghost use Rattle.std.specs.Prelude.{◌≡◌, IfOk};
-ghost use Rattle.mud_key.specs.Reading.{names_in, name_in};
+ghost use Rattle.mud_key.specs.Finds.{names_in, name_in};
 
 use mud_key::{Name, Names, NamesFault};
 use std::alloc::{AllocError, Global};

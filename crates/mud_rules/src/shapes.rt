@@ -3,9 +3,8 @@
 ghost use Rattle.std.specs.Prelude.{◌≡◌, ◌∷◌, IfOk, map, string_bytes};
 ghost use Rattle.std.specs.Cow.{cow_str_bytes};
 ghost use Rattle.mud_words.specs.Line.{line_of};
-ghost use Rattle.mud_words.specs.inner.Searching.{join_words};
-ghost use Rattle.mud_rules.specs.Shapes.{all_of, looked_at, is_prep, is_pair};
-ghost use Rattle.mud_rules.specs.inner.Parts.{first_of, is_aimed};
+ghost use Rattle.mud_words.specs.inner.Spots.{join_words};
+ghost use Rattle.mud_rules.specs.Shapes.{all_of, looked_at, is_prep, is_pair, first_of, is_aimed};
 
 use crate::comparing::is_word;
 use mud_words::{Parsed, Prep};

@@ -1,12 +1,12 @@
 //! The verbs of the table of commands.
 
-ghost use Rattle.std.specs.Prelude.{◌≡◌, ◌∷◌, ℕ, List, map};
-ghost use Rattle.std.specs.Option.{is_some};
+ghost use Rattle.std.specs.Prelude.{◌≡◌, ◌∷◌, ℕ, false, List, map};
+ghost use Rattle.std.specs.Option.{option_map_or};
 ghost use Rattle.std.specs.Char.{to_ascii_lowercase};
 ghost use Rattle.std.specs.Map.{lookup};
 ghost use Rattle.std.specs.Str.{str_eq_ignore_ascii_case};
-ghost use Rattle.mud_rules.specs.inner.Steps.{row_of, asks};
-ghost use Rattle.mud_rules.specs.Table.{verb_named, question_verbs};
+ghost use Rattle.mud_rules.specs.inner.Steps.{row_of};
+ghost use Rattle.mud_rules.specs.Table.{verb_named, asks};
 
 use crate::comparing::is_word;
 
@@ -41,16 +41,16 @@ pub(crate) enum Verb {
 
 // The verbs that begin with `@`.
 const WITH_SIGN: &[(&str, Verb)] = &[
-    ("@key", Verb::Key),
-    ("@version", Verb::Version),
-    ("@history", Verb::History),
     ("@dig", Verb::Dig),
     ("@create", Verb::Create),
     ("@lock", Verb::Lock),
     ("@unlock", Verb::Unlock),
+    ("@key", Verb::Key),
     ("@cost", Verb::Cost),
     ("@rename", Verb::Rename),
     ("@recycle", Verb::Recycle),
+    ("@version", Verb::Version),
+    ("@history", Verb::History),
 ];
 
 impl Verb {
@@ -66,7 +66,7 @@ impl Verb {
 
     /// Whether a word names the verb of a question.
     pub(crate) fn asks(text: &str) -> bool
-        ensures { result ≡ is_some (lookup (str_eq_ignore_ascii_case text.now) question_verbs) }
+        ensures { result ≡ option_map_or asks (verb_named text.now) false }
     {
         match Verb::of_word(text) {
             Some(verb) => verb.is_question(),
@@ -105,7 +105,7 @@ fn rows_with(letter: u8) -> &'static [(&'static str, Verb)]
         ],
         b'l' => &[("look", Verb::Look), ("l", Verb::Look)],
         b'm' => &[("meet", Verb::Meet)],
-        b'p' => &[("proof", Verb::Proof), ("put", Verb::Put)],
+        b'p' => &[("put", Verb::Put), ("proof", Verb::Proof)],
         b'q' => &[("quit", Verb::Quit)],
         b'r' => &[("route", Verb::Route)],
         b's' => &[("say", Verb::Say)],

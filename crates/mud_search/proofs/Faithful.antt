@@ -16,7 +16,7 @@ use Rattle.mud_roads.proofs.Bounds.{valid_is_least}
 use Rattle.mud_roads.proofs.Routes.{label-ext}
 use Rattle.mud_search.specs.declared.slot.Slot.{Slot}
 use Rattle.mud_search.specs.declared.slot.Slot.TheVariants.{Unknown, Waiting, Held, Finished}
-use Rattle.mud_search.specs.Boards.{slot_at, label_at, is_below, falls, offer, offers, settle, Below, IsBoardOf}
+use Rattle.mud_search.specs.inner.Boards.{slot_at, label_at, is_below, falls, offer, offers, settle, Below, IsBoardOf}
 use Rattle.mud_search.specs.inner.Trails.{rooms_of_walk, is_in, IsWalked}
 use Rattle.mud_search.specs.Slots.{label_of, is_waiting, is_held}
 use Rattle.mud_search.proofs.Inside.{AreWithin}
@@ -278,6 +278,17 @@ faithful-settled roads from rooms inside room l steps are slots sound was h =
     faithful-relabelled roads from rooms (offers l steps slots) all.0.sound room (Finished l) l h all.0.still refl
     (λ s e c. all.1 s (subst (P s) (sym are) c))
 
+-- a labelled room is one of the rooms
+pub labelled-within : (slots : List Slot) (room : ℕ) (l : Label) → label_at slots room ≡ Some l → room < length slots
+labelled-within slots room l e =
+    elim (cases_lt room (length slots)) [
+      | inl h ↦ h
+      | inr h ↦
+          let none : label_at slots room ≡ None = ap label_of (get_or_past slots room Unknown h) in
+          let bad : Some l ≡ None = sym e ∙ none in
+          absurd (cc)
+    ]
+
 -- no label is greater than the longest walk that visits no room twice
 pub label-bound : (roads : Roads) (from rooms : ℕ) (slots : List Slot)
     → IsBoardOf roads from rooms slots → AreWithin roads rooms
@@ -292,16 +303,6 @@ label-bound roads from rooms slots sound inside room l e =
     let dear : (total 1 at.0).cost ≤ MOST_COST * length at.0 =
     trail-cost roads (label_at slots) from rooms inside at.0 room at.1 in
     (omega arith, omega arith)
-  where
-    labelled-within : (slots : List Slot) (room : ℕ) (l : Label) → label_at slots room ≡ Some l → room < length slots
-    labelled-within slots room l e =
-        elim (cases_lt room (length slots)) [
-          | inl h ↦ h
-          | inr h ↦
-              let none : label_at slots room ≡ None = ap label_of (get_or_past slots room Unknown h) in
-              let bad : Some l ≡ None = sym e ∙ none in
-              absurd (cc)
-        ]
 
 -- no room waits, and none is held
 pub record AtRest (slots : List Slot) : Type 0 where

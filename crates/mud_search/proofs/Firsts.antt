@@ -8,7 +8,7 @@ use Rattle.mud_roads.specs.declared.label.Label.{Label}
 use Rattle.mud_search.specs.declared.slot.Slot.{Slot}
 use Rattle.mud_search.specs.declared.slot.Slot.TheVariants.{Unknown, Waiting}
 use Rattle.mud_search.specs.declared.task.Task.{Task}
-use Rattle.mud_search.specs.Boards.{slot_at, slot_of}
+use Rattle.mud_search.specs.inner.Boards.{slot_at, slot_of}
 use Rattle.mud_search.specs.Tasks.{IsFirst}
 use Rattle.mud_search.specs.inner.Order.{IsTaskBefore}
 

@@ -17,13 +17,14 @@ use Rattle.mud_roads.specs.Walks.{AtMost, after}
 use Rattle.mud_roads.specs.Labels.{start_label, Reaches}
 use Rattle.mud_world.specs.declared.limits.TheConstants.{NUMBERS, MOST_COST, MOST_PARTY}
 use Rattle.mud_world.specs.State.{State}
-use Rattle.mud_roads.specs.Open.{Knowledge, knowledge_of, IsTraveller, roads_of}
+use Rattle.mud_roads.specs.Passable.{Knowledge, knowledge_of, IsTraveller, roads_of}
 use Rattle.mud_world.specs.Sound.{IsSound}
 use Rattle.mud_search.proofs.Inside.{world-within, place-within}
 use Rattle.mud_search.specs.declared.slot.Slot.{Slot}
 use Rattle.mud_search.specs.declared.slot.Slot.TheVariants.{Unknown, Waiting, Held, Finished}
-use Rattle.mud_search.specs.Boards.{slot_at, label_at, settle, offers, IsBoardOf, IsKept, board_of, slot_of, begun_at}
-use Rattle.mud_search.specs.Boards.{potential, weight, lists_of, Below}
+use Rattle.mud_search.specs.Frontier.{IsKept}
+use Rattle.mud_search.specs.inner.Boards.{slot_at, label_at, settle, offers, IsBoardOf, board_of, slot_of, begun_at}
+use Rattle.mud_search.specs.inner.Boards.{potential, weight, lists_of, Below}
 use Rattle.mud_search.specs.Slots.{label_of, is_waiting, is_held}
 use Rattle.mud_search.specs.Facts.{IsFrontier}
 use Rattle.mud_search.specs.Tasks.{IsBegun, IsChanged, IsDone}
@@ -33,6 +34,7 @@ use Rattle.mud_search.specs.Tables.{table}
 use Rattle.mud_search.proofs.Trails.{Falls, trail-walk, total-reverse}
 use Rattle.mud_search.proofs.Faithful.{faithful-relabelled, faithful-settled, label-bound, rest-least, IsStill}
 use Rattle.mud_search.proofs.Faithful.{still-from_rest, follows-offers, falls-set, some-inj, offers-slot}
+use Rattle.mud_search.proofs.Faithful.{labelled-within}
 use Rattle.mud_search.proofs.Firsts.{waiting-member}
 use Rattle.mud_search.proofs.Potential.{weight-settled_left, potential-set_less}
 
@@ -72,17 +74,6 @@ frontier-set w ts boards f m b h sound = record {
             subst P (sym (get_or-set_other boards m n b [] other)) (f.faithful n t is)
       ];
 }
-
--- a labelled room is one of the rooms
-pub labelled-within : (slots : List Slot) (room : ℕ) (l : Label) → label_at slots room ≡ Some l → room < length slots
-labelled-within slots room l e =
-    elim (cases_lt room (length slots)) [
-      | inl h ↦ h
-      | inr h ↦
-          let none : label_at slots room ≡ None = ap label_of (get_or_past slots room Unknown h) in
-          let bad : Some l ≡ None = sym e ∙ none in
-          absurd (cc)
-    ]
 
 -- a room may change hands
 pub frontier-relabelled : (w : State) (ts : List Knowledge) (boards : List (List Slot)) → IsKept w ts boards

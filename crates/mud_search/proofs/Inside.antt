@@ -7,7 +7,7 @@ use Rattle.mud_world.specs.State.{State}
 use Rattle.mud_world.specs.Sound.{IsSound}
 use Rattle.mud_roads.specs.declared.label.Step.{Step}
 use Rattle.mud_roads.specs.Walks.{Roads}
-use Rattle.mud_roads.specs.Open.{Knowledge, IsTraveller, roads_of}
+use Rattle.mud_roads.specs.Passable.{Knowledge, IsTraveller, roads_of}
 use Rattle.mud_roads.proofs.Roads.{steps-inside, traveller-below}
 
 -- each step leads to a room, at a cost within the limit

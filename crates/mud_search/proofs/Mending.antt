@@ -5,7 +5,7 @@ use Rattle.std.proofs.lemmas.List.{get_or_read}
 use Rattle.std.proofs.lemmas.Bool.{cases_lt, cases_eq}
 use Rattle.mud_roads.specs.declared.label.Label.{Label}
 use Rattle.mud_search.specs.declared.queue.Entry.{Entry}
-use Rattle.mud_search.specs.Boards.{IsBefore}
+use Rattle.mud_search.specs.inner.Boards.{IsBefore}
 use Rattle.mud_search.specs.inner.Queues.{entry_at, place_at, waiting_labels, IsQueue, IsNoLater, IsOrderedBut}
 use Rattle.mud_search.specs.inner.Queues.{IsOrderedDownTo, IsSwapped}
 use Rattle.mud_search.proofs.Heaps.{waits_at}

@@ -8,10 +8,11 @@ use Rattle.std.proofs.lemmas.Option.{slice_get_within, get_or_from_slice_get, sl
 use Rattle.mud_world.specs.State.{State}
 use Rattle.mud_roads.specs.declared.label.Label.{Label}
 use Rattle.mud_roads.specs.Walks.{Least}
-use Rattle.mud_roads.specs.Open.{Knowledge, roads_of}
+use Rattle.mud_roads.specs.Passable.{Knowledge, roads_of}
 use Rattle.mud_search.specs.Least.{label_in}
-use Rattle.mud_search.specs.Tables.{Table, table, lists_in}
-use Rattle.mud_search.specs.inner.Parts.{AreFound}
+use Rattle.mud_search.specs.Tables.{Table, table}
+use Rattle.mud_search.specs.inner.Tables.{lists_in}
+use Rattle.mud_search.specs.inner.Travellers.{AreFound}
 
 -- two tables, one after the other
 abbrev pub beside : Table (Option Label) → Table (Option Label) → Table (Option Label)

@@ -9,8 +9,8 @@ use Rattle.mud_roads.specs.declared.label.Step.{Step}
 use Rattle.mud_roads.specs.Walks.{Roads, after}
 use Rattle.mud_search.specs.declared.slot.Slot.{Slot}
 use Rattle.mud_search.specs.declared.slot.Slot.TheVariants.{Unknown, Waiting, Held, Finished}
-use Rattle.mud_search.specs.Boards.{slot_at, label_at, falls, offer, offers, settle, IsBoardOf, weight, potential}
-use Rattle.mud_search.specs.Boards.{board_of, Below}
+use Rattle.mud_search.specs.inner.Boards.{slot_at, label_at, falls, offer, offers, settle, IsBoardOf, weight, potential}
+use Rattle.mud_search.specs.inner.Boards.{board_of, Below}
 use Rattle.mud_search.specs.Slots.{label_of}
 use Rattle.mud_search.proofs.Inside.{AreWithin}
 use Rattle.mud_search.proofs.Faithful.{below-from_test, faithful-lowered, label-bound, label-set_same, follows-offered}

@@ -6,7 +6,7 @@ use Rattle.mud_roads.specs.declared.label.Label.{Label}
 use Rattle.mud_roads.specs.declared.label.Step.{Step}
 use Rattle.mud_roads.specs.Walks.{Roads, Walk, after, total}
 use Rattle.mud_roads.specs.Labels.{start_label, Reaches}
-use Rattle.mud_roads.specs.Open.{Knowledge, roads_of}
+use Rattle.mud_roads.specs.Passable.{Knowledge, roads_of}
 use Rattle.mud_search.specs.declared.slot.Slot.{Slot}
 use Rattle.mud_search.specs.declared.slot.Slot.TheVariants.{Unknown, Finished}
 use Rattle.mud_search.specs.Slots.{labels_of}

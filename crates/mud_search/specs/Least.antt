@@ -5,7 +5,7 @@ use Rattle.mud_world.specs.declared.limits.TheConstants.{MOST_COST}
 use Rattle.mud_world.specs.State.{State}
 use Rattle.mud_roads.specs.declared.label.Label.{Label}
 use Rattle.mud_roads.specs.Walks.{Least}
-use Rattle.mud_roads.specs.Open.{Knowledge, roads_of}
+use Rattle.mud_roads.specs.Passable.{Knowledge, roads_of}
 use Rattle.mud_search.specs.Tables.{Table, at}
 
 -- the label of a member at a room; past the last member and room there is none

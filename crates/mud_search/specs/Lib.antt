@@ -1,4 +1,4 @@
-pub mod Boards
+pub mod Frontier
 pub mod Facts
 pub mod Least
 pub mod Rooms

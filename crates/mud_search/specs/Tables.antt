@@ -4,7 +4,7 @@ use Rattle.std.specs.Coded.{Coded, code_by, coded_list}
 
 -- what is in memory is a list for each member; clauses ask it by the functions below
 pub record Table (A : Type 0) : Type 0 where
-  lists : List (List A)
+  pub lists : List (List A)
 
 abbrev pub table : {A : Type 0} → List (List A) → Table A
 table lists = record { lists = lists }
@@ -12,10 +12,6 @@ table lists = record { lists = lists }
 -- it is stored as the lists
 abbrev pub table_code : {A : Type 0} → Coded A → Coded (Table A)
 table_code {A} code = code_by (List (List A)) (coded_list (coded_list code)) (λ t. t.lists) table (λ _. refl)
-
--- the lists in memory; only private clauses cite them
-abbrev pub lists_in : {A : Type 0} → Table A → List (List A)
-lists_in t = t.lists
 
 -- what is there of a member and a room; past the last it is the same of all
 abbrev pub at : {A : Type 0} → A → Table A → ℕ → ℕ → A

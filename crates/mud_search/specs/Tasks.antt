@@ -2,7 +2,7 @@
 use Rattle.std.specs.Prelude.{◌≡◌, ◌≢◌, ◌⊎◌, ℕ, ◌≤◌, List, Contains, Some, slice_get}
 use Rattle.mud_roads.specs.declared.label.Label.{Label}
 use Rattle.mud_roads.specs.declared.label.Step.{Step}
-use Rattle.mud_roads.specs.Open.{Knowledge}
+use Rattle.mud_roads.specs.Passable.{Knowledge}
 use Rattle.mud_roads.specs.Walks.{AtMost, after}
 use Rattle.mud_roads.specs.Labels.{start_label, Reaches}
 use Rattle.mud_search.specs.declared.slot.Slot.{Slot}

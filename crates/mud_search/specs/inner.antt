@@ -1,4 +1,6 @@
 pub mod Order
-pub mod Parts
+pub mod Travellers
 pub mod Queues
 pub mod Trails
+pub mod Boards
+pub mod Tables

@@ -1,7 +1,7 @@
 //! The least labels, by the caller's thread.
 
 ghost use Rattle.std.specs.Prelude.{◌≡◌, ◌≤◌, ℕ, All, None, IfOk, length};
-ghost use Rattle.mud_roads.specs.Open.{IsTraveller};
+ghost use Rattle.mud_roads.specs.Passable.{IsTraveller};
 ghost use Rattle.mud_search.specs.Least.{label_in, AreLeast, AreBounded};
 ghost use Rattle.mud_world.specs.declared.limits.TheConstants.{MOST_PARTY};
 

@@ -8,7 +8,8 @@ ghost use Rattle.mud_roads.specs.declared.label.Label.{Label};
 ghost use Rattle.mud_roads.specs.Labels.{start_label};
 ghost use Rattle.mud_search.specs.Slots.{is_waiting, is_held};
 ghost use Rattle.mud_search.specs.Least.{AreLabelsBelow};
-ghost use Rattle.mud_search.specs.Boards.{IsBefore, slot_at, label_at, waiting_label, falls, offer, offers, settle};
+ghost use Rattle.mud_search.specs.inner.Boards.{IsBefore, slot_at, label_at, waiting_label, falls, offer, offers};
+ghost use Rattle.mud_search.specs.inner.Boards.{settle};
 
 use crate::queue::Queue;
 use crate::slot::Slot;
@@ -28,7 +29,7 @@ pub(crate) struct Board {
 impl Model for Board {
     ghost use Rattle.std.specs.Prelude.{List};
     ghost use Rattle.mud_search.specs.declared.slot.Slot.{Slot};
-    ghost use Rattle.mud_search.specs.Boards.{IsBoard};
+    ghost use Rattle.mud_search.specs.inner.Boards.{IsBoard};
 
     ghost Value = { List Slot };
 

@@ -2,7 +2,8 @@
 
 ghost use Rattle.std.specs.Prelude.{◌≡◌, ◌++◌, map, IfOk, OnOk, OnErr};
 ghost use Rattle.mud_search.specs.Slots.{label_of};
-ghost use Rattle.mud_search.specs.Tables.{table, lists_in};
+ghost use Rattle.mud_search.specs.Tables.{table};
+ghost use Rattle.mud_search.specs.inner.Tables.{lists_in};
 ghost use Rattle.mud_search.specs.Least.{label_in, AreLabelsBelow};
 
 use crate::board::Board;

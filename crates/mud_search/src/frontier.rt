@@ -2,14 +2,15 @@
 
 ghost use Rattle.std.specs.Prelude.{◌≡◌, ◌≢◌, ℕ, ◌<◌, ◌≤◌, All, IfOk, IfSome, IfNone, None, Some, length, slice_get};
 ghost use Rattle.mud_roads.specs.declared.label.Label.{Label};
-ghost use Rattle.mud_roads.specs.Open.{Knowledge, IsTraveller, roads_of};
+ghost use Rattle.mud_roads.specs.Passable.{Knowledge, IsTraveller, roads_of};
 ghost use Rattle.mud_search.specs.Slots.{is_waiting, is_held, labels_of};
-ghost use Rattle.mud_search.specs.Tables.{lists_in, how_many};
+ghost use Rattle.mud_search.specs.Tables.{how_many};
+ghost use Rattle.mud_search.specs.inner.Tables.{lists_in};
 ghost use Rattle.mud_search.specs.Rooms.{slot_in};
 ghost use Rattle.mud_search.specs.Facts.{IsFrontier};
 ghost use Rattle.mud_search.specs.Tasks.{IsBegun, IsFirst, IsChanged, IsDone};
 ghost use Rattle.mud_search.specs.Least.{label_in, AreLeast, AreBounded};
-ghost use Rattle.mud_search.specs.Boards.{IsLeft, potential, lesser};
+ghost use Rattle.mud_search.specs.inner.Boards.{IsLeft, potential, lesser};
 ghost use Rattle.mud_world.specs.declared.limits.TheConstants.{MOST_PARTY};
 
 use crate::board::Board;
@@ -38,7 +39,7 @@ impl<J: Job> Model for Frontier<J> {
     ghost use Rattle.mud_search.specs.declared.slot.Slot.{Slot};
     ghost use Rattle.mud_search.specs.contracts.slot.Slot as slot;
     ghost use Rattle.mud_search.specs.Tables.{Table, table, table_code};
-    ghost use Rattle.mud_search.specs.Boards.{IsKept};
+    ghost use Rattle.mud_search.specs.Frontier.{IsKept};
 
     ghost Value = { Table Slot };
 
@@ -155,18 +156,18 @@ impl<J: Job> Frontier<J> {
 
     /// How many rooms wait and how many are held. Where both are 0, the labels are the least.
     pub fn rest(&self) -> Rest
-        ensures opened { result.opened ≡ how_many is_waiting self.now }
+        ensures waiting { result.waiting ≡ how_many is_waiting self.now }
         ensures held { result.held ≡ how_many is_held self.now }
-        ensures least { result.opened ≡ 0 → result.held ≡ 0
+        ensures least { result.waiting ≡ 0 → result.held ≡ 0
             → AreLeast J.world J.travellers (λ m. labels_of (slot_in self.now m)) }
     {
-        let mut opened = 0;
+        let mut waiting = 0;
         let mut held = 0;
         for board in &self.boards {
-            opened += board.waiting_count();
+            waiting += board.waiting_count();
             held += board.held_count();
         }
-        Rest { opened, held }
+        Rest { waiting, held }
     }
 
     // A held room, if there is one.

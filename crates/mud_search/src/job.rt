@@ -7,7 +7,7 @@ use std::marker::Brand;
 pub trait Job {
     ghost use Rattle.std.specs.Prelude.{List};
     ghost use Rattle.mud_world.specs.State.{State};
-    ghost use Rattle.mud_roads.specs.Open.{Knowledge};
+    ghost use Rattle.mud_roads.specs.Passable.{Knowledge};
 
     ghost world: { State };
 

@@ -2,7 +2,7 @@
 
 ghost use Rattle.std.specs.Prelude.{◌≡◌, ◌<◌, Some, length, slice_get};
 ghost use Rattle.mud_search.specs.declared.task.Task.{Task};
-ghost use Rattle.mud_roads.specs.Open.{Knowledge, roads_of};
+ghost use Rattle.mud_roads.specs.Passable.{Knowledge, roads_of};
 
 use crate::frontier::Frontier;
 use crate::job::Job;

@@ -4,7 +4,7 @@ ghost use Rattle.std.specs.Prelude.{◌≡◌, ℕ, ◌+◌, ◌-◌, ◌*◌, �
 ghost use Rattle.std.specs.Prelude.{slice_set, slice_index_or, replicate};
 ghost use Rattle.std.specs.Bool.{OnTrue, OnFalse};
 ghost use Rattle.mud_roads.specs.declared.label.Label.{Label};
-ghost use Rattle.mud_search.specs.Boards.{IsBefore};
+ghost use Rattle.mud_search.specs.inner.Boards.{IsBefore};
 
 use mud_roads::Label;
 use std::alloc::{AllocError, Global};

@@ -2,9 +2,9 @@
 
 ghost use Rattle.std.specs.Prelude.{◌≡◌, ◌≤◌, ℕ, All, None, IfOk, length};
 ghost use Rattle.std.specs.Thread.{IsSync};
-ghost use Rattle.mud_roads.specs.Open.{IsTraveller};
+ghost use Rattle.mud_roads.specs.Passable.{IsTraveller};
 ghost use Rattle.mud_search.specs.Least.{label_in, AreLeast, AreBounded};
-ghost use Rattle.mud_search.specs.inner.Parts.{AreFound};
+ghost use Rattle.mud_search.specs.inner.Travellers.{AreFound};
 ghost use Rattle.mud_world.specs.declared.limits.TheConstants.{MOST_PARTY};
 
 use crate::found::Labels;

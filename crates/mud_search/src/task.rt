@@ -26,7 +26,7 @@ pub enum Put {
 #[derive(Clone, Copy, Debug, PartialEq, Eq, Drop)]
 pub struct Rest {
     /// How many rooms wait.
-    pub opened: usize,
+    pub waiting: usize,
     /// How many rooms are held.
     pub held: usize,
 }

@@ -1,7 +1,7 @@
 //! Several workers at one frontier.
 
 ghost use Rattle.std.specs.Prelude.{◌≡◌, ◌<◌, All};
-ghost use Rattle.mud_roads.specs.Open.{IsTraveller};
+ghost use Rattle.mud_roads.specs.Passable.{IsTraveller};
 
 use crate::frontier::Frontier;
 use crate::gate::Gate;

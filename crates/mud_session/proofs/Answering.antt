@@ -14,7 +14,7 @@ use Rattle.mud_rules.specs.declared.verdict.Verdict.TheVariants as verdict
 use Rattle.mud_rules.specs.Table.{is_question, is_quit}
 use Rattle.mud_rules.specs.Laws.{AreQuestions}
 use Rattle.mud_hall.specs.declared.fault.Fault.TheVariants.{OutOfMemory, HistoryFull, Unpublished, DesksFull}
-use Rattle.mud_hall.specs.Told.{world_after}
+use Rattle.mud_hall.specs.Notices.{world_after}
 use Rattle.mud_hall.specs.Desk.{DeskState, with_told}
 use Rattle.mud_hall.specs.Replies.{Reply, Accepted, Became, Refused, Question, Failed, Stores, Replies, verdict_on}
 use Rattle.mud_hall.proofs.Coming.{Plain, plainly, stays_in_memory}
@@ -22,8 +22,8 @@ use Rattle.mud_hall.specs.Answers.{Answered, Answers}
 use Rattle.mud_session.specs.State.{SessionState, DoorState}
 use Rattle.mud_session.specs.Session.{TakingIn, IsShared, Rests, Fails, Asks, Acts, Sees, is_heard, with_version}
 use Rattle.mud_session.specs.Session.{reply_line, wire_text, answer_to}
-use Rattle.mud_session.specs.Feeding.{Nudges}
-use Rattle.mud_session.specs.inner.Turning.{sends, sent_for, Told, IsSaid, HasTurn}
+use Rattle.mud_session.specs.Feeds.{Nudges}
+use Rattle.mud_session.specs.inner.TurnTexts.{sends, sent_for, Told, IsSaid, HasTurn}
 
 pub on_ok : {A E P Q : Type 0} (r : Result A E) → (P → Q) → OnOk r P → OnOk r Q
 on_ok (Ok x) f h = f h
@@ -66,7 +66,7 @@ pub looked : (T : TakingIn) (s0 s1 : SessionState) (d0 d1 d2 : DoorState) → s0
     → Told s0 s1 d1.desk d2.desk → Nudges T s0 s1 d0 d2
 looked T s0 s1 d0 d1 d2 goes takes told = record {
   lines = told.lines;
-  sees = record { ready = d1.desk; takes = takes; tells = told.tells };
+  looks = record { ready = d1.desk; takes = takes; tells = told.tells };
   goes_on = goes;
   is = told.is;
 }
@@ -80,7 +80,7 @@ pub unanswered : (T : TakingIn) (line : List ℕ) (s0 s1 s2 : SessionState) (d0 
 unanswered T line s0 s1 s2 d0 d1 d2 heard nudged same said = record {
   turn = record { case = Fails line; notices = nudged.lines };
   of = refl;
-  does = (heard, subst (λ (d : DeskState). Sees T d0.desk nudged.lines d) (sym same) nudged.sees);
+  does = (heard, subst (λ (d : DeskState). Sees T d0.desk nudged.lines d) (sym same) nudged.looks);
   ended = ap (λ (s : SessionState). s.has_ended) said ∙ ap (λ (s : SessionState). s.has_ended) nudged.is
       ∙ nudged.goes_on;
   terminal = ap (λ (s : SessionState). s.terminal) said ∙ ap (λ (s : SessionState). s.terminal) nudged.is;
@@ -102,7 +102,7 @@ asked T text line s0 s1 s2 d0 d1 d2 last answer heard read question quits nudged
       does = (
         heard,
         ap is_question read ∙ question,
-        subst (λ (d : DeskState). Sees T d0.desk nudged.lines d) (sym same) nudged.sees,
+        subst (λ (d : DeskState). Sees T d0.desk nudged.lines d) (sym same) nudged.looks,
         ap (λ (d : DeskState). d.told) same ∙ all,
         subst (λ (l : Line). Answers d2.desk l answer) (sym read)
             (subst (λ (d : DeskState). Answers d line answer) (sym same) answers),
@@ -117,15 +117,15 @@ asked T text line s0 s1 s2 d0 d1 d2 last answer heard read question quits nudged
 pub acted : (T : TakingIn) (text : List ℕ) (line : Line) (s0 s1 s2 : SessionState) (d0 d1 d2 : DoorState)
     (reply : Reply) → s0.has_ended ≡ false → is_blank text ≡ false → parse_of text ≡ line → is_question line ≡ false
     → ((ready : DeskState) × T d0.desk ready × Replies d0.capacity ready line reply d1.desk)
-    → (reply ≡ Failed Unpublished → IsShared T) → (reply ≢ Failed OutOfMemory → d1.untold ≡ [])
-    → d2.desk ≡ with_told d1.desk d1.untold → Told s0 s1 d1.desk d2.desk → IsSaid reply
+    → (reply ≡ Failed Unpublished → IsShared T) → (reply ≢ Failed OutOfMemory → d1.pending ≡ [])
+    → d2.desk ≡ with_told d1.desk d1.pending → Told s0 s1 d1.desk d2.desk → IsSaid reply
     → s2 ≡ sends s1 (sent_for reply) → HasTurn T (Text text) s0 s2 d0 d2
 acted T text line s0 s1 s2 d0 d1 d2 reply goes heard read other (ready, takes, replies) stored told rest tells
     is_said said = go reply replies stored told is_said said
   where
     texted : (r : Reply) (words : List ℕ) → reply_line r ≡ Some words → r ≢ Failed OutOfMemory
         → Replies d0.capacity ready line r d1.desk → (r ≡ Failed Unpublished → IsShared T)
-        → (r ≢ Failed OutOfMemory → d1.untold ≡ [])
+        → (r ≢ Failed OutOfMemory → d1.pending ≡ [])
         → s2 ≡ sends s1 (answer_to (Acts text r)) → HasTurn T (Text text) s0 s2 d0 d2
     texted r words has sure rs kept all is = record {
       turn = record { case = Acts text r; notices = tells.lines };
@@ -151,7 +151,7 @@ acted T text line s0 s1 s2 d0 d1 d2 reply goes heard read other (ready, takes, r
     }
 
     go : (r : Reply) → Replies d0.capacity ready line r d1.desk → (r ≡ Failed Unpublished → IsShared T)
-        → (r ≢ Failed OutOfMemory → d1.untold ≡ []) → IsSaid r → s2 ≡ sends s1 (sent_for r)
+        → (r ≢ Failed OutOfMemory → d1.pending ≡ []) → IsSaid r → s2 ≡ sends s1 (sent_for r)
         → HasTurn T (Text text) s0 s2 d0 d2
     go (Accepted v said) rs kept all can is =
         texted (Accepted v said) (with_version v said) refl

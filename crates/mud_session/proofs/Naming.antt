@@ -15,17 +15,17 @@ use Rattle.mud_nvt.specs.declared.strokes.Stroke.TheVariants.{Character, EraseCh
 use Rattle.mud_nvt.specs.declared.strokes.Stroke.TheVariants.{AreYouThere, Refuse, Nothing}
 use Rattle.mud_nvt.specs.Units.{Given, Text, TooLong, Ayt, Answer, units_at, units_after, units}
 use Rattle.mud_nvt.specs.Telnet.{pieces}
-use Rattle.mud_nvt.specs.Editing.{strokes, line as typed, is_too_long}
+use Rattle.mud_nvt.specs.Strokes.{strokes, line as typed, is_too_long}
 use Rattle.mud_nvt.specs.History.{StandsAfter}
 use Rattle.mud_world.specs.State.{State as World}
 use Rattle.mud_world.specs.declared.change.Change.{Change}
 use Rattle.mud_rules.specs.declared.verdict.Verdict.{Verdict}
 use Rattle.mud_rules.specs.declared.verdict.Verdict.TheVariants as verdict
-use Rattle.mud_rules.specs.Hearing.{heard_line}
+use Rattle.mud_rules.specs.HeardLine.{heard_line}
 use Rattle.mud_rules.specs.Replies.{welcome_text, refusal_text}
 use Rattle.mud_chron.specs.Entry.{Entry}
 use Rattle.mud_hall.specs.declared.fault.Fault.TheVariants.{OutOfMemory, HistoryFull, Unpublished, DesksFull}
-use Rattle.mud_hall.specs.Told.{world_after, notices}
+use Rattle.mud_hall.specs.Notices.{world_after, notices}
 use Rattle.mud_hall.specs.inner.Desks.{notice_of, notice_in}
 use Rattle.mud_hall.specs.Desk.{DeskState, TakesIn}
 use Rattle.mud_hall.specs.Replies.{Reply, Accepted, Became, Refused, Question, Failed, Stores, Replies, verdict_on}
@@ -33,9 +33,9 @@ use Rattle.mud_hall.proofs.Coming.{Plain as Comes, plainly}
 use Rattle.mud_session.specs.State.{SessionState, DoorState}
 use Rattle.mud_session.specs.Session.{Case, Rests, Looks, Fails, Asks, Acts, Turn, Does, Plays}
 use Rattle.mud_session.specs.Session.{unit_of, with_version, reply_line, wire_text, answer_to, text_of}
-use Rattle.mud_session.specs.inner.Parts.{greeting}
-use Rattle.mud_session.specs.Feeding.{Feeds, Nudges}
-use Rattle.mud_session.specs.Naming.{plain_lines, IsSaidOf, IsNotice, IsPiece, NamesUpTo}
+use Rattle.mud_session.specs.inner.Wire.{greeting}
+use Rattle.mud_session.specs.Feeds.{Feeds, Nudges}
+use Rattle.mud_session.specs.Notices.{plain_lines, IsSaidOf, IsNotice, IsPiece, NamesUpTo}
 use Rattle.mud_session.specs.Laws.{IsToldOnce, NamesSeen}
 use Rattle.mud_session.proofs.Playing.{unit_in, text_in}
 use Rattle.mud_session.proofs.Telling.{told_once}
@@ -349,7 +349,7 @@ nudges : (old new : SessionState) (was is : DoorState) (names : NamesSeen old wa
 nudges old new was is names n =
     let turn : Turn = record { case = Looks; notices = n.lines } in
     goes-on old new was.desk is.desk names.earlier (text_in turn) names
-    (takes-turn was.capacity was.desk is.desk turn tt n.sees names.told)
+    (takes-turn was.capacity was.desk is.desk turn tt n.looks names.told)
     (subst (λ t. StandsAfter t names.earlier) (sym (ap (λ (s : SessionState). s.terminal) n.is)) names.stands)
     (ap (λ (s : SessionState). s.out) n.is
     ∙ ap (λ (l : List ℕ). old.out ++ l) (sym (append-nil (flat_map wire_text n.lines))))

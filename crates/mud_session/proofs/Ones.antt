@@ -28,7 +28,7 @@ use Rattle.mud_guide.specs.declared.answer.Answer.{Answer}
 use Rattle.mud_guide.specs.Laws.{AreAlike}
 use Rattle.mud_guide.proofs.Single.{route_answer_is_one, meet_answer_is_one}
 use Rattle.mud_hall.specs.declared.fault.Fault.TheVariants.{OutOfMemory, HistoryFull, Unpublished, DesksFull}
-use Rattle.mud_hall.specs.Told.{world_after}
+use Rattle.mud_hall.specs.Notices.{world_after}
 use Rattle.mud_hall.specs.Desk.{DeskState, HandsOut, as_player, as_accepted, with_told}
 use Rattle.mud_hall.specs.Replies.{Reply, Accepted, Became, Refused, Question, Failed, Stores, Replies, verdict_on}
 use Rattle.mud_hall.proofs.Coming.{Plain, plainly}
@@ -261,8 +261,8 @@ acted-comes capacity s line reply lines new none x =
     let some : (text : List ℕ) × (reply_line reply ≡ Some text) = said-so (reply_line reply) x.says in
     let is : IsThen capacity s v some.0 x.acted =
     reply-then capacity s (parse_of line) some.0 reply x.acted (λ e. unshared (x.stored e)) replies some.1 in
-    let untold : x.acted.told ≡ [] = ap (λ (d : DeskState). d.told) is.1 ∙ told-then capacity s v ∙ none in
-    let told : (lines ≡ []) × (new ≡ x.acted) = tells-none x.acted lines new untold x.tells in
+    let pending : x.acted.told ≡ [] = ap (λ (d : DeskState). d.told) is.1 ∙ told-then capacity s v ∙ none in
+    let told : (lines ≡ []) × (new ≡ x.acted) = tells-none x.acted lines new pending x.tells in
     record {
       notices = told.0;
       text = ap (λ (o : Option (List ℕ)). option_map_or wire_text o []) some.1 ∙ ap wire_text is.0;
@@ -303,7 +303,7 @@ record AreOne (xs ys : List (List ℕ)) (t u : Case) (a b : DeskState) : Type 0 
   notices : xs ≡ ys
   text : answer_to t ≡ answer_to u
   desk : a ≡ b
-  untold : a.told ≡ []
+  pending : a.told ≡ []
 
 come-one : (xs ys : List (List ℕ)) (t u : Case) (a b : DeskState) (text other : List ℕ) (last : Bool) (kept : DeskState)
     → kept.told ≡ [] → text ≡ other → Comes xs t a text last kept → Comes ys u b other last kept
@@ -312,7 +312,7 @@ come-one xs ys t u a b text other last kept none same x y = record {
   notices = x.notices ∙ sym y.notices;
   text = x.text ∙ same ∙ sym y.text;
   desk = x.desk ∙ sym y.desk;
-  untold = ap (λ (d : DeskState). d.told) x.desk ∙ none;
+  pending = ap (λ (d : DeskState). d.told) x.desk ∙ none;
 }
 
 line-one : (capacity : ℕ) (s : DeskState) (line : List ℕ) (blank failed question : Bool) (xs ys : List (List ℕ))
@@ -378,7 +378,7 @@ turns-one capacity old (u ∷ xs) (v ∷ ys) left right a b none q e x y =
     ap (λ (l : List (List ℕ)). (flat_map wire_text l ++ answer_to u.case) ++ text_of xs) one.notices
     ∙ ap (λ (l : List ℕ). (flat_map wire_text v.notices ++ l) ++ text_of xs) one.text
     ∙ ap (λ (l : List ℕ). text_in v ++ l)
-    (turns-one capacity x.0 xs ys left right a b one.untold units tail x.3 moved)
+    (turns-one capacity x.0 xs ys left right a b one.pending units tail x.3 moved)
 
 pub script_text_is_one : ScriptTextIsOne
 script_text_is_one capacity bytes one other p q e =

@@ -14,7 +14,7 @@ use Rattle.mud_hall.specs.Desk.{DeskState}
 use Rattle.mud_session.specs.State.{SessionState, DoorState}
 use Rattle.mud_ends.specs.Ends.{Reader, Writer, new_reader}
 use Rattle.mud_session.specs.Session.{TakingIn, Turn, Plays, Play, is_over, text_of}
-use Rattle.mud_session.specs.inner.Serving.{Serves, ServesInPart}
+use Rattle.mud_session.specs.inner.Service.{Serves, ServesInPart}
 use Rattle.mud_session.specs.Script.{Script, IsWhole, IsFront, IsOpen}
 use Rattle.mud_session.proofs.Playing.{unit_in, retold, joined, over-by, text_of-append}
 

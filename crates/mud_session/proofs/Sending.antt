@@ -2,7 +2,7 @@
 use Rattle.std.proofs.Common.{◌≡◌, ℕ, List, [], ◌++◌, sym, ap, append_assoc}
 use Rattle.std.proofs.lemmas.List.{append-nil}
 use Rattle.mud_session.specs.State.{SessionState}
-use Rattle.mud_session.specs.inner.Turning.{sends}
+use Rattle.mud_session.specs.inner.TurnTexts.{sends}
 
 abbrev with_out : SessionState → List ℕ → SessionState
 with_out s out = record { terminal = s.terminal; has_ended = s.has_ended; out = out }

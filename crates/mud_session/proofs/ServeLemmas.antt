@@ -5,8 +5,8 @@ use Rattle.std.specs.Io.KnownBytes.{Appends}
 use Rattle.std.proofs.KnownBytes.{Appends-nil}
 use Rattle.mud_session.specs.State.{SessionState, DoorState}
 use Rattle.mud_session.specs.Session.{TakingIn, text_of}
-use Rattle.mud_session.specs.Feeding.{Feeds}
-use Rattle.mud_session.specs.inner.Serving.{Serves, ServesInPart}
+use Rattle.mud_session.specs.Feeds.{Feeds}
+use Rattle.mud_session.specs.inner.Service.{Serves, ServesInPart}
 use Rattle.mud_session.proofs.Fresh.{fresh_units}
 
 -- nothing was written

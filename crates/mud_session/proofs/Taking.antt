@@ -7,11 +7,11 @@ use Rattle.std.proofs.lemmas.List.{append-nil, take_more, map_push, map-append}
 use Rattle.mud_nvt.specs.declared.Unit.{Unit as CodeUnit}
 use Rattle.mud_nvt.specs.Units.{Given, units}
 use Rattle.mud_nvt.specs.History.{StandsAfter}
-use Rattle.mud_nvt.specs.Shown.{unit_shown, all_shown}
+use Rattle.mud_nvt.specs.UnitViews.{unit_shown, all_shown}
 use Rattle.mud_session.specs.State.{SessionState, DoorState}
 use Rattle.mud_session.specs.Session.{TakingIn, Does, Play, is_last, is_over, text_of}
-use Rattle.mud_session.specs.Feeding.{Feeds}
-use Rattle.mud_session.specs.inner.Turning.{HasTurn}
+use Rattle.mud_session.specs.Feeds.{Feeds}
+use Rattle.mud_session.specs.inner.TurnTexts.{HasTurn}
 use Rattle.mud_session.proofs.Playing.{unit_in, text_in, joined, is_over-append, text_of-append}
 
 -- each of these units had its turn, up to the last, and what is sent for them is to be taken out

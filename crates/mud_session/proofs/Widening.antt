@@ -14,7 +14,7 @@ use Rattle.std.proofs.lemmas.List.Elements.{All-head, All-tail}
 use Rattle.mud_nvt.specs.declared.codes.TheConstants.{LF, CR}
 use Rattle.mud_key.specs.Lines.{HasNoLineFeed}
 use Rattle.mud_session.specs.Session.{wire_text, with_version}
-use Rattle.mud_session.specs.inner.Parts.{on_wire}
+use Rattle.mud_session.specs.inner.Wire.{on_wire}
 
 -- the text on the wire
 abbrev wide : List ℕ → List ℕ

@@ -4,12 +4,12 @@ use Rattle.std.specs.List.{flat_map}
 use Rattle.mud_nvt.specs.Units.{units}
 use Rattle.mud_nvt.specs.History.{StandsAfter}
 use Rattle.mud_chron.specs.Entry.{Entry}
-use Rattle.mud_hall.specs.Told.{notices}
+use Rattle.mud_hall.specs.Notices.{notices}
 use Rattle.mud_hall.specs.Desk.{DeskState}
 use Rattle.mud_hall.specs.Steps.{Call, See, Act, Ask, Told, Hall, lone_desk, opened_alone, At, IsRun}
 use Rattle.mud_session.specs.Session.{TakesNone, Case, Rests, Looks, Fails, Asks, Acts, Turn, Play, text_of}
 use Rattle.mud_session.specs.State.{SessionState}
-use Rattle.mud_session.specs.Naming.{NamesUpTo, IsNotice}
+use Rattle.mud_session.specs.Notices.{NamesUpTo, IsNotice}
 
 -- memory ran out for the line
 abbrev pub fails : Case → Bool

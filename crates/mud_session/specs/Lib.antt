@@ -1,7 +1,7 @@
 pub mod Session
 pub mod State
-pub mod Feeding
+pub mod Feeds
 pub mod Script
-pub mod Naming
+pub mod Notices
 pub mod Laws
 pub mod inner

@@ -1,6 +1,6 @@
 -- What a contract sees of a session.
 use Rattle.std.specs.Prelude.{ℕ, Bool, List}
-use Rattle.mud_nvt.specs.Machine.{Held}
+use Rattle.mud_nvt.specs.Held.{Held}
 use Rattle.mud_hall.specs.Desk.{DeskState}
 
 -- its terminal, whether it has ended, and what is to be sent
@@ -13,4 +13,4 @@ pub record SessionState : Type 0 where
 pub record DoorState : Type 0 where
   pub capacity : ℕ
   pub desk : DeskState
-  pub untold : List (List ℕ)
+  pub pending : List (List ℕ)

@@ -1,3 +1,3 @@
-pub mod Parts
-pub mod Serving
-pub mod Turning
+pub mod Wire
+pub mod Service
+pub mod TurnTexts

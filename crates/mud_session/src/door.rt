@@ -28,13 +28,13 @@ pub trait Door {
         ensures replies { (ready : DeskState) × takes_in (state self.old).desk ready
             × Replies (state self.old).capacity ready (line_of line.now) (reply_shown result) (state self.new).desk }
         ensures stored { reply_shown result ≡ Failed Fault.Unpublished → IsShared takes_in }
-        ensures told { reply_shown result ≢ Failed Fault.OutOfMemory → (state self.new).untold ≡ [] };
+        ensures told { reply_shown result ≢ Failed Fault.OutOfMemory → (state self.new).pending ≡ [] };
 
     /// Takes entries in.
     fn see(&mut self) -> Result<(), Fault>
         ensures capacity { (state self.new).capacity ≡ (state self.old).capacity }
         ensures takes { takes_in (state self.old).desk (state self.new).desk }
-        ensures told { OnOk result ((state self.new).untold ≡ []) }
+        ensures told { OnOk result ((state self.new).pending ≡ []) }
         ensures fault { IfErr result (λ f. f ≡ Fault.OutOfMemory) };
 
     /// Answers a line that asks, by what it says and exactly what the desk has seen.
@@ -42,7 +42,7 @@ pub trait Door {
         requires { IsSync X.row }
         ensures capacity { (state self.new).capacity ≡ (state self.old).capacity }
         ensures same { (state self.new).desk ≡ (state self.old).desk }
-        ensures told { OnOk result ((state self.new).untold ≡ []) }
+        ensures told { OnOk result ((state self.new).pending ≡ []) }
         ensures answers { IfOk result (λ a. Answers (state self.old).desk (line_of line.now) (answer_shown a)) }
         ensures fault { IfErr result (λ f. f ≡ Fault.OutOfMemory) };
 
@@ -50,11 +50,11 @@ pub trait Door {
     fn take_told(&mut self) -> Vec<String>
         ensures capacity { (state self.new).capacity ≡ (state self.old).capacity }
         ensures told { (state self.old).desk.told ≡ map string_bytes result.items ++ (state self.new).desk.told }
-        ensures rest { (state self.new).desk ≡ with_told (state self.old).desk (state self.old).untold };
+        ensures rest { (state self.new).desk ≡ with_told (state self.old).desk (state self.old).pending };
 }
 
 impl Door for Solo {
-    ghost state = { λ solo. record { capacity = solo.capacity; desk = solo.state; untold = [] } };
+    ghost state = { λ solo. record { capacity = solo.capacity; desk = solo.state; pending = [] } };
 
     ghost takes_in = { TakesNone };
 

@@ -6,7 +6,7 @@ ghost use Rattle.mud_hall.specs.Desk.{DeskState, TakesIn};
 ghost use Rattle.mud_hall.specs.Steps.{PerformsAll, lone_desk};
 ghost use Rattle.std.specs.Prelude.{List, ℕ};
 ghost use Rattle.mud_session.specs.State.{DoorState, SessionState};
-ghost use Rattle.mud_session.specs.Feeding.{Nudges, Feeds};
+ghost use Rattle.mud_session.specs.Feeds.{Nudges, Feeds};
 
 /// In each turn at a desk of a hall what the desk had been told, and the notices of the others' entries that it came
 /// to see, are what was sent and what is left to be told, each once and in order.

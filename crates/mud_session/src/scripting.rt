@@ -8,7 +8,7 @@ ghost use Rattle.mud_hall.specs.Alone.{alone};
 ghost use Rattle.mud_hall.specs.Steps.{lone_desk};
 ghost use Rattle.mud_session.specs.Session.{TakesNone};
 ghost use Rattle.mud_session.specs.Script.{IsWhole, IsFront, IsOpen};
-ghost use Rattle.mud_session.specs.inner.Serving.{Serves, ServesInPart};
+ghost use Rattle.mud_session.specs.inner.Service.{Serves, ServesInPart};
 
 use crate::door::Door;
 use crate::session::Session;

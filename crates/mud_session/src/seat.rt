@@ -1,7 +1,7 @@
 //! A desk of a hall as a door.
 
 ghost use Rattle.std.specs.Prelude.{◌≡◌, ◌≤◌, length, is_some};
-ghost use Rattle.mud_hall.specs.Desk.{untold};
+ghost use Rattle.mud_hall.specs.Desk.{pending};
 ghost use Rattle.mud_search.specs.declared.limits.TheConstants.{MOST_WORKERS};
 
 use crate::door::Door;
@@ -25,7 +25,7 @@ pub struct Seat<'h, J: HallName> {
 
 impl<'h, J: HallName> Model for Seat<'h, J> {
     ghost use Rattle.std.specs.Prelude.{◌≤◌, length};
-    ghost use Rattle.mud_hall.specs.Desk.{untold};
+    ghost use Rattle.mud_hall.specs.Desk.{pending};
     ghost use Rattle.mud_session.specs.State.{DoorState};
     ghost use Rattle.mud_search.specs.declared.limits.TheConstants.{MOST_WORKERS};
 
@@ -36,7 +36,7 @@ impl<'h, J: HallName> Model for Seat<'h, J> {
 
     ghost coded = { Prim.hlevel (codes, coded_number_tree) };
 
-    ghost view = { λ s. record { capacity = length J.cells; desk = s.desk.state; untold = untold s.desk } };
+    ghost view = { λ s. record { capacity = length J.cells; desk = s.desk.state; pending = pending s.desk } };
 
     ghost invariant = { λ s. s.workers ≤ MOST_WORKERS };
 }
@@ -45,7 +45,7 @@ impl<'h, J: HallName> Seat<'h, J> {
     /// The desk at its hall. The guide searches by `workers` threads, 0 to 8; the answers are the same.
     pub fn new(hall: &'h Hall<J>, desk: Desk<J>, workers: u32) -> Seat<'h, J>
         requires { workers ≤ MOST_WORKERS }
-        ensures { result ≡ record { capacity = length J.cells; desk = desk.state; untold = untold desk } }
+        ensures { result ≡ record { capacity = length J.cells; desk = desk.state; pending = pending desk } }
     {
         Seat::up_to(hall, desk, workers, u32::MAX)
     }
@@ -54,7 +54,7 @@ impl<'h, J: HallName> Seat<'h, J> {
     /// the `most`-th. A line that acts takes in all.
     pub fn up_to(hall: &'h Hall<J>, desk: Desk<J>, workers: u32, most: u32) -> Seat<'h, J>
         requires { workers ≤ MOST_WORKERS }
-        ensures { result ≡ record { capacity = length J.cells; desk = desk.state; untold = untold desk } }
+        ensures { result ≡ record { capacity = length J.cells; desk = desk.state; pending = pending desk } }
     {
         Seat {
             hall,
@@ -95,7 +95,7 @@ impl<'h, J: HallName> Seat<'h, J> {
     /// The desk as it is.
     pub fn into_desk(self) -> Desk<J>
         ensures state { result.state ≡ self.entry.desk }
-        ensures told { untold result ≡ self.entry.untold }
+        ensures told { pending result ≡ self.entry.pending }
     {
         self.desk
     }

@@ -4,7 +4,7 @@ ghost use Rattle.std.specs.Prelude.{◌≡◌, ℕ, List, [], false, true, if◌
 ghost use Rattle.std.specs.Prelude.{OnOk, OnErr, IfOk, string_bytes};
 ghost use Rattle.mud_nvt.specs.History.{StandsAfter};
 ghost use Rattle.mud_nvt.specs.Units.{Text};
-ghost use Rattle.mud_nvt.specs.Shown.{unit_shown};
+ghost use Rattle.mud_nvt.specs.UnitViews.{unit_shown};
 
 use crate::door::Door;
 use crate::fault::SessionFault;
@@ -51,8 +51,8 @@ impl Session {
     ghost use Rattle.mud_hall.specs.Desk.{with_told};
     ghost use Rattle.mud_hall.specs.Replies.{reply_shown};
     ghost use Rattle.mud_session.specs.Session.{wire_text, with_version};
-    ghost use Rattle.mud_session.specs.inner.Turning.{sends, sent_for, Told, IsSaid, HasTurn};
-    ghost use Rattle.mud_session.specs.Feeding.{Feeds, Nudges};
+    ghost use Rattle.mud_session.specs.inner.TurnTexts.{sends, sent_for, Told, IsSaid, HasTurn};
+    ghost use Rattle.mud_session.specs.Feeds.{Feeds, Nudges};
 
     /// A session to which nothing came, and which sent nothing, or only the greeting. The only error
     /// is out of memory.
@@ -299,7 +299,7 @@ impl Session {
     // Sends what the desk was told.
     fn tell<D: Door>(&mut self, door: &mut D) -> Result<(), AllocError>
         ensures told { OnOk result (Told self.old self.new (D.state door.old).desk (D.state door.new).desk) }
-        ensures rest { (D.state door.new).desk ≡ with_told (D.state door.old).desk (D.state door.old).untold }
+        ensures rest { (D.state door.new).desk ≡ with_told (D.state door.old).desk (D.state door.old).pending }
         ensures capacity { (D.state door.new).capacity ≡ (D.state door.old).capacity }
     {
         let lines = door.take_told();

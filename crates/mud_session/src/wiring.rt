@@ -3,7 +3,7 @@
 ghost use Rattle.std.specs.Prelude.{◌≡◌, ◌++◌, ◌∷◌, [], ◌+◌, ◌≤◌, length, take, drop, IfOk, OnOk, string_bytes};
 ghost use Rattle.mud_nvt.specs.declared.codes.TheConstants.{LF, CR};
 ghost use Rattle.std.specs.List.{flat_map};
-ghost use Rattle.mud_session.specs.inner.Parts.{on_wire};
+ghost use Rattle.mud_session.specs.inner.Wire.{on_wire};
 
 use memchr::memchr;
 use std::alloc::AllocError;

@@ -6,12 +6,12 @@ use Rattle.websocket.specs.declared.error.Error.{Error}
 use Rattle.mud_nvt.specs.History as Nvt
 use Rattle.mud_hall.specs.Desk.{DeskState, TakesIn as TakesInEntries}
 use Rattle.mud_session.specs.State.{SessionState, DoorState}
-use Rattle.mud_session.specs.inner.Parts.{greeting}
+use Rattle.mud_session.specs.inner.Wire.{greeting}
 use Rattle.mud_session.specs.Laws.{NamesSeen}
 use Rattle.mud_talk.proofs.Naming.{NothingBeyond}
 use Rattle.mud_session.proofs.Naming.{begins_so, taken_so, names-nil}
 use Rattle.mud_web.specs.Channel.{StandsAfter, TakesIn, EndsWith, replies as replies_to, frame_of}
-use Rattle.mud_web.specs.Closing.{ending_of, closes_for}
+use Rattle.mud_web.specs.Close.{ending_of, closes_for}
 use Rattle.mud_web_session.specs.Web.{WebState, has_ended, with_output, AnswersTyped, NudgesWeb}
 use Rattle.mud_web_session.specs.Web as Web
 use Rattle.mud_web_session.proofs.Feeding.{typed_none}

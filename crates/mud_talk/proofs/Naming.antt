@@ -6,9 +6,9 @@ use Rattle.mud_nvt.specs.History.{StandsAfter}
 use Rattle.mud_hall.specs.Desk.{DeskState, TakesIn}
 use Rattle.mud_session.specs.declared.fault.SessionFault.TheVariants.{Ended}
 use Rattle.mud_session.specs.State.{SessionState, DoorState}
-use Rattle.mud_session.specs.Feeding.{Feeds, Nudges}
-use Rattle.mud_session.specs.inner.Parts.{greeting}
-use Rattle.mud_session.specs.Naming.{NamesUpTo}
+use Rattle.mud_session.specs.Feeds.{Feeds, Nudges}
+use Rattle.mud_session.specs.inner.Wire.{greeting}
+use Rattle.mud_session.specs.Notices.{NamesUpTo}
 use Rattle.mud_session.specs.Laws.{NamesSeen}
 use Rattle.mud_session.proofs.Naming.{begins_so, taken_so}
 use Rattle.mud_talk.specs.Sayings.{SaysUpTo}

@@ -4,8 +4,8 @@ use Rattle.websocket.specs.Connection.{Effect}
 use Rattle.mud_hall.specs.Desk.{DeskState}
 use Rattle.mud_web.specs.declared.closing.Ending.{Ending}
 use Rattle.mud_web.specs.Channel.{StandsAfter, replies, frame_of}
-use Rattle.mud_web.specs.Closing.{closes}
-use Rattle.mud_session.specs.Naming.{NamesUpTo}
+use Rattle.mud_web.specs.Close.{closes}
+use Rattle.mud_session.specs.Notices.{NamesUpTo}
 use Rattle.mud_session.specs.Laws.{NamesSeen}
 use Rattle.mud_web_session.specs.Web.{WebState}
 

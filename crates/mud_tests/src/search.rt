@@ -1,7 +1,7 @@
 //! A frontier by hand, and its labels.
 
 ghost use Rattle.std.specs.Prelude.{◌≡◌, ◌≤◌, All, length};
-ghost use Rattle.mud_roads.specs.Open.{IsTraveller};
+ghost use Rattle.mud_roads.specs.Passable.{IsTraveller};
 ghost use Rattle.mud_world.specs.declared.limits.TheConstants.{MOST_PARTY};
 
 use crate::rows::{digit, same, split_word};
@@ -130,10 +130,10 @@ fn goes_so<J: Job>(
     requires travellers { All (IsTraveller J.world) J.travellers }
 {
     let (what, task) = split_word(asked);
-    let (opened, held) = split_word(wanted);
+    let (waiting, held) = split_word(wanted);
     let is_so = moves(frontier, alloc, world, party, what, &task_of(task))?;
     let rest = frontier.rest();
-    Ok(is_so && rest.opened == digit(opened) as usize && rest.held == digit(held) as usize)
+    Ok(is_so && rest.waiting == digit(waiting) as usize && rest.held == digit(held) as usize)
 }
 
 // Does the moves, each as told; no room waits at the end.
@@ -156,6 +156,7 @@ fn play<J: Job>(
             );
         }
     }
+    // it does nothing as it runs: from it a caller's contract has the facts of a frontier
     frontier.facts();
     assert!(rt; frontier.take().is_none());
     Ok(())

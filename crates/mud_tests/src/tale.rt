@@ -3,7 +3,8 @@
 
 ghost use Rattle.std.specs.Prelude.{IfOk, IsTrue, Some};
 ghost use Rattle.mud_world.specs.State.{is_player};
-ghost use Rattle.mud_rules.specs.Outcome.{IsJourney, IsLawful, IsQuestion};
+ghost use Rattle.mud_rules.specs.Outcome.{IsLawful};
+ghost use Rattle.mud_rules.specs.inner.Outcome.{IsJourney, IsQuestion};
 
 use crate::rows::{digit, push_text, same, split_word};
 use mud_guide::{Answer, meet, meet_alone, route, route_alone};

@@ -1,7 +1,7 @@
 //! Several workers: that they work at once, which no contract says, and what they find.
 
 ghost use Rattle.std.specs.Prelude.{◌≡◌};
-ghost use Rattle.mud_roads.specs.Open.{IsTraveller};
+ghost use Rattle.mud_roads.specs.Passable.{IsTraveller};
 
 use crate::histories::WAY_ROUND;
 use crate::rows::same;

@@ -1,16 +1,9 @@
 -- Of two texts one thing at most is found.
-use Rattle.std.proofs.Common.{◌≡◌, ℕ, ◌<◌, ◌≤◌, List, [], ◌∷◌, length, take, Option, Some, None, inl, inr, refl, sym}
+use Rattle.std.proofs.Common.{◌≡◌, ℕ, ◌<◌, ◌≤◌, List, length, take, inl, inr, refl, sym}
 use Rattle.std.proofs.Common.{◌∙◌, ap, subst, arith}
 use Rattle.mud_world.specs.State.{State}
 use Rattle.mud_world.specs.Sound.{IsSound}
-use Rattle.mud_world.specs.Legal.{refusal}
-use Rattle.mud_world.specs.History.{world_from}
-use Rattle.mud_world.specs.inner.Parts.{step_or_same}
-use Rattle.mud_world.specs.Opening.{opening_state}
-use Rattle.mud_world.specs.declared.change.Change.{Change}
-use Rattle.mud_world.specs.declared.refusal.Refusal.{Refusal}
-use Rattle.mud_world.proofs.Begun.{opening-sound}
-use Rattle.mud_world.proofs.Sounding.{soundness_law}
+use Rattle.mud_world.proofs.Worlds.{worlds_law}
 use Rattle.mud_chron.specs.declared.fault.ChronFault.{ChronFault}
 use Rattle.mud_chron.specs.declared.fault.ChronFault.TheVariants.{BadChange}
 use Rattle.mud_chron.specs.Entry.{Entry}
@@ -72,16 +65,8 @@ not-above entries others c d version same is above reached =
     absurd (omega (arith, long, one, is, above, reached))
 
 -- the world of a certificate is sound
-step-sound : (w : State) (e : Change) (o : Option Refusal) → refusal w e ≡ o → IsSound w → IsSound (step_or_same w e)
-step-sound w e None is sound = rw is (soundness_law w e sound is)
-step-sound w e (Some f) is sound = rw is sound
-
-from-sound : (w : State) (es : List Change) → IsSound w → IsSound (world_from w es)
-from-sound w [] sound = sound
-from-sound w (e ∷ es) sound = from-sound (step_or_same w e) es (step-sound w e (refusal w e) refl sound)
-
 at-sound : (entries : List Entry) (version : ℕ) → IsSound (world_at entries version)
-at-sound entries version = from-sound opening_state (changes_of (take version entries)) opening-sound
+at-sound entries version = worlds_law (changes_of (take version entries))
 
 -- what is so of a certificate in its world is so of the same one in the same world
 moved : (entries others : List Entry) (c d : Certificate)

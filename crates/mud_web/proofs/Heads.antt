@@ -16,8 +16,8 @@ use Rattle.mud_web.specs.declared.asking.TheConstants.{MOST_HEAD, MOST_FIELDS}
 use Rattle.mud_web.specs.declared.asking.Asked.{Asked}
 use Rattle.mud_web.specs.declared.asking.Seen.{Seen}
 use Rattle.mud_web.specs.declared.asking.Seen.TheVariants.{Nothing, Own, Foreign}
-use Rattle.mud_web.specs.Origins.{IsSeen, is_own}
-use Rattle.mud_web.specs.Asking.{values, IsSmall, Answers, AnswersWhole}
+use Rattle.mud_web.specs.inner.Origins.{IsSeen, is_own}
+use Rattle.mud_web.specs.Request.{values, IsSmall, Answers, AnswersWhole}
 
 -- ---- the fields named Origin
 

@@ -20,9 +20,10 @@ use Rattle.mud_nvt.specs.declared.telnet.Position.TheVariants.{Between}
 use Rattle.mud_nvt.specs.declared.strokes.Stroke.{Stroke}
 use Rattle.mud_nvt.specs.declared.strokes.Stroke.TheVariants.{Character, EraseCharacter, EraseLine, EndLine}
 use Rattle.mud_nvt.specs.declared.strokes.Stroke.TheVariants.{AreYouThere, Refuse, Nothing}
-use Rattle.mud_nvt.specs.Editing.{stroke}
+use Rattle.mud_nvt.specs.Strokes.{stroke}
 use Rattle.mud_nvt.specs.Units.{Given, Text, TooLong, units}
-use Rattle.mud_nvt.specs.Machine.{Held, start, next, next_place, finished_piece, stroke_units, byte_units, run_units}
+use Rattle.mud_nvt.specs.Held.{Held}
+use Rattle.mud_nvt.specs.inner.Machine.{start, next, next_place, finished_piece, stroke_units, byte_units, run_units}
 use Rattle.mud_nvt.proofs.Whole.{units_is}
 use Rattle.mud_web.specs.Channel.{new_connection, typed_by, text_typed, typed_of}
 use Rattle.mud_web.specs.Laws.{IsLine}

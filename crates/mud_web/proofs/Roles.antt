@@ -31,8 +31,8 @@ use Rattle.websocket.proofs.StreamLemmas.{after_check_passed, TookFrame_from_rea
 use Rattle.websocket.proofs.EffectLemmas.{read_step_after_close}
 use Rattle.mud_web.specs.declared.closing.Ending.{Ending}
 use Rattle.mud_web.specs.Channel.{Standing, StandsAfter, new_connection, reply_by}
-use Rattle.mud_web.specs.Closing.{closes, closes_for, ending_of}
-use Rattle.mud_web.specs.Steps.{IsOpen, closes_in}
+use Rattle.mud_web.specs.Close.{closes, closes_for, ending_of}
+use Rattle.mud_web.specs.inner.Steps.{IsOpen, closes_in}
 
 abbrev Keeps : Connection → Effect → Type 0
 Keeps conn effect = (effect.next.role ≡ conn.role) × (conn.state ≡ Active → IsOpen effect.next.state)

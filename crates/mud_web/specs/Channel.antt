@@ -13,7 +13,7 @@ use Rattle.websocket.specs.Connection.{Connection, Effect, Outgoing, whole_heade
 use Rattle.websocket.specs.Stream.{read_all}
 use Rattle.mud_nvt.specs.declared.codes.TheConstants.{LF}
 use Rattle.mud_web.specs.declared.channel.TheConstants.{MOST_MESSAGE}
-use Rattle.mud_web.specs.Closing.{closes_for}
+use Rattle.mud_web.specs.Close.{closes_for}
 
 -- a connection of a server to which no frame came yet: a message and a frame have 4,096 bytes at most, and a frame
 -- without a mask is refused

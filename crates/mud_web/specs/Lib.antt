@@ -1,7 +1,8 @@
-pub mod Asking
+pub mod Request
 pub mod Channel
-pub mod Closing
+pub mod Close
 pub mod Laws
-pub mod Origins
+pub mod Answered
 pub mod Responses
-pub mod Steps
+pub mod Over
+pub mod inner

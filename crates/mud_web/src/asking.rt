@@ -5,8 +5,9 @@ ghost use Rattle.httparse.specs.Grammar.{RequestHead, ReadsRequest, HasNoRequest
 ghost use Rattle.httparse.specs.Spans.{IsRequestWithin, IsRequestAt, IsHeaderWithin, header_bytes};
 ghost use Rattle.websocket.specs.Headers.{fields_of, eq_ignore_case, is_graphic_text};
 ghost use Rattle.websocket.specs.Handshake.{response_bytes};
-ghost use Rattle.mud_web.specs.Asking.{Answers, AnswersWhole, Waits, values, LetsIn};
-ghost use Rattle.mud_web.specs.Origins.{IsSeen, IfPlay, is_own};
+ghost use Rattle.mud_web.specs.Request.{Answers, AnswersWhole, Waits, values, LetsIn};
+ghost use Rattle.mud_web.specs.Answered.{IfPlay};
+ghost use Rattle.mud_web.specs.inner.Origins.{IsSeen, is_own};
 
 use crate::refusal::Refusal;
 use httparse::Status;

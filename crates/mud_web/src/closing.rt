@@ -1,7 +1,7 @@
 //! How the server closes a web socket.
 
 ghost use Rattle.std.specs.Prelude.{◌≡◌, Some};
-ghost use Rattle.mud_web.specs.Closing.{code_of, ending_of};
+ghost use Rattle.mud_web.specs.Close.{code_of, ending_of};
 
 use websocket::error::Error;
 use websocket::protocol::CloseCode;

@@ -10,7 +10,7 @@ use Rattle.mud_web.specs.Channel.{Standing, new_connection, text_typed, typed_of
 use Rattle.mud_web.specs.Channel as Channel
 use Rattle.mud_session.specs.Session.{TakingIn}
 use Rattle.mud_session.specs.State.{SessionState, DoorState}
-use Rattle.mud_session.specs.Feeding.{Feeds}
+use Rattle.mud_session.specs.Feeds.{Feeds}
 use Rattle.mud_web_session.specs.Web.{WebState, with_output, StandsAfter, AnswersTyped, FeedsWeb}
 
 typed-append : (some more : List Effect) → text_typed (some ++ more) ≡ text_typed some ++ text_typed more

@@ -6,10 +6,10 @@ use Rattle.websocket.specs.Stream.{read_all}
 use Rattle.mud_nvt.specs.History as Nvt
 use Rattle.mud_web.specs.Channel.{Standing, new_connection, text_typed, typed_of, replies, frame_of, Finishes}
 use Rattle.mud_web.specs.Channel as Channel
-use Rattle.mud_web.specs.Closing.{closes_for}
+use Rattle.mud_web.specs.Close.{closes_for}
 use Rattle.mud_session.specs.Session.{TakingIn}
 use Rattle.mud_session.specs.State.{SessionState, DoorState}
-use Rattle.mud_session.specs.Feeding.{Feeds, Nudges}
+use Rattle.mud_session.specs.Feeds.{Feeds, Nudges}
 use Rattle.mud_web_session.specs.declared.fault.WebFault.{WebFault}
 use Rattle.mud_web_session.specs.declared.fault.WebFault.TheVariants.{OutOfMemory, Over, NotText, Ended}
 

@@ -1,2 +1,2 @@
-pub mod Heard
+pub mod Entrance
 pub mod inner

@@ -2,9 +2,9 @@
 
 ghost use Rattle.std.specs.Prelude.{◌≡◌, true, IfOk};
 ghost use Rattle.websocket.specs.Headers.{is_graphic_text};
-ghost use Rattle.mud_web.specs.Asking.{LetsIn};
-ghost use Rattle.mud_web.specs.Origins.{IfPlay};
-ghost use Rattle.mud_wire.specs.Heard.{WasLetIn};
+ghost use Rattle.mud_web.specs.Request.{LetsIn};
+ghost use Rattle.mud_web.specs.Answered.{IfPlay};
+ghost use Rattle.mud_wire.specs.Entrance.{WasLetIn};
 ghost use Rattle.mud_wire.specs.inner.Player.{IsPlaying};
 
 use crate::parting::Parting;

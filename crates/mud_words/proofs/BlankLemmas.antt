@@ -7,7 +7,8 @@ use Rattle.std.proofs.lemmas.Bool.Decides.{nat_tests}
 use Rattle.mud_words.specs.declared.codes.TheConstants.{QUOTE, COLON, SEMICOLON}
 use Rattle.mud_words.specs.declared.piece.Piece.{Piece}
 use Rattle.mud_words.specs.declared.piece.Piece.TheVariants.{Mark, Char}
-use Rattle.mud_words.specs.Words.{is_gap, texts_of, pieces_from, quoted_after, escaped_after, plain_words, is_space}
+use Rattle.mud_words.specs.Words.{plain_words, is_space}
+use Rattle.mud_words.specs.inner.Pieces.{is_gap, texts_of, pieces_from, quoted_after, escaped_after}
 use Rattle.mud_words.specs.Words.{without_front, spelled_out, words, is_blank}
 
 not_empty : {X : Type 0} (x : X) (xs : List X) → (length (x ∷ xs) == 0) ≡ false

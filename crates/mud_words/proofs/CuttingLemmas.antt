@@ -4,8 +4,8 @@ use Rattle.std.specs.List.{slice_split, onto_first}
 use Rattle.std.proofs.lemmas.List.{append-nil}
 use Rattle.mud_words.specs.declared.piece.Piece.{Piece}
 use Rattle.mud_words.specs.declared.piece.Piece.TheVariants.{Mark, Char}
-use Rattle.mud_words.specs.Words.{is_gap, text_of, texts_of}
-use Rattle.mud_words.specs.inner.Cutting.{goes_on, rest_words, open_word}
+use Rattle.mud_words.specs.inner.Pieces.{is_gap, text_of, texts_of}
+use Rattle.mud_words.specs.inner.Cuts.{goes_on, rest_words, open_word}
 
 pub onto : (word : List ℕ) (c : ℕ) (parts : List (List Piece))
     → goes_on word (onto_first (Char c) parts) ≡ goes_on (word ++ c ∷ []) parts

@@ -6,8 +6,9 @@ use Rattle.std.proofs.lemmas.List.{append-nil}
 use Rattle.std.proofs.lemmas.Bool.{cases_eq}
 use Rattle.std.proofs.lemmas.Bool.Decides.{nat_tests}
 use Rattle.mud_words.specs.declared.codes.TheConstants.{SPACE, QUOTE, BACKSLASH}
-use Rattle.mud_words.specs.Words.{pieces_from, is_gap, plain_words, after_first_word}
-use Rattle.mud_words.specs.inner.Cutting.{goes_on}
+use Rattle.mud_words.specs.Words.{plain_words, after_first_word}
+use Rattle.mud_words.specs.inner.Pieces.{pieces_from, is_gap}
+use Rattle.mud_words.specs.inner.Cuts.{goes_on}
 use Rattle.mud_words.specs.Grammar.{SpellsQuoted, SpellsRun, SpellsWord, SpellsOpen, SpellsLast, HasWords}
 use Rattle.mud_words.specs.Grammar as grammar
 use Rattle.mud_words.proofs.PieceLemmas.{from_gap, drop-past_one}

@@ -7,7 +7,7 @@ use Rattle.mud_words.specs.declared.codes.TheConstants.{SPACE}
 use Rattle.mud_words.specs.declared.prepositions.Spot.{Spot}
 use Rattle.mud_words.specs.Prepositions.{Found, preposition_of}
 use Rattle.mud_words.specs.Parse.{round}
-use Rattle.mud_words.specs.inner.Searching.{spot_of, split, join_words}
+use Rattle.mud_words.specs.inner.Spots.{spot_of, split, join_words}
 
 -- the library's words for the same
 pub joined_by : {X : Type 0} (f : X → List ℕ) (xs : List X) → join_by f (SPACE ∷ []) xs ≡ join_words (map f xs)

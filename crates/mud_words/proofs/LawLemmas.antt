@@ -8,9 +8,10 @@ use Rattle.std.proofs.lemmas.Bool.{false≢true}
 use Rattle.mud_words.specs.declared.codes.TheConstants.{SPACE, QUOTE, BACKSLASH}
 use Rattle.mud_words.specs.declared.piece.Piece.{Piece}
 use Rattle.mud_words.specs.declared.piece.Piece.TheVariants.{Gap, Char}
-use Rattle.mud_words.specs.Words.{pieces_from, pieces, is_gap, text_of, texts_of, plain_words, is_space}
+use Rattle.mud_words.specs.Words.{plain_words, is_space}
+use Rattle.mud_words.specs.inner.Pieces.{pieces_from, pieces, is_gap, text_of, texts_of}
 use Rattle.mud_words.specs.Laws.{is_mark, in_quotes, is_empty}
-use Rattle.mud_words.specs.inner.Cutting.{goes_on}
+use Rattle.mud_words.specs.inner.Cuts.{goes_on}
 use Rattle.mud_words.proofs.CuttingLemmas.{onto, more_mark, mark}
 
 -- ---- words between quotes

@@ -7,7 +7,7 @@ use Rattle.std.specs.List.{position_or_len}
 use Rattle.mud_words.specs.declared.codes.TheConstants.{SPACE, QUOTE, BACKSLASH}
 use Rattle.mud_words.specs.declared.piece.Piece.{Piece}
 use Rattle.mud_words.specs.declared.piece.Piece.TheVariants.{Gap, Mark, Char}
-use Rattle.mud_words.specs.Words.{piece, is_gap}
+use Rattle.mud_words.specs.inner.Pieces.{piece, is_gap}
 
 not_eqb : (b c : ℕ) → c < b → eqb b c ≡ false
 not_eqb b c lt = grind (arith, nat_tests)

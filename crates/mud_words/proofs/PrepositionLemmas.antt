@@ -14,7 +14,7 @@ use Rattle.std.proofs.lemmas.Slice.Eq.{bytes_eq-Decides}
 use Rattle.mud_words.specs.declared.Prep.{Prep}
 use Rattle.std.specs.Str.{str_to_ascii_lowercase as lower}
 use Rattle.mud_words.specs.Prepositions.{Phrase, Found, begins, of_length, phrase_at, or_later, preposition_of}
-use Rattle.mud_words.specs.inner.Searching.{spot_of, phrase_len}
+use Rattle.mud_words.specs.inner.Spots.{spot_of, phrase_len}
 
 -- the same phrase, so many words further on
 abbrev pub moved : ℕ → Found → Found

@@ -10,9 +10,9 @@ use Rattle.std.proofs.lemmas.Str.{IsCharBoundary-after_ascii, IsCharBoundary-sta
 use Rattle.mud_words.specs.declared.codes.TheConstants.{SPACE}
 use Rattle.mud_words.specs.declared.piece.Piece.{Piece}
 use Rattle.mud_words.specs.declared.piece.Piece.TheVariants.{Gap, Mark, Char}
-use Rattle.mud_words.specs.Words.{piece, quoted_after, escaped_after, is_gap, pieces_from, pieces, texts_of}
+use Rattle.mud_words.specs.inner.Pieces.{piece, quoted_after, escaped_after, is_gap, pieces_from, pieces, texts_of}
 use Rattle.mud_words.specs.Words.{plain_words, after_first_word, is_space, without_front, spelled_out, words}
-use Rattle.mud_words.specs.inner.Cutting.{goes_on, rest_words}
+use Rattle.mud_words.specs.inner.Cuts.{goes_on, rest_words}
 use Rattle.mud_words.proofs.PieceLemmas.{piece-low, of_char, from_gap, drop-past_one}
 use Rattle.mud_words.proofs.CuttingLemmas.{onto, more_mark}
 use Rattle.mud_words.proofs.BlankLemmas.{begins_blank, bare}

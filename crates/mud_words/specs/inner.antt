@@ -1,2 +1,3 @@
-pub mod Cutting
-pub mod Searching
+pub mod Cuts
+pub mod Spots
+pub mod Pieces

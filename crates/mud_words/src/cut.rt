@@ -1,7 +1,8 @@
 ghost use Rattle.std.specs.Prelude.{◌≡◌, ◌∷◌, ◌++◌, [], Some, map, string_bytes, IfOk, OnOk};
 ghost use Rattle.std.specs.Cow.{cow_str_bytes};
-ghost use Rattle.mud_words.specs.Words.{pieces, plain_words, after_first_word};
-ghost use Rattle.mud_words.specs.inner.Cutting.{rest_words};
+ghost use Rattle.mud_words.specs.Words.{plain_words, after_first_word};
+ghost use Rattle.mud_words.specs.inner.Pieces.{pieces};
+ghost use Rattle.mud_words.specs.inner.Cuts.{rest_words};
 
 use crate::piece::{Piece, Quotes};
 use crate::spaces::without_front;

@@ -1,5 +1,5 @@
 ghost use Rattle.std.specs.Prelude.{◌≡◌, false};
-ghost use Rattle.mud_words.specs.Words.{piece, quoted_after, escaped_after};
+ghost use Rattle.mud_words.specs.inner.Pieces.{piece, quoted_after, escaped_after};
 
 /// What a byte of a line is to the words that it stands in.
 #[derive(Clone, Copy)]

@@ -4,7 +4,7 @@ ghost use Rattle.std.specs.Cow.{cow_str_bytes};
 ghost use Rattle.std.specs.List.{find};
 ghost use Rattle.std.specs.Option.{option_map};
 ghost use Rattle.mud_words.specs.Prepositions.{begins, phrase_at, preposition_of};
-ghost use Rattle.mud_words.specs.inner.Searching.{row_shown, texts, spot_of, phrase_len};
+ghost use Rattle.mud_words.specs.inner.Spots.{row_shown, texts, spot_of, phrase_len};
 
 use crate::Prep;
 use std::alloc::Global;

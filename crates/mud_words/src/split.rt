@@ -4,7 +4,7 @@ ghost use Rattle.mud_words.specs.Words.{plain_words, without_front, without_back
 ghost use Rattle.std.specs.Str.{str_to_ascii_lowercase as lower};
 ghost use Rattle.mud_words.specs.Line.{line_of};
 ghost use Rattle.mud_words.specs.Parse.{line_of_words};
-ghost use Rattle.mud_words.specs.inner.Searching.{line_with, split, join_words};
+ghost use Rattle.mud_words.specs.inner.Spots.{line_with, split, join_words};
 
 use crate::cut::push_words;
 use crate::prepositions::preposition_of;
@@ -22,14 +22,14 @@ pub(crate) fn line_with_verb<'a>(
     ensures { IfOk result (λ p. line_of p
         ≡ line_of_words (cow_str_bytes verb.entry ∷ plain_words text.now) (without_back (without_front text.now))) }
 {
-    let verb = lowered(alloc, verb)?;
+    let verb = to_lower(alloc, verb)?;
     let mut args = Vec::new(alloc);
     push_words(alloc, text, &mut args)?;
     split(alloc, verb, args, without_back(without_front(text)))
 }
 
 // A word, its ASCII letters in lower case. One without upper case letters is not copied.
-fn lowered<'a>(alloc: Global, word: CowStr<'a, Global>) -> Result<CowStr<'a, Global>, AllocError>
+fn to_lower<'a>(alloc: Global, word: CowStr<'a, Global>) -> Result<CowStr<'a, Global>, AllocError>
     ensures { IfOk result (λ w. cow_str_bytes w ≡ lower (cow_str_bytes word.entry)) }
 {
     if !has_upper(&word) {

@@ -14,7 +14,7 @@ use Rattle.mud_world.specs.declared.record.Kind.TheVariants.{Room, Exit, Thing, 
 use Rattle.mud_world.specs.Kinds.{kind_place, is_room_kind, is_exit_kind}
 use Rattle.mud_world.specs.State.{State, record_at, exists, has, is_room, is_exit, place_of, key_of, nests, follow}
 use Rattle.mud_world.specs.Sound.{IsSound, IsRising, IsPlacedWell}
-use Rattle.mud_world.specs.inner.Parts.{AreNamedApart}
+use Rattle.mud_world.specs.inner.Fields.{AreNamedApart}
 use Rattle.mud_world.specs.Legal.{with_new}
 use Rattle.mud_world.specs.inner.CanGo.{IsNew}
 use Rattle.mud_world.proofs.Records.{record_cases, in_bounds, lookup-append_left, lookup-append_right}

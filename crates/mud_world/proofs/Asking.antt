@@ -1,12 +1,17 @@
 -- Askers put into lists and taken out again.
-use Rattle.std.proofs.Common.{◌≡◌, ℕ, Bool, true, false, cond, not, ◌&&◌, ◌||◌, List, [], ◌∷◌, refl, sym, ◌∙◌, ap, inl}
-use Rattle.std.proofs.Common.{inr, ⊎_elim}
+use Rattle.std.proofs.Common.{◌≡◌, ℕ, Bool, true, false, cond, not, ◌&&◌, ◌||◌, List, [], ◌∷◌, ◌++◌, refl, sym, ◌∙◌, ap}
+use Rattle.std.proofs.Common.{inl, inr, ⊎_elim}
 use Rattle.std.specs.Prelude.{nat_eq, nat_lt, IsTrue}
 use Rattle.std.specs.List.{list_any}
 use Rattle.std.specs.Option.{option_map}
 use Rattle.std.proofs.lemmas.Bool.{or_left, or_right, eq-eqb, eqb-true, eqb-false, ne_eqb, true≢false}
+use Rattle.std.proofs.lemmas.List.Folds.{list_any-append}
+use Rattle.mud_key.specs.declared.node.Node.{Node}
+use Rattle.mud_key.specs.Node.{key_of as tree_of}
+use Rattle.mud_key.specs.Tree.{asks_of}
 use Rattle.mud_lists.specs.Rising.{insert, put, without}
-use Rattle.mud_lists.specs.Lists.{list_at, AreSame, AreChanged, AreBetween}
+use Rattle.mud_lists.specs.Lists.{list_at, AreSame, AreChanged}
+use Rattle.mud_lists.specs.inner.Lists.{AreBetween}
 use Rattle.mud_world.specs.declared.record.Kind.{Kind}
 use Rattle.mud_world.specs.declared.links.Links.{Links}
 use Rattle.mud_world.specs.Kinds.{kind_place, kind_passage}
@@ -71,6 +76,16 @@ without-inserted n (x ∷ xs) =
     (λ e.
     ap (λ b. without n (cond b (n ∷ x ∷ xs) (x ∷ insert n xs))) e
     ∙ ap (λ v. cond (not (nat_eq x n)) (x ∷ v) v) (without-inserted n xs))
+
+-- ---- what a node asks
+abbrev pub asks_node : Node ℕ → ℕ → Bool
+asks_node k n = list_any (nat_eq n) (asks_of (tree_of k))
+
+-- a joined key asks what its two keys ask
+pub asks-either : (k a b l r : Node ℕ) → asks_of (tree_of k) ≡ asks_of (tree_of a) ++ asks_of (tree_of b) → l ≡ a
+    → r ≡ b → (n : ℕ) → asks_node k n ≡ (asks_node l n || asks_node r n)
+asks-either k a b l r is left right n =
+    rw (is, left, right) (list_any-append (nat_eq n) (asks_of (tree_of a)) (asks_of (tree_of b)))
 
 -- ---- changes one after the other, of f done twice as once
 module _ (p q t : ℕ → Bool) (whole : (n : ℕ) → t n ≡ (p n || q n)) (f : List ℕ → List ℕ)

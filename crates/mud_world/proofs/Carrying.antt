@@ -6,13 +6,14 @@ use Rattle.std.specs.Option.{option_map_or, option_and_then}
 use Rattle.std.specs.List.{list_any, IsDistinct}
 use Rattle.std.specs.Map.{lookup}
 use Rattle.std.proofs.lemmas.Bool.{cases_lt, or_cases, or_left, or_right, eq-eqb, eqb-true, true≢false}
+use Rattle.std.proofs.lemmas.List.Folds.{list_any-append}
 use Rattle.std.proofs.lemmas.Map.Steps.{length-le_from_distinct_below}
 use Rattle.indexmap.specs.IndexSet.{insert_key, insert_all}
 use Rattle.mud_world.specs.declared.record.Record.{Record}
 use Rattle.mud_world.specs.declared.record.Kind.{Kind}
 use Rattle.mud_world.specs.declared.record.Kind.TheVariants.{Room, Exit, Thing, Player}
 use Rattle.mud_world.specs.Kinds.{kind_place, is_room_kind}
-use Rattle.mud_world.specs.State.{State, has, opens, record_at, exists, place_of, is_number, contents_of, follow}
+use Rattle.mud_world.specs.State.{State, has, unlocked_in, record_at, exists, place_of, is_number, contents_of, follow}
 use Rattle.mud_world.specs.State.{within, Within, IsHolding}
 use Rattle.mud_world.specs.Truth.{key_true}
 use Rattle.mud_world.specs.Sound.{IsSound, IsRising, IsPlacedWell}
@@ -60,7 +61,7 @@ module _ (w : State) (sound : IsSound w) where
       ≡ option_map_or (λ r. is_number n (kind_place r.kind)) (record_at w o) false
   listed-contents o n = listed (λ r. is_number n (kind_place r.kind)) o 0 w.next w.objects sound.rising
 
-  pub content-place : (o n : ℕ) → list_any (nat_eq o) (contents_of w n) ≡ true
+  content-place : (o n : ℕ) → list_any (nat_eq o) (contents_of w n) ≡ true
       → (exists w o ≡ true) × (place_of w o ≡ Some n)
   content-place o n among =
       let is : option_map_or (λ r. is_number n (kind_place r.kind)) (record_at w o) false ≡ true =
@@ -78,7 +79,7 @@ module _ (w : State) (sound : IsSound w) where
       same_number None e = absurd (true≢false (sym e))
       same_number (Some p) e = ap (λ x. Some x) (sym (eqb-true n p e))
 
-  pub place-content : (o n : ℕ) → place_of w o ≡ Some n → list_any (nat_eq o) (contents_of w n) ≡ true
+  place-content : (o n : ℕ) → place_of w o ≡ Some n → list_any (nat_eq o) (contents_of w n) ≡ true
   place-content o n at =
       record_cases (record_at w o)
       (λ e. let bad : None ≡ Some n = sym (ap (option_and_then (λ r. kind_place r.kind)) e) ∙ at in absurd (cc))
@@ -106,10 +107,10 @@ pub record Gathers (w : State) (c : ℕ) (keys : List ℕ) (i : ℕ) : Type 0 wh
   pub first : exists w c ≡ true → list_any (nat_eq c) keys ≡ true
   pub closed : (j p o : ℕ) → j < i → slice_get keys j ≡ Some p → place_of w o ≡ Some p → list_any (nat_eq o) keys ≡ true
 
-get-push : (ks : List ℕ) (k j : ℕ) → j < length ks → slice_get (ks ++ k ∷ []) j ≡ slice_get ks j
-get-push [] k j lt = absurd (omega arith)
-get-push (x ∷ ks) k zero lt = refl
-get-push (x ∷ ks) k (suc j) lt = get-push ks k j (omega arith)
+pub get-front : (ks xs : List ℕ) (j : ℕ) → j < length ks → slice_get (ks ++ xs) j ≡ slice_get ks j
+get-front [] xs j lt = absurd (omega arith)
+get-front (k ∷ ks) xs zero lt = refl
+get-front (k ∷ ks) xs (suc j) lt = get-front ks xs j (omega arith)
 
 length-push : (ks : List ℕ) (k : ℕ) → length ks ≤ length (ks ++ k ∷ [])
 length-push [] k = omega arith
@@ -122,7 +123,7 @@ key-kept ks k j lt = by (list_any (nat_eq k) ks)
     by : (b : Bool)
         → (slice_get (cond b ks (ks ++ k ∷ [])) j ≡ slice_get ks j) × (length ks ≤ length (cond b ks (ks ++ k ∷ [])))
     by true = (refl, omega arith)
-    by false = (get-push ks k j lt, length-push ks k)
+    by false = (get-front ks (k ∷ []) j lt, length-push ks k)
 
 pub keys-kept : (xs ks : List ℕ) (j : ℕ) → j < length ks → slice_get (insert_all nat_eq ks xs) j ≡ slice_get ks j
 keys-kept [] ks j lt = refl
@@ -131,18 +132,17 @@ keys-kept (x ∷ xs) ks j lt =
     let longer = one.1 in
     keys-kept xs (insert_key nat_eq ks x) j (omega (arith, lt, longer)) ∙ one.0
 
-or-false : (b : Bool) → (b || false) ≡ b
+pub or-false : (b : Bool) → (b || false) ≡ b
 or-false true = refl
 or-false false = refl
 
-or-more : (a b c : Bool) → (a || (b || c)) ≡ ((a || b) || c)
+pub or-more : (a b c : Bool) → (a || (b || c)) ≡ ((a || b) || c)
 or-more true b c = refl
 or-more false b c = refl
 
 any-push : (o k : ℕ) (ks : List ℕ) → list_any (nat_eq o) (ks ++ k ∷ []) ≡ (list_any (nat_eq o) ks || nat_eq o k)
-any-push o k [] = or-false (nat_eq o k)
-any-push o k (x ∷ ks) = ap (λ b. nat_eq o x || b) (any-push o k ks)
-    ∙ or-more (nat_eq o x) (list_any (nat_eq o) ks) (nat_eq o k)
+any-push o k ks = list_any-append (nat_eq o) ks (k ∷ [])
+    ∙ ap (λ b. list_any (nat_eq o) ks || b) (or-false (nat_eq o k))
 
 pub any-one : (o k : ℕ) (ks : List ℕ)
     → list_any (nat_eq o) (insert_key nat_eq ks k) ≡ (list_any (nat_eq o) ks || nat_eq o k)
@@ -192,22 +192,23 @@ member-at p (x ∷ ks) among =
     (or_cases _ _ among)
 
 module _ (w : State) (sound : IsSound w) (c : ℕ) where
-  -- one more looked into
-  pub gathers-more : (keys keys' : List ℕ) (i at : ℕ) → Gathers w c keys i → slice_get keys i ≡ Some at
-      → i < length keys → keys' ≡ insert_all nat_eq keys (contents_of w at) → Gathers w c keys' (i + 1)
-  gathers-more keys keys' i at was here lt is = record {
+  -- one more looked into: what was found stands where it stood, and what lies in the one is found, too
+  pub gathers-on : (keys keys' : List ℕ) (i at : ℕ) → Gathers w c keys i → slice_get keys i ≡ Some at
+      → i < length keys → ((j : ℕ) → j < length keys → slice_get keys' j ≡ slice_get keys j)
+      → ((o : ℕ) → list_any (nat_eq o) keys' ≡ (list_any (nat_eq o) keys || list_any (nat_eq o) (contents_of w at)))
+      → Gathers w c keys' (i + 1)
+  gathers-on keys keys' i at was here lt stands union = record {
     inside = λ o among.
         ⊎_elim
         (λ (old : list_any (nat_eq o) keys ≡ true). was.inside o old)
         (λ (new : list_any (nat_eq o) (contents_of w at) ≡ true).
         let there = content-place w sound o at new in
-        let up = was.inside at (here-among at here) in
+        let up = was.inside at (at-among at i keys here) in
         (there.0, (suc up.1.0, follow_by w up.1.0 o (Some at) there.1 ∙ up.1.1)))
         (or_cases _ _ (sym (union o) ∙ among));
     first = λ there. union c ∙ or_left _ _ (was.first there);
     closed = λ j p o low got placed.
-        let before : slice_get keys j ≡ Some p = sym (keys-kept (contents_of w at) keys j (omega (arith, low, lt)))
-        ∙ ap (λ v. slice_get v j) (sym is) ∙ got in
+        let before : slice_get keys j ≡ Some p = sym (stands j (omega (arith, low, lt))) ∙ got in
         ⊎_elim
         (λ (less : j < i). union o ∙ or_left _ _ (was.closed j p o less before placed))
         (λ (le : i ≤ j).
@@ -218,16 +219,18 @@ module _ (w : State) (sound : IsSound w) (c : ℕ) where
         (cases_lt j i);
   }
     where
-      union : (o : ℕ) → list_any (nat_eq o) keys' ≡ (list_any (nat_eq o) keys || list_any (nat_eq o) (contents_of w at))
-      union o = ap (list_any (nat_eq o)) is ∙ any-all o (contents_of w at) keys
-
       at-among : (at i : ℕ) (ks : List ℕ) → slice_get ks i ≡ Some at → list_any (nat_eq at) ks ≡ true
       at-among at i [] got = absurd (let bad : None ≡ Some at = got in cc)
       at-among at zero (x ∷ ks) got = let same : x ≡ at = cc in or_left _ _ (eq-eqb at x (sym same))
       at-among at (suc i) (x ∷ ks) got = or_right (nat_eq at x) _ (at-among at i ks got)
 
-      here-among : (at : ℕ) → slice_get keys i ≡ Some at → list_any (nat_eq at) keys ≡ true
-      here-among at got = at-among at i keys got
+  -- each number once
+  pub gathers-more : (keys keys' : List ℕ) (i at : ℕ) → Gathers w c keys i → slice_get keys i ≡ Some at
+      → i < length keys → keys' ≡ insert_all nat_eq keys (contents_of w at) → Gathers w c keys' (i + 1)
+  gathers-more keys keys' i at was here lt is =
+      gathers-on keys keys' i at was here lt
+      (λ j low. ap (λ v. slice_get v j) is ∙ keys-kept (contents_of w at) keys j low)
+      (λ o. ap (list_any (nat_eq o)) is ∙ any-all o (contents_of w at) keys)
 
   -- there are no more than there are numbers
   pub gathers-few : (keys : List ℕ) (i : ℕ) → Gathers w c keys i → IsDistinct nat_eq keys → length keys ≤ w.next
@@ -297,8 +300,9 @@ get_or-past (x ∷ xs) (suc i) le = get_or-past xs i (omega arith)
 
 -- the answers of a level less give those of the next
 pub next-level : (w : State) (held : ℕ → Bool) (before : List Bool) (n : ℕ)
-    → ((o : ℕ) → get_or before o false ≡ opens w n held o) → (o : ℕ)
-    → has w o (λ r. option_map_or (key_true held (λ a. get_or before a false)) r.key true) ≡ opens w (suc n) held o
+    → ((o : ℕ) → get_or before o false ≡ unlocked_in w n held o) → (o : ℕ)
+    → has w o (λ r. option_map_or (key_true held (λ a. get_or before a false)) r.key true)
+    ≡ unlocked_in w (suc n) held o
 next-level w held before n is o = λ i. has w o (λ r. option_map_or (key_true held (λ a. is a i)) r.key true)
 
 pub if_ok-weaker : {T E : Type 0} (r : Result T E) (P Q : T → Type 0) → ((x : T) → P x → Q x) → IfOk r P → IfOk r Q

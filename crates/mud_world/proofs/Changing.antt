@@ -9,7 +9,7 @@ use Rattle.mud_world.specs.declared.record.Kind.TheVariants.{Room, Exit, Thing, 
 use Rattle.mud_world.specs.Kinds.{kind_place, is_room_kind, is_exit_kind}
 use Rattle.mud_world.specs.State.{State, record_at, place_of, follow, all_nest}
 use Rattle.mud_world.specs.Sound.{IsPlacedWell, IsSound}
-use Rattle.mud_world.specs.inner.Parts.{IsKeyless, IsLockedWell, AreNamedApart, with_record}
+use Rattle.mud_world.specs.inner.Fields.{IsKeyless, IsLockedWell, AreNamedApart, with_record}
 use Rattle.mud_world.proofs.Places.{option_cases, follow_by, no_circle-from_end}
 use Rattle.mud_world.proofs.Records.{lookup-set_value_same, lookup-set_value_other, IsRising-set_value}
 use Rattle.mud_world.proofs.Moving.{ends_before}

@@ -10,7 +10,7 @@ use Rattle.mud_key.specs.Tree.{Tree}
 use Rattle.mud_world.specs.declared.record.Record.{Record}
 use Rattle.mud_world.specs.State.{State, record_at, key_of, nests, all_nest}
 use Rattle.mud_world.specs.Sound.{IsSound, IsRising}
-use Rattle.mud_world.specs.inner.Parts.{with_lock}
+use Rattle.mud_world.specs.inner.Fields.{with_lock}
 use Rattle.mud_world.specs.Nesting.{Question, Questions}
 use Rattle.mud_world.specs.inner.Askers.{askers_of, climbs}
 use Rattle.mud_world.specs.inner.Edits.{asked_by}

@@ -18,12 +18,14 @@ use Rattle.mud_world.specs.declared.change.Doors.{Doors}
 use Rattle.mud_world.specs.Kinds.{kind_place, is_room_kind, is_player_kind}
 use Rattle.mud_world.specs.State.{State, record_at, has, is_room, is_player, place_of}
 use Rattle.mud_world.specs.Sound.{IsSound, IsRising, IsPlacedWell}
-use Rattle.mud_world.specs.Legal.{with_new, new_record, new_exit, dug, refusal, refusals, fails}
-use Rattle.mud_world.specs.inner.Parts.{without_object}
+use Rattle.mud_world.specs.Legal.{with_new, new_record, new_exit, dig_records, refusal, fails}
+use Rattle.mud_world.specs.inner.Refusals.{refusals}
+use Rattle.mud_world.specs.inner.Fields.{without_object}
 use Rattle.mud_world.specs.inner.CanGo.{CanAdd, CanJoin}
-use Rattle.mud_world.proofs.Records.{record_cases, lookup-append_left, lookup-append_right}
+use Rattle.mud_world.proofs.Records.{record_cases, lookup-append_left}
 use Rattle.mud_world.proofs.Going.{nothing_fails}
 use Rattle.mud_world.proofs.Grown.{next_missing}
+use Rattle.mud_world.proofs.Naming.{record-new}
 
 pub has-grown : (w : State) (rs : List Record) (test : Record → Bool) (n : ℕ) → has w n test ≡ true
     → has (with_new w rs) n test ≡ true
@@ -106,9 +108,9 @@ module _ (w : State) (sound : IsSound w) (a : ℕ) (target : Target) (doors : Op
       stands (Thing p) e well = absurd (true≢false (sym e))
       stands (Player p) e well = well
 
-  pub enough : w.next + length (dug w a target doors) ≤ NUMBERS
+  pub enough : w.next + length (dig_records w a target doors) ≤ NUMBERS
   enough = let small =
-      ltb-false NUMBERS (w.next + length (dug w a target doors)) none_holds.1.1.1.1.1.1.1.1.1.1.1.1.1.1.0 in
+      ltb-false NUMBERS (w.next + length (dig_records w a target doors)) none_holds.1.1.1.1.1.1.1.1.1.1.1.1.1.1.0 in
       omega (arith, small)
 
 pub CanJoin-dig_old : (w : State) → IsSound w → (a room : ℕ) (doors : Option Doors)
@@ -128,8 +130,7 @@ CanJoin-dig_new w sound a names doors legal = record {
       (here-room w sound a (New names) doors legal);
   to =
       ap (λ v. option_map_or (λ r. is_room_kind r.kind) v false)
-      (lookup-append_right w.next w.objects ((w.next, new_record a names Room) ∷ []) (next_missing w sound)
-      ∙ ap (λ b. cond b (Some (new_record a names Room)) None) (eq-eqb w.next w.next refl));
+      (record-new w (new_record a names Room) (next_missing w sound));
 }
 
 -- ---- taking back what was added last
@@ -166,8 +167,7 @@ pub last-found : (w : State) → IsSound w → (before : State) (r : Record) →
 last-found w sound before r old is =
     ap (λ v. record_at v (v.next - 1)) is
     ∙ ap (record_at (with_new before (r ∷ []))) back
-    ∙ lookup-append_right before.next before.objects ((before.next, r) ∷ []) (next_missing before old)
-    ∙ ap (λ b. cond b (Some r) None) (eq-eqb before.next before.next refl)
+    ∙ record-new before r (next_missing before old)
   where
     back : before.next + 1 - 1 ≡ before.next
     back = omega arith

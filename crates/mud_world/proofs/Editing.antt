@@ -6,7 +6,7 @@ use Rattle.mud_world.specs.declared.record.Kind.{Kind}
 use Rattle.mud_world.specs.Kinds.{kind_place, kind_passage}
 use Rattle.mud_world.specs.State.{State, record_at}
 use Rattle.mud_world.specs.Legal.{with_record_changed}
-use Rattle.mud_world.specs.inner.Parts.{with_record}
+use Rattle.mud_world.specs.inner.Fields.{with_record}
 
 pub changed_by : (w : State) (n : ℕ) (f : Record → Record) (r : Record) → record_at w n ≡ Some r
     → with_record_changed w n f ≡ with_record w n (f r)

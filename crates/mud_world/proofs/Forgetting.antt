@@ -6,7 +6,7 @@ use Rattle.std.proofs.lemmas.Bool.{eqb-true, eqb-false, eq-eqb}
 use Rattle.mud_world.specs.declared.record.Record.{Record}
 use Rattle.mud_world.specs.State.{State, record_at}
 use Rattle.mud_world.specs.Sound.{IsRising}
-use Rattle.mud_world.specs.inner.Parts.{without_object}
+use Rattle.mud_world.specs.inner.Fields.{without_object}
 use Rattle.mud_world.specs.Numbers.{without}
 use Rattle.mud_world.proofs.Records.{bool_cases}
 use Rattle.mud_world.proofs.Numbering.{passing, passing_by, found_here, found_past, without-below, without-other}

@@ -15,8 +15,9 @@ use Rattle.mud_world.specs.Kinds.{kind_place, kind_passage, kind_at, is_player_k
 use Rattle.mud_world.specs.State.{State, record_at, exists, is_room, is_exit, is_thing_kind, is_number, place_of}
 use Rattle.mud_world.specs.State.{destination_of, follow, comes_to, within}
 use Rattle.mud_world.specs.Sound.{IsSound, IsPlacedWell}
-use Rattle.mud_world.specs.Legal.{refusals, refusal, fails}
-use Rattle.mud_world.specs.inner.Parts.{with_record, with_place}
+use Rattle.mud_world.specs.Legal.{refusal, fails}
+use Rattle.mud_world.specs.inner.Refusals.{refusals}
+use Rattle.mud_world.specs.inner.Fields.{with_record, with_place}
 use Rattle.mud_world.specs.inner.CanGo.{CanGo}
 use Rattle.mud_world.proofs.Records.{record_cases, bool_cases, in_bounds}
 use Rattle.mud_world.proofs.Containing.{follow-past}

@@ -13,7 +13,7 @@ use Rattle.mud_world.specs.Kinds.{is_player_kind}
 use Rattle.mud_world.specs.State.{State, is_number, is_taken, shares, named_player}
 use Rattle.mud_world.specs.Sound.{IsRising, IsSound}
 use Rattle.mud_world.specs.inner.Edits.{names_to_find}
-use Rattle.mud_world.specs.Inside.{is_called, AreNames}
+use Rattle.mud_world.specs.inner.Maps.{is_called, AreNames}
 use Rattle.mud_world.proofs.Records.{record_cases, bool_cases, in_bounds}
 use Rattle.mud_world.proofs.Owned.{among}
 use Rattle.mud_world.proofs.Players.{found-in}

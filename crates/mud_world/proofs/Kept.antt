@@ -9,16 +9,18 @@ use Rattle.mud_lists.specs.Lists.{list_at, AreChanged, AreSame}
 use Rattle.mud_lists.specs.Owners.{AreOwnersPassed}
 use Rattle.mud_lists.specs.inner.Views.{HaveSameOwners}
 use Rattle.mud_world.specs.declared.record.Record.{Record}
+use Rattle.mud_world.specs.declared.links.Links.{Links}
 use Rattle.mud_world.specs.declared.world.World.TheInside.{Inside}
 use Rattle.mud_world.specs.Kinds.{kind_place, is_player_kind}
 use Rattle.mud_world.specs.State.{State, record_at, is_number}
 use Rattle.mud_world.specs.Sound.{IsRising, IsSound}
 use Rattle.mud_world.specs.Legal.{with_record_changed, with_new}
-use Rattle.mud_world.specs.inner.Parts.{with_record, without_object, with_place}
+use Rattle.mud_world.specs.inner.Fields.{with_record, without_object, with_place}
 use Rattle.mud_world.specs.inner.CanGo.{CanGo, CanAdd, CanName}
 use Rattle.mud_world.specs.inner.Edits.{edit, placed_at, with_key, with_names, asked_by, names_to_find, called_by}
 use Rattle.mud_world.specs.inner.Edits.{AreLinked, AreMoved, AreRekeyed, AreSameLinks, IsInNone}
-use Rattle.mud_world.specs.Inside.{state_of, lies_in, leaves, arrives, asks_it, is_called, AreOf, AreNames, IsKept}
+use Rattle.mud_world.specs.Memory.{IsKept}
+use Rattle.mud_world.specs.inner.Maps.{state_of, lies_in, leaves, arrives, asks_it, is_called, AreOf, AreNames}
 use Rattle.mud_world.proofs.Records.{bool_cases, record_cases}
 use Rattle.mud_world.proofs.Numbering.{passing, passing-keep, passing-gain, passing-lose}
 use Rattle.mud_world.proofs.Carrying.{listed}
@@ -98,6 +100,10 @@ pub edited_by : (n : ℕ) (f : Record → Record) (es : List (ℕ × Record)) (r
     → edit n f es ≡ set_value (nat_eq n) es (f r)
 edited_by n f es r at = ap (λ v. option_map_or (λ r. set_value (nat_eq n) es (f r)) v es) at
 
+-- lists that nothing changed are the same
+pub links-stay : (l : Links) → AreSameLinks l l
+links-stay l = record { contents = λ n. refl; leaving = λ n. refl; arriving = λ n. refl }
+
 -- ---- what is not there yet
 pub new-in_none : (a : Inside) → IsKept a → IsInNone a.next a.links
 new-in_none a kept =
@@ -170,7 +176,7 @@ module _ (a a' : Inside) (kept : IsKept a) where
   -- an object is gone that is found by no name; the next number may be another
   module _ (n : ℕ) (r : Record) (at : record_at w n ≡ Some r)
       (records : a'.records.entries ≡ remove_entry (nat_eq n) a.records.entries) where
-    pub state-removed : state_of a' ≡ record (without_object w n) { next = a'.next }
+    state-removed : state_of a' ≡ record (without_object w n) { next = a'.next }
     state-removed = λ i. record { objects = records i; next = a'.next }
 
     pub kept-removed : AreLinked r.kind (without n) a.links a'.links

@@ -14,7 +14,7 @@ use Rattle.mud_world.specs.Kinds.{is_player_kind}
 use Rattle.mud_world.specs.State.{State, record_at, exists, key_of, nests, all_nest}
 use Rattle.mud_world.specs.Sound.{IsSound}
 use Rattle.mud_world.specs.Legal.{refusal}
-use Rattle.mud_world.specs.inner.Parts.{with_record, with_key, is_bad_key}
+use Rattle.mud_world.specs.inner.Fields.{with_record, with_key, is_bad_key}
 use Rattle.mud_world.specs.inner.CanGo.{CanKey}
 use Rattle.mud_world.proofs.Records.{record_cases, bool_cases, in_bounds, lookup-set_value_same, lookup-set_value_other}
 use Rattle.mud_world.proofs.Numbering.{set_here, set_past}

@@ -14,7 +14,8 @@ use Rattle.mud_world.specs.declared.refusal.Refusal.TheVariants.{BadCost, Recurs
 use Rattle.mud_world.specs.declared.refusal.Refusal.TheVariants.{LockedThing, InUse, WorldFull, PartyBad}
 use Rattle.mud_world.specs.State.{State}
 use Rattle.mud_world.specs.Refusals.{number}
-use Rattle.mud_world.specs.Legal.{is_arrival, deed_fails, fails, refusals, refusal}
+use Rattle.mud_world.specs.Legal.{is_arrival, deed_fails, fails, refusal}
+use Rattle.mud_world.specs.inner.Refusals.{refusals}
 use Rattle.mud_world.specs.Laws.{IsLeastRefusal}
 use Rattle.mud_world.proofs.Records.{bool_cases}
 

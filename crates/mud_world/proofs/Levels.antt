@@ -9,7 +9,7 @@ use Rattle.std.proofs.lemmas.Bool.{and_parts, true≢false}
 use Rattle.mud_key.specs.Tree.{Tree, Has, Asks, Not, Join, asks_of}
 use Rattle.mud_world.specs.declared.record.Record.{Record}
 use Rattle.mud_world.specs.Truth.{truth_of_join, key_true}
-use Rattle.mud_world.specs.State.{State, record_at, key_of, within, opens, nests, unlocked}
+use Rattle.mud_world.specs.State.{State, record_at, key_of, within, unlocked_in, nests, unlocked}
 use Rattle.mud_world.specs.Laws.{AreLevelsEnough}
 use Rattle.mud_world.proofs.Records.{record_cases, bool_cases}
 
@@ -37,23 +37,25 @@ same-truth held f g (Join op a b) all =
 -- the key that an option has is true with n levels and with one more
 by_key : (w : State) (held : ℕ → Bool) (n : ℕ)
     (more : (k : Tree ℕ) → nests w n k ≡ true
-    → key_true held (opens w n held) k ≡ key_true held (opens w (suc n) held) k) →
+    → key_true held (unlocked_in w n held) k ≡ key_true held (unlocked_in w (suc n) held) k) →
     (v : Option (Tree ℕ)) → option_map_or (nests w n) v true ≡ true
-    → option_map_or (key_true held (opens w n held)) v true
-    ≡ option_map_or (key_true held (opens w (suc n) held)) v true
+    → option_map_or (key_true held (unlocked_in w n held)) v true
+    ≡ option_map_or (key_true held (unlocked_in w (suc n) held)) v true
 by_key w held n more None nest = refl
 by_key w held n more (Some k) nest = more k nest
 
 asked : (w : State) (held : ℕ → Bool) (n : ℕ)
     (more : (k : Tree ℕ) → nests w n k ≡ true
-    → key_true held (opens w n held) k ≡ key_true held (opens w (suc n) held) k) →
-    (o : ℕ) → option_map_or (nests w n) (key_of w o) true ≡ true → opens w (suc n) held o ≡ opens w (suc (suc n)) held o
+    → key_true held (unlocked_in w n held) k ≡ key_true held (unlocked_in w (suc n) held) k)
+    → (o : ℕ) → option_map_or (nests w n) (key_of w o) true ≡ true
+    → unlocked_in w (suc n) held o ≡ unlocked_in w (suc (suc n)) held o
 asked w held n more o nest =
     let before =
-    λ (v : Option Record). option_map_or (λ r. option_map_or (key_true held (opens w n held)) r.key true) v false in
+    λ (v : Option Record). option_map_or
+    (λ r. option_map_or (key_true held (unlocked_in w n held)) r.key true) v false in
     let later =
     λ (v : Option Record). option_map_or
-    (λ r. option_map_or (key_true held (opens w (suc n) held)) r.key true) v false in
+    (λ r. option_map_or (key_true held (unlocked_in w (suc n) held)) r.key true) v false in
     record_cases (record_at w o)
     (λ e. ap before e ∙ sym (ap later e))
     (λ r e. ap before e
@@ -61,15 +63,15 @@ asked w held n more o nest =
     (sym (ap (λ v. option_map_or (nests w n) (option_and_then (λ r. r.key) v) true) e) ∙ nest) ∙ sym (ap later e))
 
 stable : (w : State) (held : ℕ → Bool) (n : ℕ) (k : Tree ℕ) → nests w n k ≡ true
-    → key_true held (opens w n held) k ≡ key_true held (opens w (suc n) held) k
+    → key_true held (unlocked_in w n held) k ≡ key_true held (unlocked_in w (suc n) held) k
 stable w held zero k nest =
-    same-truth held (opens w zero held) (opens w 1 held) k
-    (each-from (λ o. false) (λ o. opens w zero held o ≡ opens w 1 held o) (λ o no. absurd (true≢false (sym no)))
-    (asks_of k) nest)
+    same-truth held (unlocked_in w zero held) (unlocked_in w 1 held) k
+    (each-from (λ o. false) (λ o. unlocked_in w zero held o ≡ unlocked_in w 1 held o)
+    (λ o no. absurd (true≢false (sym no))) (asks_of k) nest)
 stable w held (suc n) k nest =
-    same-truth held (opens w (suc n) held) (opens w (suc (suc n)) held) k
+    same-truth held (unlocked_in w (suc n) held) (unlocked_in w (suc (suc n)) held) k
     (each-from (λ o. option_map_or (nests w n) (key_of w o) true)
-    (λ o. opens w (suc n) held o ≡ opens w (suc (suc n)) held o)
+    (λ o. unlocked_in w (suc n) held o ≡ unlocked_in w (suc (suc n)) held o)
     (λ o is. asked w held n (λ k nest. stable w held n k nest) o is) (asks_of k) nest)
 
 pub list_all-found : (p : Record → Bool) (n : ℕ) (r : Record) (es : List (ℕ × Record)) → lookup (nat_eq n) es ≡ Some r
@@ -86,7 +88,8 @@ pub levels_law : AreLevelsEnough
 levels_law = λ w sound c o.
     let held = λ (a : ℕ). within w a c in
     let before =
-    λ (v : Option Record). option_map_or (λ r. option_map_or (key_true held (opens w 3 held)) r.key true) v false in
+    λ (v : Option Record). option_map_or
+    (λ r. option_map_or (key_true held (unlocked_in w 3 held)) r.key true) v false in
     let later =
     λ (v : Option Record). option_map_or (λ r. option_map_or (key_true held (unlocked w c)) r.key true) v false in
     record_cases (record_at w o)

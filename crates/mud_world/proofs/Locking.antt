@@ -5,7 +5,7 @@ use Rattle.std.proofs.lemmas.Bool.{cases_eq}
 use Rattle.mud_key.specs.Tree.{Tree}
 use Rattle.mud_world.specs.declared.record.Record.{Record}
 use Rattle.mud_world.specs.State.{State, record_at, key_of}
-use Rattle.mud_world.specs.inner.Parts.{with_record, with_lock}
+use Rattle.mud_world.specs.inner.Fields.{with_record, with_lock}
 use Rattle.mud_world.proofs.Records.{record_cases, lookup-set_value_same, lookup-set_value_other}
 
 pub locked_by : (w : State) (n : ℕ) (key : Tree ℕ) (r : Record) → record_at w n ≡ Some r

@@ -1,10 +1,10 @@
 -- What was gathered is the holding, and its marks answer as it does.
-use Rattle.std.proofs.Common.{◌≡◌, ℕ, zero, suc, ◌+◌, ◌<◌, ◌≤◌, ◌&&◌, ◌||◌, Bool, true, false, List, [], ◌∷◌, ◌++◌}
+use Rattle.std.proofs.Common.{◌≡◌, ℕ, ◌+◌, ◌<◌, ◌≤◌, ◌&&◌, ◌||◌, Bool, true, false, List, [], ◌∷◌, ◌++◌}
 use Rattle.std.proofs.Common.{length, set, get_or, Option, Some, None, refl, sym, ◌∙◌, ap, arith, ⊎_elim}
 use Rattle.std.specs.Prelude.{nat_eq, is_some, is_none, slice_get}
 use Rattle.std.specs.Option.{option_map_or}
 use Rattle.std.specs.List.{list_any}
-use Rattle.std.proofs.lemmas.Bool.{cases_lt, or_cases, or_left, or_right, eqb-true, eq-eqb, true≢false}
+use Rattle.std.proofs.lemmas.Bool.{cases_lt, or_right, eqb-true, eq-eqb, true≢false}
 use Rattle.std.proofs.lemmas.List.{get_or-set_other, length-set, get_or_past}
 use Rattle.std.proofs.lemmas.List.Folds.{list_any-append}
 use Rattle.std.proofs.lemmas.Grind.{get_or-set_at}
@@ -15,25 +15,16 @@ use Rattle.mud_world.specs.State.{State, contents_of, within, comes_to, unlocked
 use Rattle.mud_world.specs.Sound.{IsSound}
 use Rattle.mud_world.specs.inner.Marks.{mark_all}
 use Rattle.mud_world.proofs.Records.{bool_cases}
-use Rattle.mud_world.proofs.Places.{follow_by}
-use Rattle.mud_world.proofs.Carrying.{Gathers, content-place, place-content, missing-above}
-
-or-none : (b : Bool) → (b || false) ≡ b
-or-none true = refl
-or-none false = refl
-
-or-same : (a b c : Bool) → ((a || b) || c) ≡ (a || (b || c))
-or-same true b c = refl
-or-same false b c = refl
+use Rattle.mud_world.proofs.Carrying.{Gathers, get-front, or-false, or-more, gathers-on, missing-above}
 
 -- ---- marks
 marked-at : (os : List ℕ) (ms : List Bool) (o : ℕ) → o < length ms
     → get_or (mark_all os ms) o false ≡ (get_or ms o false || list_any (nat_eq o) os)
-marked-at [] ms o lt = sym (or-none (get_or ms o false))
+marked-at [] ms o lt = sym (or-false (get_or ms o false))
 marked-at (p ∷ os) ms o lt =
     marked-at os (set ms p true) o (omega (arith, lt, length-set ms p true))
     ∙ ap (λ b. b || list_any (nat_eq o) os) one
-    ∙ or-same (get_or ms o false) (nat_eq o p) (list_any (nat_eq o) os)
+    ∙ sym (or-more (get_or ms o false) (nat_eq o p) (list_any (nat_eq o) os))
   where
     one : get_or (set ms p true) o false ≡ (get_or ms o false || nat_eq o p)
     one =
@@ -43,7 +34,7 @@ marked-at (p ∷ os) ms o lt =
         get_or-set_at ms p o true false same (omega (arith, lt, same)) ∙ sym (or_right (get_or ms o false) _ here))
         (λ past.
         get_or-set_other ms p o true false (λ same. true≢false (sym (eq-eqb o p same) ∙ past))
-        ∙ sym (ap (λ b. get_or ms o false || b) past ∙ or-none (get_or ms o false)))
+        ∙ sym (ap (λ b. get_or ms o false || b) past ∙ or-false (get_or ms o false)))
 
 length-marked : (os : List ℕ) (ms : List Bool) → length (mark_all os ms) ≡ length ms
 length-marked [] ms = refl
@@ -64,44 +55,13 @@ marks-within w sound c held is ms long none o =
     (cases_lt o NUMBERS)
 
 -- ---- gathering, where each number is pushed once
-get-front : (ks xs : List ℕ) (j : ℕ) → j < length ks → slice_get (ks ++ xs) j ≡ slice_get ks j
-get-front [] xs j lt = absurd (omega arith)
-get-front (k ∷ ks) xs zero lt = refl
-get-front (k ∷ ks) xs (suc j) lt = get-front ks xs j (omega arith)
-
-among-at : (at i : ℕ) (ks : List ℕ) → slice_get ks i ≡ Some at → list_any (nat_eq at) ks ≡ true
-among-at at i [] got = absurd (let bad : None ≡ Some at = got in cc)
-among-at at zero (x ∷ ks) got = let same : x ≡ at = cc in or_left _ _ (eq-eqb at x (sym same))
-among-at at (suc i) (x ∷ ks) got = or_right (nat_eq at x) _ (among-at at i ks got)
-
 pub gathered-on : (w : State) → IsSound w → (c : ℕ) (keys keys' : List ℕ) (i at : ℕ) → Gathers w c keys i
     → slice_get keys i ≡ Some at → i < length keys
     → keys' ≡ keys ++ contents_of w at → Gathers w c keys' (i + 1)
-gathered-on w sound c keys keys' i at was here lt is = record {
-  inside = λ o among.
-      ⊎_elim
-      (λ (old : list_any (nat_eq o) keys ≡ true). was.inside o old)
-      (λ (new : list_any (nat_eq o) (contents_of w at) ≡ true).
-      let there = content-place w sound o at new in
-      let up = was.inside at (among-at at i keys here) in
-      (there.0, (suc up.1.0, follow_by w up.1.0 o (Some at) there.1 ∙ up.1.1)))
-      (or_cases _ _ (sym (union o) ∙ among));
-  first = λ there. union c ∙ or_left _ _ (was.first there);
-  closed = λ j p o low got placed.
-      let before : slice_get keys j ≡ Some p = sym (get-front keys (contents_of w at) j (omega (arith, low, lt)))
-      ∙ ap (λ v. slice_get v j) (sym is) ∙ got in
-      ⊎_elim
-      (λ (less : j < i). union o ∙ or_left _ _ (was.closed j p o less before placed))
-      (λ (le : i ≤ j).
-      let same : j ≡ i = omega (arith, low, le) in
-      let both : Some p ≡ Some at = sym before ∙ ap (slice_get keys) same ∙ here in
-      let is_at : p ≡ at = cc in
-      union o ∙ or_right (list_any (nat_eq o) keys) _ (place-content w sound o at (placed ∙ ap (λ v. Some v) is_at)))
-      (cases_lt j i);
-}
-  where
-    union : (o : ℕ) → list_any (nat_eq o) keys' ≡ (list_any (nat_eq o) keys || list_any (nat_eq o) (contents_of w at))
-    union o = ap (list_any (nat_eq o)) is ∙ list_any-append (nat_eq o) keys (contents_of w at)
+gathered-on w sound c keys keys' i at was here lt is =
+    gathers-on w sound c keys keys' i at was here lt
+    (λ j low. ap (λ v. slice_get v j) is ∙ get-front keys (contents_of w at) j low)
+    (λ o. ap (list_any (nat_eq o)) is ∙ list_any-append (nat_eq o) keys (contents_of w at))
 
 -- ---- what has no key is unlocked
 pub keyless-unlocked : (w : State) (c o : ℕ) → (has w o (λ r. is_none r.key) || unlocked w c o) ≡ unlocked w c o

@@ -9,7 +9,7 @@ use Rattle.mud_world.specs.declared.record.Kind.TheVariants.{Room, Exit, Thing, 
 use Rattle.mud_world.specs.State.{State, record_at, place_of, kind_place, key_of, nests, all_nest, exists, has, follow}
 use Rattle.mud_world.specs.State.{is_room, is_exit, is_room_kind, is_exit_kind}
 use Rattle.mud_world.specs.Sound.{IsPlacedWell, IsSound}
-use Rattle.mud_world.specs.inner.Parts.{IsKeyless, IsLockedWell, with_record}
+use Rattle.mud_world.specs.inner.Fields.{IsKeyless, IsLockedWell, with_record}
 use Rattle.mud_world.specs.Legal.{kind_at}
 use Rattle.mud_world.proofs.KindLemmas.{same_room, same_exit, same_player}
 use Rattle.mud_world.proofs.Naming.{named-same}

@@ -1,16 +1,16 @@
 -- No two players share a name, after each kind of change.
-use Rattle.std.proofs.Common.{◌≡◌, ◌≢◌, ℕ, Bool, true, false, cond, ◌||◌, ◌&&◌, not, List, [], ◌∷◌, Some, None, refl}
-use Rattle.std.proofs.Common.{sym, ◌∙◌, ap, subst, arith, ⊎_elim}
+use Rattle.std.proofs.Common.{◌≡◌, ◌≢◌, ℕ, Bool, false, cond, ◌||◌, ◌&&◌, not, List, [], ◌∷◌, Some, None, refl}
+use Rattle.std.proofs.Common.{sym, ◌∙◌, ap, subst, ⊎_elim}
 use Rattle.std.specs.Prelude.{nat_eq, IsTrue}
 use Rattle.std.specs.List.{list_any}
 use Rattle.std.specs.Map.{lookup}
 use Rattle.std.specs.Str.{str_eq_ignore_ascii_case, str_to_ascii_lowercase}
-use Rattle.std.proofs.lemmas.Bool.{cases_eq, eqb-true, ne_eqb, or_parts, true≢false}
+use Rattle.std.proofs.lemmas.Bool.{cases_eq, eqb-true, eq-eqb, ne_eqb, or_parts, true≢false}
 use Rattle.std.proofs.lemmas.Slice.Eq.{bytes_eq-Decides}
 use Rattle.mud_world.specs.declared.record.Record.{Record}
 use Rattle.mud_world.specs.Kinds.{is_player_kind}
 use Rattle.mud_world.specs.State.{State, record_at, shares, is_taken}
-use Rattle.mud_world.specs.inner.Parts.{AreNamedApart, with_record}
+use Rattle.mud_world.specs.inner.Fields.{AreNamedApart, with_record}
 use Rattle.mud_world.specs.Legal.{with_new}
 use Rattle.mud_world.proofs.Records.{record_cases, bool_cases, lookup-append_left, lookup-append_right}
 use Rattle.mud_world.proofs.Records.{lookup-set_value_same, lookup-set_value_other}
@@ -116,23 +116,24 @@ named-anew w w' n r named here there free a b s t at at' apart is is' =
         (subst (λ (v : Record). IsTrue (is_player_kind v.kind) → is_taken w n v.names ≡ false) same free is) m t at
         other is'
 
+-- the new record stands at the next number
+pub record-new : (w : State) (r : Record) → record_at w w.next ≡ None
+    → record_at (with_new w (r ∷ [])) w.next ≡ Some r
+record-new w r gone = lookup-append_right w.next w.objects ((w.next, r) ∷ []) gone
+    ∙ ap (λ b. cond b (Some r) None) (eq-eqb w.next w.next refl)
+
+-- the old records stand where they stood
+pub record-old : (w : State) (r : Record) (m : ℕ) → m ≢ w.next → record_at (with_new w (r ∷ [])) m ≡ record_at w m
+record-old w r m apart =
+    record_cases (record_at w m)
+    (λ e. lookup-append_right m w.objects ((w.next, r) ∷ []) e ∙ ap (λ b. cond b (Some r) None) (ne_eqb m w.next apart)
+    ∙ sym e)
+    (λ s e. lookup-append_left m s w.objects ((w.next, r) ∷ []) e ∙ sym e)
+
 pub named-added : (w : State) (r : Record) → AreNamedApart w → record_at w w.next ≡ None
     → (IsTrue (is_player_kind r.kind) → is_taken w w.next r.names ≡ false) → AreNamedApart (with_new w (r ∷ []))
-named-added w r named gone free = named-anew w (with_new w (r ∷ [])) w.next r named here there free
-  where
-    here : record_at (with_new w (r ∷ [])) w.next ≡ Some r
-    here = lookup-append_right w.next w.objects ((w.next, r) ∷ []) gone
-        ∙ ap (λ b. cond b (Some r) None) (is_same w.next)
-      where
-        is_same : (n : ℕ) → nat_eq n n ≡ true
-        is_same n = grind arith
-
-    there : (m : ℕ) → m ≢ w.next → record_at (with_new w (r ∷ [])) m ≡ record_at w m
-    there m apart =
-        record_cases (record_at w m)
-        (λ e. lookup-append_right m w.objects ((w.next, r) ∷ []) e
-        ∙ ap (λ b. cond b (Some r) None) (ne_eqb m w.next apart) ∙ sym e)
-        (λ s e. lookup-append_left m s w.objects ((w.next, r) ∷ []) e ∙ sym e)
+named-added w r named gone free =
+    named-anew w (with_new w (r ∷ [])) w.next r named (record-new w r gone) (record-old w r) free
 
 pub named-set : (w : State) (n : ℕ) (r r' : Record) → AreNamedApart w → record_at w n ≡ Some r
     → (IsTrue (is_player_kind r'.kind) → is_taken w n r'.names ≡ false) → AreNamedApart (with_record w n r')

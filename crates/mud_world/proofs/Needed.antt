@@ -8,7 +8,7 @@ use Rattle.mud_world.specs.declared.record.Kind.{Kind}
 use Rattle.mud_world.specs.declared.record.Kind.TheVariants.{Room, Exit, Thing, Player}
 use Rattle.mud_world.specs.Kinds.{kind_needs}
 use Rattle.mud_world.specs.State.{State, numbers_with}
-use Rattle.mud_world.specs.Inside.{lies_in, leaves, arrives}
+use Rattle.mud_world.specs.inner.Maps.{lies_in, leaves, arrives}
 use Rattle.mud_world.proofs.Records.{bool_cases}
 use Rattle.mud_world.proofs.Numbering.{passing, passing_by}
 

@@ -16,15 +16,14 @@ use Rattle.mud_world.specs.Kinds.{is_player_kind, kind_at}
 use Rattle.mud_world.specs.State.{State, record_at, is_number, is_taken, shares}
 use Rattle.mud_world.specs.Sound.{IsRising, IsSound}
 use Rattle.mud_world.specs.Legal.{with_new}
-use Rattle.mud_world.specs.inner.Parts.{with_record, without_object}
+use Rattle.mud_world.specs.inner.Fields.{with_record, without_object}
 use Rattle.mud_world.specs.inner.CanGo.{CanAdd}
 use Rattle.mud_world.specs.inner.Edits.{names_to_find, called_by, with_names}
-use Rattle.mud_world.specs.Inside.{is_called, AreNames}
-use Rattle.mud_world.proofs.Records.{record_cases, bool_cases, lookup-append_left, lookup-append_right}
-use Rattle.mud_world.proofs.Records.{lookup-set_value_same, lookup-set_value_other}
+use Rattle.mud_world.specs.inner.Maps.{is_called, AreNames}
+use Rattle.mud_world.proofs.Records.{record_cases, bool_cases, lookup-set_value_same, lookup-set_value_other}
 use Rattle.mud_world.proofs.Removing.{lookup-remove_other, lookup-remove_same}
 use Rattle.mud_world.proofs.Grown.{next_missing}
-use Rattle.mud_world.proofs.Naming.{not-shared}
+use Rattle.mud_world.proofs.Naming.{not-shared, record-new, record-old}
 
 abbrev Owners : Type 0
 Owners = List (List ℕ × ℕ)
@@ -170,22 +169,10 @@ module _ (w : State) (n : ℕ) (k : Kind) (names : List (List ℕ))
 pub names-grown : (w : State) → IsSound w → (r : Record) → CanAdd w r → (o o' : Owners) → AreNames o w
     → AreOwnersPassed [] (names_to_find r) w.next o o' → AreNames o' (with_new w (r ∷ []))
 names-grown w sound r can o o' names passed =
+    let missing = next_missing w sound in
     names-anew w (with_new w (r ∷ [])) w.next [] (names_to_find r) o o' names (at_none w w.next missing)
-    (at_record (with_new w (r ∷ [])) w.next r here) there (free-called w w.next r.kind r.names can.free) passed
-  where
-    missing : record_at w w.next ≡ None
-    missing = next_missing w sound
-
-    here : record_at (with_new w (r ∷ [])) w.next ≡ Some r
-    here = lookup-append_right w.next w.objects ((w.next, r) ∷ []) missing
-        ∙ ap (λ b. cond b (Some r) None) (eq-eqb w.next w.next refl)
-
-    there : (m : ℕ) → m ≢ w.next → record_at (with_new w (r ∷ [])) m ≡ record_at w m
-    there m apart =
-        record_cases (record_at w m)
-        (λ e. lookup-append_right m w.objects ((w.next, r) ∷ []) e
-        ∙ ap (λ b. cond b (Some r) None) (ne_eqb m w.next apart) ∙ sym e)
-        (λ s e. lookup-append_left m s w.objects ((w.next, r) ∷ []) e ∙ sym e)
+    (at_record (with_new w (r ∷ [])) w.next r (record-new w r missing)) (record-old w r)
+    (free-called w w.next r.kind r.names can.free) passed
 
 pub names-renamed : (w : State) (n : ℕ) (r : Record) → record_at w n ≡ Some r → (names : List (List ℕ))
     → (is_player_kind r.kind ≡ true → is_taken w n names ≡ false) → (o o' : Owners) → AreNames o w

@@ -18,13 +18,14 @@ use Rattle.mud_world.specs.declared.refusal.Refusal.TheVariants.{WrongKind}
 use Rattle.mud_world.specs.Kinds.{kind_at, kind_costing, is_player_kind}
 use Rattle.mud_world.specs.State.{State, record_at, is_player, destination_of, named_player}
 use Rattle.mud_world.specs.Sound.{IsRising, IsSound}
-use Rattle.mud_world.specs.Legal.{with_record_changed, dug, new_record, fails, refusal, after}
-use Rattle.mud_world.specs.inner.Parts.{with_record, without_object, with_place}
+use Rattle.mud_world.specs.Legal.{with_record_changed, dig_records, new_record, fails, refusal, after}
+use Rattle.mud_world.specs.inner.Fields.{with_record, without_object, with_place}
 use Rattle.mud_world.specs.Laws.{PlayersStay, NewPlayersArePlayers}
 use Rattle.mud_world.proofs.Records.{record_cases, bool_cases, lookup-set_value_same, lookup-set_value_other}
-use Rattle.mud_world.proofs.Records.{lookup-append_right, in_bounds}
+use Rattle.mud_world.proofs.Records.{in_bounds}
 use Rattle.mud_world.proofs.Removing.{lookup-remove_other}
 use Rattle.mud_world.proofs.Grown.{next_missing}
+use Rattle.mud_world.proofs.Naming.{record-new}
 use Rattle.mud_world.proofs.Digging.{has-grown}
 use Rattle.mud_world.proofs.Least.{refusals_law}
 
@@ -95,7 +96,7 @@ players_stay w e sound legal p is = go e.deed legal
 
     go : (deed : Deed) → refusal w (record { actor = e.actor; deed = deed }) ≡ None
         → is_player (after w (record { actor = e.actor; deed = deed })) p ≡ true
-    go (Dig target doors) l = has-grown w (dug w e.actor target doors) (λ r. is_player_kind r.kind) p is
+    go (Dig target doors) l = has-grown w (dig_records w e.actor target doors) (λ r. is_player_kind r.kind) p is
     go (Make names) l = has-grown w (new_record e.actor names (Thing e.actor) ∷ []) (λ r. is_player_kind r.kind) p is
     go (Player name) l =
         has-grown w (new_record e.actor (name ∷ []) (PlayerIn 0) ∷ []) (λ r. is_player_kind r.kind) p is
@@ -112,13 +113,7 @@ players_stay w e sound legal p is = go e.deed legal
 
 pub new_players_are_players : NewPlayersArePlayers
 new_players_are_players w name sound =
-    let r : Record = new_record w.next (name ∷ []) (PlayerIn 0) in
-    let found : record_at (after w (record { actor = w.next; deed = Player name })) w.next ≡ Some r =
-    lookup-append_right w.next w.objects ((w.next, r) ∷ []) (next_missing w sound) ∙ first w.next r in
-    ap is_one found
-  where
-    first : (n : ℕ) (r : Record) → record_at (record { objects = (n, r) ∷ []; next = 0 }) n ≡ Some r
-    first n r = ap (λ (b : Bool). cond b (Some r) None) (eq-eqb n n refl)
+    ap is_one (record-new w (new_record w.next (name ∷ []) (PlayerIn 0)) (next_missing w sound))
 
 -- ---- who is found by a name
 

@@ -8,7 +8,8 @@ use Rattle.std.proofs.lemmas.Bool.{true≢false}
 use Rattle.mud_world.specs.Kinds.{kind_place}
 use Rattle.mud_world.specs.State.{State, record_at, is_number, place_of, follow, is_thing}
 use Rattle.mud_world.specs.Sound.{IsSound}
-use Rattle.mud_world.specs.Reach.{InReach, arrives, in_reach}
+use Rattle.mud_world.specs.Reach.{InReach, in_reach}
+use Rattle.mud_world.specs.inner.Reach.{arrives}
 use Rattle.mud_world.proofs.Records.{record_cases, in_bounds}
 use Rattle.mud_world.proofs.Places.{option_cases, follow_by, ends_by-bound}
 use Rattle.mud_world.proofs.Containing.{follow-past}

@@ -15,7 +15,7 @@ use Rattle.mud_world.specs.Kinds.{kind_needs, kind_costing, is_room_kind, is_exi
 use Rattle.mud_world.specs.State.{State, exists, nests, is_taken}
 use Rattle.mud_world.specs.Sound.{IsSound, IsPlacedWell}
 use Rattle.mud_world.specs.Legal.{new_record, refusal}
-use Rattle.mud_world.specs.inner.Parts.{with_record, with_cost, with_names}
+use Rattle.mud_world.specs.inner.Fields.{with_record, with_cost, with_names}
 use Rattle.mud_world.specs.inner.CanGo.{IsOff, CanRemove, CanName, CanAdd}
 use Rattle.mud_world.proofs.Records.{bool_cases, option_map_or-agree_keys, list_all-agree, list_all-set_value}
 use Rattle.mud_world.proofs.Going.{nothing_fails}

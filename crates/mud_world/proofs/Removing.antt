@@ -13,7 +13,7 @@ use Rattle.mud_world.specs.declared.record.Kind.TheVariants.{Room, Exit, Thing, 
 use Rattle.mud_world.specs.Kinds.{kind_place}
 use Rattle.mud_world.specs.State.{State, record_at, place_of, key_of, nests, has, is_room_kind, is_exit_kind, follow}
 use Rattle.mud_world.specs.Sound.{IsSound, IsRising, IsPlacedWell}
-use Rattle.mud_world.specs.inner.Parts.{without_object}
+use Rattle.mud_world.specs.inner.Fields.{without_object}
 use Rattle.mud_world.specs.inner.CanGo.{IsOff, CanRemove}
 use Rattle.mud_world.proofs.Records.{bool_cases}
 use Rattle.mud_world.proofs.Naming.{named-kept}

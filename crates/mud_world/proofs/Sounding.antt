@@ -19,7 +19,7 @@ use Rattle.mud_world.specs.State.{State, record_at, is_player, place_of, destina
 use Rattle.mud_world.specs.Sound.{IsSound}
 use Rattle.std.specs.List.{enumerate_from}
 use Rattle.mud_world.specs.Legal.{with_new, new_record, new_exit, new_exits, refusal, deed_result}
-use Rattle.mud_world.specs.inner.Parts.{with_place}
+use Rattle.mud_world.specs.inner.Fields.{with_place}
 use Rattle.mud_world.specs.inner.CanGo.{CanGo, CanAdd, CanJoin, IsNew}
 use Rattle.mud_world.specs.Laws.{StaysSound}
 use Rattle.mud_world.proofs.Records.{record_cases, bool_cases}

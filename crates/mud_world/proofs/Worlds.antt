@@ -6,7 +6,7 @@ use Rattle.mud_world.specs.Sound.{IsSound}
 use Rattle.mud_world.specs.Legal.{refusal, after}
 use Rattle.mud_world.specs.Laws.{WorldsAreSound}
 use Rattle.mud_world.specs.History.{world_from}
-use Rattle.mud_world.specs.inner.Parts.{step_or_same}
+use Rattle.mud_world.specs.inner.Fields.{step_or_same}
 use Rattle.mud_world.specs.Opening.{opening_state}
 use Rattle.mud_world.specs.declared.change.Change.{Change}
 use Rattle.mud_world.specs.declared.refusal.Refusal.{Refusal}
@@ -17,7 +17,9 @@ use Rattle.mud_world.proofs.Sounding.{soundness_law}
 pub stepped-legal : (w : State) (e : Change) → refusal w e ≡ None → step_or_same w e ≡ after w e
 stepped-legal w e legal = ap (λ o. if is_none o then after w e else w) legal
 
-step-sound : (w : State) (e : Change) (o : Option Refusal) → refusal w e ≡ o → IsSound w → IsSound (step_or_same w e)
+-- a step leaves a sound world sound
+pub step-sound : (w : State) (e : Change) (o : Option Refusal) → refusal w e ≡ o → IsSound w
+    → IsSound (step_or_same w e)
 step-sound w e None is sound = rw is (soundness_law w e sound is)
 step-sound w e (Some f) is sound = rw is sound
 

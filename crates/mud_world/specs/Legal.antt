@@ -1,5 +1,5 @@
 -- The table of changes: what refuses each. What each leaves is the table of `Results`.
-use Rattle.std.specs.Prelude.{ℕ, Bool, true, false, not, ◌&&◌, ◌||◌, nat_eq, nat_lt, List, [], ◌∷◌, length, find, ◌+◌}
+use Rattle.std.specs.Prelude.{ℕ, Bool, true, false, not, ◌&&◌, ◌||◌, nat_eq, nat_lt, [], ◌∷◌, length, find, ◌+◌}
 use Rattle.std.specs.Prelude.{Option, is_some}
 use Rattle.std.specs.Option.{option_map_or}
 use Rattle.mud_world.specs.declared.limits.TheConstants.{NUMBERS, MOST_COST}
@@ -13,17 +13,18 @@ use Rattle.mud_world.specs.declared.refusal.Refusal.TheVariants.{BadKey, KeyNest
 use Rattle.mud_world.specs.declared.refusal.Refusal.TheVariants.{LockedRoom, LockedThing, InUse, WorldFull}
 pub use Rattle.mud_world.specs.Speech.{is_trimmed, is_speech}
 pub use Rattle.mud_world.specs.Kinds.{kind_at, kind_costing, kind_needs}
-pub use Rattle.mud_world.specs.Reach.{InReach, arrives, in_reach}
+pub use Rattle.mud_world.specs.Reach.{InReach, in_reach}
 pub use Rattle.mud_world.specs.Conditions.{owns, shares_room, is_offered}
 pub use Rattle.mud_world.specs.Conditions.{of_old}
 pub use Rattle.mud_world.specs.Results.{with_record_changed, with_new}
-pub use Rattle.mud_world.specs.Results.{new_record, new_exit, new_exits, dug, deed_result, after}
+pub use Rattle.mud_world.specs.Results.{new_record, new_exit, new_exits, dig_records, deed_result, after}
 use Rattle.mud_world.specs.State.{State, exists, is_room, is_exit, is_thing, is_player, place_of, is_number, within}
 use Rattle.mud_world.specs.State.{source_of}
 use Rattle.mud_world.specs.State.{destination_of, unlocked, all_nest, is_taken}
 use Rattle.std.specs.List.{list_any}
 use Rattle.mud_key.specs.Tree.{objects_of, nots_of, atoms_of}
 use Rattle.mud_key.specs.declared.limits.TheConstants.{MOST_OBJECTS, MOST_NOTS}
+use Rattle.mud_world.specs.inner.Refusals.{refusals}
 
 -- what refuses the actor of each kind of change but Player: he is no player of the world
 abbrev pub actor_fails : State → ℕ → Refusal → Bool
@@ -35,7 +36,7 @@ actor_fails w actor f = false
 abbrev pub deed_fails : State → ℕ → Deed → Refusal → Bool
 deed_fails w actor (Dig target doors) NoSuch = of_old target (λ room. not (exists w room))
 deed_fails w actor (Dig target doors) WrongKind = of_old target (λ room. not (is_room w room) || not (is_some doors))
-deed_fails w actor (Dig target doors) WorldFull = nat_lt NUMBERS (w.next + length (dug w actor target doors))
+deed_fails w actor (Dig target doors) WorldFull = nat_lt NUMBERS (w.next + length (dig_records w actor target doors))
 deed_fails w actor (Make names) WorldFull = nat_lt NUMBERS (w.next + 1)
 deed_fails w actor (Player name) NoSuch = not (nat_eq actor w.next)
 deed_fails w actor (Player name) NameTaken = is_taken w actor (name ∷ [])
@@ -86,12 +87,6 @@ is_arrival deed = false
 -- the refusal's condition holds of the change
 abbrev pub fails : State → Change → Refusal → Bool
 fails w e f = (not (is_arrival e.deed) && actor_fails w e.actor f) || deed_fails w e.actor e.deed f
-
--- the refusals of changes by rising number
-abbrev pub refusals : List Refusal
-refusals =
-    NoSuch ∷ WrongKind ∷ NotHere ∷ Denied ∷ BadName ∷ NameTaken ∷ BadKey ∷ KeyNesting ∷ BadCost ∷ RecursiveMove
-    ∷ LockedExit ∷ LockedRoom ∷ LockedThing ∷ InUse ∷ WorldFull ∷ []
 
 -- the least whose condition holds, if one does. A reader need not look into this: `laws::refusals` says that it is
 unfoldable pub refusal : State → Change → Option Refusal

@@ -13,7 +13,7 @@ pub mod Numbers
 pub mod Counts
 pub mod Nesting
 pub mod Laws
-pub mod Inside
+pub mod Memory
 pub mod History
-pub mod Parts
+pub mod DeedParts
 pub mod inner

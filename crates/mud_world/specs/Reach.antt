@@ -1,8 +1,8 @@
 -- What an actor can reach.
-use Rattle.std.specs.Prelude.{◌≡◌, ℕ, ◌<◌, Bool, false, ◌&&◌, ◌||◌, ◌⊎◌, nat_eq, Some, IsTrue}
-use Rattle.std.proofs.Common.{zero, suc}
-use Rattle.std.specs.Option.{option_map_or}
-use Rattle.mud_world.specs.State.{State, place_of, follow, is_thing, is_number}
+use Rattle.std.specs.Prelude.{◌≡◌, ℕ, ◌<◌, Bool, ◌⊎◌, Some, IsTrue}
+use Rattle.std.proofs.Common.{suc}
+use Rattle.mud_world.specs.State.{State, place_of, follow, is_thing}
+use Rattle.mud_world.specs.inner.Reach.{arrives}
 
 -- following places from o one arrives at the actor or at his room, passing only things
 pub record InReach (w : State) (actor o : ℕ) : Type 0 where
@@ -12,13 +12,6 @@ pub record InReach (w : State) (actor o : ℕ) : Type 0 where
   pub follows : follow w (suc passed) o ≡ Some last
   pub here : (last ≡ actor) ⊎ (place_of w actor ≡ Some last)
   pub things : (k p : ℕ) → k < passed → follow w (suc k) o ≡ Some p → IsTrue (is_thing w p)
-
--- whether one arrives after fewer than n things; no chain of places is longer than there are numbers
-abbrev pub arrives : State → ℕ → ℕ → ℕ → Bool
-arrives w zero actor o = false
-arrives w (suc n) actor o =
-    option_map_or (λ p. nat_eq p actor || is_number p (place_of w actor) || (is_thing w p && arrives w n actor p))
-    (place_of w o) false
 
 -- the same as a test. A reader need not look into this: `World::in_reach` says that it is `InReach`
 abbrev pub in_reach : State → ℕ → ℕ → Bool

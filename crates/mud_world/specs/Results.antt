@@ -45,16 +45,16 @@ new_exits actor here there (Some d) =
     new_exit actor d.out here there ∷ option_map_or (λ names. new_exit actor names there here ∷ []) d.back []
 
 -- what is dug: the new room, if it is to be one, and the exits between the actor's room and the target
-abbrev pub dug : State → ℕ → Target → Option Doors → List Record
-dug w actor (New names) doors =
+abbrev pub dig_records : State → ℕ → Target → Option Doors → List Record
+dig_records w actor (New names) doors =
     new_record actor names Room ∷ new_exits actor (unwrap_or (place_of w actor) 0) w.next doors
-dug w actor (Old room) doors = new_exits actor (unwrap_or (place_of w actor) 0) room doors
+dig_records w actor (Old room) doors = new_exits actor (unwrap_or (place_of w actor) 0) room doors
 
 -- ---- the table of results
 
 -- what the actor's deed leaves
 abbrev pub deed_result : State → ℕ → Deed → State
-deed_result w actor (Dig target doors) = with_new w (dug w actor target doors)
+deed_result w actor (Dig target doors) = with_new w (dig_records w actor target doors)
 deed_result w actor (Make names) = with_new w (new_record actor names (Thing actor) ∷ [])
 deed_result w actor (Player name) = with_new w (new_record actor (name ∷ []) (PlayerIn 0) ∷ [])
 deed_result w actor (Lock object key) = with_record_changed w object (λ r. record r { key = Some key })

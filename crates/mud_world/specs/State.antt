@@ -118,13 +118,13 @@ abbrev pub key_of : State → ℕ → Option (Tree ℕ)
 key_of w n = option_and_then (λ r. r.key) (record_at w n)
 
 -- o exists, and has no key, or n > 0 and a key that is true with n - 1 levels left; held says which objects are true
-abbrev pub opens : State → ℕ → (ℕ → Bool) → ℕ → Bool
-opens w zero held o = has w o (λ r. is_none r.key)
-opens w (suc n) held o = has w o (λ r. option_map_or (key_true held (opens w n held)) r.key true)
+abbrev pub unlocked_in : State → ℕ → (ℕ → Bool) → ℕ → Bool
+unlocked_in w zero held o = has w o (λ r. is_none r.key)
+unlocked_in w (suc n) held o = has w o (λ r. option_map_or (key_true held (unlocked_in w n held)) r.key true)
 
 -- key k is true with n levels left
 abbrev pub holds_for : State → (ℕ → Bool) → Tree ℕ → ℕ → Bool
-holds_for w held k n = key_true held (opens w n held) k
+holds_for w held k n = key_true held (unlocked_in w n held) k
 
 -- object o is unlocked for c. A reader need not look into this: `laws::levels` says what that is, without levels
 abbrev pub unlocked : State → ℕ → ℕ → Bool

@@ -4,4 +4,7 @@ pub mod Bearer
 pub mod CanGo
 pub mod Edits
 pub mod Marks
-pub mod Parts
+pub mod Fields
+pub mod Maps
+pub mod Refusals
+pub mod Reach

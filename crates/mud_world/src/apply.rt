@@ -3,7 +3,7 @@
 ghost use Rattle.std.specs.Prelude.{◌≡◌, None, OnOk, OnErr};
 ghost use Rattle.mud_world.specs.Sound.{IsSound};
 ghost use Rattle.mud_world.specs.Legal.{refusal, after};
-ghost use Rattle.mud_world.specs.inner.Parts.{with_place, with_key, with_names};
+ghost use Rattle.mud_world.specs.inner.Fields.{with_place, with_key, with_names};
 ghost use Rattle.mud_world.specs.inner.CanGo.{CanGo, CanKey, CanName};
 
 use crate::maps::{forget, rekey, relocate_in, rename_in, set_cost, unkey};

@@ -5,7 +5,8 @@ ghost use Rattle.std.specs.List.{list_any};
 ghost use Rattle.mud_key.specs.Node.{key_of as tree_of};
 ghost use Rattle.mud_key.specs.Tree.{asks_of};
 ghost use Rattle.mud_lists.specs.Rising.{put, without};
-ghost use Rattle.mud_lists.specs.Lists.{list_at, AreSame, AreChanged, AreBetween};
+ghost use Rattle.mud_lists.specs.Lists.{list_at, AreSame, AreChanged};
+ghost use Rattle.mud_lists.specs.inner.Lists.{AreBetween};
 ghost use Rattle.mud_world.specs.inner.Edits.{asked_by, AreRekeyed};
 
 use mud_key::{Key, Node};

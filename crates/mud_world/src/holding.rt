@@ -92,6 +92,6 @@ impl World {
     pub fn unlocked(&self, holding: &Holding, object: u32) -> bool
         ensures { (c : ℕ) → IsHolding self.now c holding.now → result ≡ unlocked self.now c object }
     {
-        self.opens(Bearer::Holder(holding), object, KEY_LEVELS)
+        self.is_unlocked_in(Bearer::Holder(holding), object, KEY_LEVELS)
     }
 }

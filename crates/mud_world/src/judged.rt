@@ -5,7 +5,7 @@ ghost use Rattle.std.specs.Option.{option_map_or};
 ghost use Rattle.std.specs.List.{list_any};
 ghost use Rattle.mud_world.specs.declared.limits.TheConstants.{KEY_LEVELS};
 ghost use Rattle.mud_world.specs.Truth.{key_true};
-ghost use Rattle.mud_world.specs.State.{has, opens, unlocked, IsHolding};
+ghost use Rattle.mud_world.specs.State.{has, unlocked_in, unlocked, IsHolding};
 
 use crate::holding::Holding;
 use crate::locks::{Asked, Bearer};
@@ -66,7 +66,7 @@ impl World {
         let mut answers = Vec::with_capacity(alloc, plain.answers.len())?;
         answers.extend_from_slice(&plain.answers)?;
         for object in &plain.locked {
-            let is_unlocked = self.lets_in(
+            let is_unlocked = self.is_unlocked_by(
                 Bearer::Holder(holding),
                 Asked::Answers(before),
                 *object,
@@ -81,7 +81,7 @@ impl World {
     // The answers of all four levels, each made from the one before.
     fn judge_levels(&self, alloc: Global, holding: &Holding) -> Result<Vec<bool>, AllocError>
         ensures { IfOk result (λ answers. (o : ℕ) → slice_index_or answers.items o false
-            ≡ opens self.now KEY_LEVELS (λ a. list_any (nat_eq a) holding.now) o) }
+            ≡ unlocked_in self.now KEY_LEVELS (λ a. list_any (nat_eq a) holding.now) o) }
     {
         let plain = self.judge_plain(alloc)?;
         let first = self.judge_more(alloc, holding, &plain, &plain.answers)?;

@@ -3,12 +3,12 @@
 ghost use Rattle.std.specs.Prelude.{MatchResult, not, ◌||◌, ◌≡◌, ℕ, ◌≤◌, [], ◌∷◌, Some, None, length, find};
 ghost use Rattle.mud_world.specs.State.{is_taken, State, exists};
 ghost use Rattle.mud_key.specs.Node.{key_of as tree_of};
-ghost use Rattle.mud_world.specs.Legal.{dug, actor_fails, deed_fails, refusal, fails};
-ghost use Rattle.mud_world.specs.inner.Parts.{in_use, is_full, is_bad_key};
+ghost use Rattle.mud_world.specs.Legal.{dig_records, actor_fails, deed_fails, refusal, fails};
+ghost use Rattle.mud_world.specs.inner.Fields.{in_use, is_full, is_bad_key};
 ghost use Rattle.mud_key.specs.Tree.{atoms_of};
 ghost use Rattle.std.specs.List.{list_any};
 ghost use Rattle.mud_world.specs.Kinds.{kind_needs};
-ghost use Rattle.mud_world.specs.Inside.{leaves, arrives};
+ghost use Rattle.mud_world.specs.inner.Maps.{leaves, arrives};
 
 use crate::Refusal::{
     BadCost, BadKey, BadName, Denied, InUse, KeyNesting, LockedExit, LockedRoom, LockedThing,
@@ -58,7 +58,7 @@ impl World {
 
     // How many objects are dug.
     fn dug_count(target: &Target, doors: &Option<Doors>) -> u32
-        ensures count { (w : State) (actor : ℕ) → result ≡ length (dug w actor target.now doors.now) }
+        ensures count { (w : State) (actor : ℕ) → result ≡ length (dig_records w actor target.now doors.now) }
         ensures few { result ≤ 3 }
     {
         let room = match target {
@@ -288,7 +288,8 @@ impl World {
                 Deed::Rename { object, names } => self.rename_fails(actor, *object, names, fault),
                 Deed::Recycle { object } => self.recycle_fails(actor, *object, fault),
                 Deed::Say(speech) | Deed::Emote(speech) => {
-                    // what is a speech can be said
+                    // The contract refuses a text that can't be said. No speech is one: `as_str` promises it, and
+                    // this call is made for the promise alone.
                     let _ = speech.as_str();
                     false
                 }

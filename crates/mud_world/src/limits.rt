@@ -1,7 +1,9 @@
 //! The limits of a world and of its history.
 
+use mud_key::limits::LAST_NUMBER;
+
 /// How many numbers there are for objects: as many as there can be objects (docs/WORLD.md, "Objects").
-pub const NUMBERS: usize = 8_192;
+pub const NUMBERS: usize = LAST_NUMBER as usize + 1;
 
 /// The highest cost of an exit (docs/WORLD.md, "Changes").
 pub const MOST_COST: u32 = 10_000;

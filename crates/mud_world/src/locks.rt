@@ -1,10 +1,10 @@
-//! Whether a key is true for the one who meets it, and whether an object opens for him.
+//! Whether a key is true for the one who meets it, and whether an object is unlocked for him.
 
 ghost use Rattle.std.specs.Prelude.{◌≡◌, true, false, is_none, slice_index_or};
 ghost use Rattle.std.specs.Option.{option_map_or};
 ghost use Rattle.mud_key.specs.Node.{key_of as tree_of};
 ghost use Rattle.mud_world.specs.Truth.{key_true};
-ghost use Rattle.mud_world.specs.State.{has, opens};
+ghost use Rattle.mud_world.specs.State.{has, unlocked_in};
 ghost use Rattle.mud_world.specs.inner.Bearer.{has_for, asked_for};
 
 use crate::holding::Holding;
@@ -27,7 +27,7 @@ pub(crate) enum Bearer<'a> {
 pub(crate) enum Asked<'a> {
     // The keys of what is asked, with so many levels left.
     Levels(u32),
-    // For each number whether its object opens.
+    // For each number whether its object is unlocked.
     Answers(&'a [bool]),
 }
 
@@ -59,7 +59,7 @@ impl World {
         match node {
             Node::Has(object) => self.has(bearer, *object),
             Node::Asks(object) => match asked {
-                Asked::Levels(levels) => self.opens(bearer, *object, levels),
+                Asked::Levels(levels) => self.is_unlocked_in(bearer, *object, levels),
                 Asked::Answers(answers) => answer(answers, *object),
             },
             Node::Not(key) => !self.is_true(bearer, asked, key),
@@ -81,7 +81,7 @@ impl World {
 
     // Whether the object exists, and has no key or one that is true for the bearer.
     #[cycle(locks)]
-    pub(crate) fn lets_in(&self, bearer: Bearer<'_>, asked: Asked<'_>, object: u32) -> bool
+    pub(crate) fn is_unlocked_by(&self, bearer: Bearer<'_>, asked: Asked<'_>, object: u32) -> bool
         ensures { result ≡ has self.now object (λ r. option_map_or (key_true (has_for self.now bearer.entry)
             (asked_for self.now (has_for self.now bearer.entry) asked.entry)) r.key true) }
     {
@@ -94,14 +94,14 @@ impl World {
         }
     }
 
-    // Whether the object opens for the bearer, with so many levels of questions.
+    // Whether the object is unlocked for the bearer, with so many levels of questions.
     #[cycle(locks)]
-    pub(crate) fn opens(&self, bearer: Bearer<'_>, object: u32, levels: u32) -> bool
-        ensures { result ≡ opens self.now levels (has_for self.now bearer.entry) object }
+    pub(crate) fn is_unlocked_in(&self, bearer: Bearer<'_>, object: u32, levels: u32) -> bool
+        ensures { result ≡ unlocked_in self.now levels (has_for self.now bearer.entry) object }
     {
         if levels == 0 {
             return self.is_keyless(object);
         }
-        self.lets_in(bearer, Asked::Levels(levels - 1), object)
+        self.is_unlocked_by(bearer, Asked::Levels(levels - 1), object)
     }
 }

@@ -68,18 +68,18 @@ impl World {
         // for the prover: the world is sound
         self.is_sound();
         let marks = marks_of(numbers);
-        self.opens(Bearer::Marks(&marks), object, KEY_LEVELS)
+        self.is_unlocked_in(Bearer::Marks(&marks), object, KEY_LEVELS)
     }
 
     // Whether an object that has a key is unlocked for the candidate. Apart, since its room on the stack is large, and
     // each call would pay for that.
     #[inline(never)]
-    fn is_let_in(&self, candidate: u32, object: u32) -> bool
+    fn is_unlocked_for(&self, candidate: u32, object: u32) -> bool
         ensures { result ≡ unlocked self.now candidate object }
     {
         match self.gather(candidate) {
             Some(found) => self.is_unlocked_by_marks(candidate, found.as_slice(), object),
-            None => self.opens(Bearer::Number(candidate), object, KEY_LEVELS),
+            None => self.is_unlocked_in(Bearer::Number(candidate), object, KEY_LEVELS),
         }
     }
 
@@ -88,6 +88,6 @@ impl World {
     pub(crate) fn is_unlocked(&self, candidate: u32, object: u32) -> bool
         ensures { result ≡ unlocked self.now candidate object }
     {
-        self.is_keyless(object) || self.is_let_in(candidate, object)
+        self.is_keyless(object) || self.is_unlocked_for(candidate, object)
     }
 }

@@ -3,7 +3,7 @@
 ghost use Rattle.std.specs.Prelude.{true, ◌≡◌};
 ghost use Rattle.mud_world.specs.State.{nests, all_nest, key_of};
 ghost use Rattle.mud_key.specs.Node.{key_of as tree_of};
-ghost use Rattle.mud_world.specs.inner.Parts.{with_lock};
+ghost use Rattle.mud_world.specs.inner.Fields.{with_lock};
 ghost use Rattle.mud_world.specs.inner.Askers.{askers_of, climbs};
 ghost use Rattle.std.specs.Option.{option_map_or};
 

@@ -3,7 +3,7 @@
 ghost use Rattle.std.specs.Prelude.{◌≡◌};
 ghost use Rattle.mud_world.specs.State.{exists, is_player, is_room, is_exit, is_thing, passage_of, is_number, place_of};
 ghost use Rattle.mud_world.specs.Legal.{owns};
-ghost use Rattle.mud_world.specs.inner.Parts.{leaves_from};
+ghost use Rattle.mud_world.specs.inner.Fields.{leaves_from};
 
 use crate::Passage;
 use crate::world::World;

@@ -2,7 +2,7 @@
 
 ghost use Rattle.std.specs.Prelude.{◌≡◌, ℕ, IfOk, IsTrue, option_copied, MatchOption, true};
 ghost use Rattle.mud_world.specs.Speech.{is_trimmed, is_speech};
-ghost use Rattle.mud_world.specs.inner.Parts.{is_printable};
+ghost use Rattle.mud_world.specs.inner.Fields.{is_printable};
 ghost use Rattle.std.specs.Option.{option_map_or};
 ghost use Rattle.std.specs.Prelude.{nat_eq, false};
 

@@ -79,7 +79,7 @@ impl Model for World {
 
     ghost coded = { Prim.hlevel (codes, coded_number_tree) };
 
-    ghost use Rattle.mud_world.specs.Inside.{IsKept};
+    ghost use Rattle.mud_world.specs.Memory.{IsKept};
 
     ghost view = { λ a. record { objects = a.records.entries; next = a.next } };
 

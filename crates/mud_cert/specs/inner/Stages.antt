@@ -10,7 +10,7 @@ use Rattle.mud_cert.specs.Certificate.{Certificate, IsNumber, IsAccount, IsCerti
 use Rattle.mud_cert.specs.inner.Opening.{Opening, IsOpening}
 use Rattle.mud_cert.specs.Text.{head_line, conclusion_line, cert_lines}
 use Rattle.mud_cert.specs.inner.Lines.{member_line, labels_line, opening_lines}
-use Rattle.mud_cert.specs.inner.Reading.{◌>>=◌, head_at, version_at, member_at, labels_at, walk_at, conclusion_at}
+use Rattle.mud_cert.specs.inner.Reader.{◌>>=◌, head_at, version_at, member_at, labels_at, walk_at, conclusion_at}
 use Rattle.mud_world.specs.declared.limits.TheConstants.{MOST_PARTY}
 
 -- the certificate of the members with that conclusion

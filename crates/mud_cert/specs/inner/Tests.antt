@@ -6,7 +6,7 @@ use Rattle.mud_roads.specs.declared.label.Label.{Label}
 use Rattle.mud_roads.specs.declared.label.Step.{Step}
 use Rattle.mud_roads.specs.Walks.{total, after}
 use Rattle.mud_roads.specs.Labels.{start_label}
-use Rattle.mud_roads.specs.Open.{passable}
+use Rattle.mud_roads.specs.Passable.{passable}
 use Rattle.mud_world.specs.State.{State, is_player, is_room, place_of, source_of, is_number}
 use Rattle.mud_cert.specs.declared.cert.Form.{Form}
 use Rattle.mud_cert.specs.declared.cert.Conclusion.{Conclusion}

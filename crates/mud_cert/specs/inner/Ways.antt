@@ -4,7 +4,7 @@ use Rattle.std.specs.Prelude.{ℕ, List, [], ◌∷◌, map, Option, None, Some}
 use Rattle.std.specs.Option.{option_map_or}
 use Rattle.mud_roads.specs.declared.label.Step.{Step}
 use Rattle.mud_roads.specs.Walks.{total}
-use Rattle.mud_roads.specs.Open.{step_by}
+use Rattle.mud_roads.specs.Passable.{step_by}
 use Rattle.mud_world.specs.State.{State, passage_of}
 use Rattle.mud_cert.specs.Certificate.{Account}
 

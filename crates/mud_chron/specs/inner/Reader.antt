@@ -8,7 +8,7 @@ use Rattle.mud_key.specs.declared.namer.Miss.TheVariants.{NoSuch}
 use Rattle.mud_key.specs.declared.codes.TheConstants.{SPACE}
 use Rattle.mud_key.specs.Tree.{Tree}
 use Rattle.mud_key.specs.Namer.{resolved}
-use Rattle.mud_key.specs.Reading.{names_in, name_in, key_in}
+use Rattle.mud_key.specs.Finds.{names_in, name_in, key_in}
 use Rattle.mud_world.specs.Speech.{is_speech}
 use Rattle.mud_world.specs.declared.change.Change.{Change}
 use Rattle.mud_world.specs.declared.change.Doors.{Doors}

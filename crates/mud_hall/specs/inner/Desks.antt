@@ -3,17 +3,17 @@ use Rattle.std.specs.Prelude.{◌≡◌, ◌≤◌, ℕ, List, ◌++◌, length,
 use Rattle.std.specs.Prelude.{Option, Some, None, IsSomeAnd, IfSome, IsTrue}
 use Rattle.std.specs.Option.{option_map, option_and_then, option_to_list}
 use Rattle.mud_world.specs.State.{State, is_player}
-use Rattle.mud_rules.specs.Hearing.{heard_line}
+use Rattle.mud_rules.specs.HeardLine.{heard_line}
 use Rattle.mud_rules.specs.declared.verdict.Verdict.{Verdict}
 use Rattle.mud_rules.specs.declared.verdict.Verdict.TheVariants.{Ask}
 use Rattle.mud_rules.specs.declared.verdict.Query.TheVariants.{History}
-use Rattle.mud_roads.specs.Open.{Knowledge, IsTraveller}
+use Rattle.mud_roads.specs.Passable.{Knowledge, IsTraveller}
 use Rattle.mud_world.specs.declared.limits.TheConstants.{MOST_ENTRIES}
 use Rattle.mud_guide.specs.declared.answer.Answer.{Answer}
 use Rattle.mud_chron.specs.Entry.{Entry}
 use Rattle.mud_cert.specs.Certificate.{Certificate}
 use Rattle.mud_cert.specs.Text.{cert_text}
-use Rattle.mud_hall.specs.Told.{world_after, notice_text, notices}
+use Rattle.mud_hall.specs.Notices.{world_after, notice_text, notices}
 use Rattle.mud_hall.specs.Desk.{DeskState}
 use Rattle.mud_hall.specs.Answers.{answer_shown, Shows}
 use Rattle.mud_row.specs.Known.{Standing}

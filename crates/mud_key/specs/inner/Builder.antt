@@ -1,5 +1,5 @@
 -- What the builder's parts are to the machine; proofs/Building.antt ties it to the grammar of key texts. `key_in` in
--- Reading.antt ends by `outer_settled`.
+-- Finds.antt ends by `outer_settled`.
 use Rattle.std.specs.Prelude.{ℕ, List, [], ◌∷◌, Option, Some, None, String, map, reverse, string_bytes}
 use Rattle.std.specs.declared.alloc.Global.{Global}
 use Rattle.mud_key.specs.declared.operator.Operator.{Operator}
@@ -35,7 +35,7 @@ mode_of (mode.After t) = machine.After (reading_of t)
 mode_of (mode.Half t op) = machine.Half (reading_of t) op
 
 -- the builder, if there is one
-abbrev pub state_of : Option Builder → Option machine.State
+abbrev pub state_of : Option Builder → Option machine.MachineState
 state_of None = None
 state_of (Some b) = Some (outer_of b.outer.items, mode_of b.mode)
 

@@ -1,4 +1,4 @@
--- A machine that reads a key text byte by byte. Clauses of private parts cite it, and `key_in` in Reading.antt
+-- A machine that reads a key text byte by byte. Clauses of private parts cite it, and `key_in` in Finds.antt
 -- computes by it; the law `laws::key` ties that to the grammar of key texts.
 use Rattle.std.specs.Prelude.{ℕ, zero, suc, Bool, true, false, Option, Some, None, List, [], ◌∷◌, ◌++◌, length}
 use Rattle.std.specs.Prelude.{replicate}
@@ -56,11 +56,11 @@ pub data Mode : Type 0 where
   Half : Reading → Operator → Mode
 
 -- what stands before each open parenthesis, the innermost first, and where the machine stands
-abbrev pub State : Type 0
-State = List Front × Mode
+abbrev pub MachineState : Type 0
+MachineState = List Front × Mode
 
 -- one byte further, after a chain
-abbrev pub after_step : List Front → Reading → Class → Option State
+abbrev pub after_step : List Front → Reading → Class → Option MachineState
 after_step outer k Space = Some (outer, After k)
 after_step outer k Ampersand = Some (outer, Half k And)
 after_step outer k Bar = Some (outer, Half k Or)
@@ -68,13 +68,13 @@ after_step (f ∷ outer) k Close = Some (outer, After (extend_chain f k))
 after_step outer k _ = None
 
 -- one byte further, after a chain and half an operator
-abbrev pub half_step : List Front → Reading → Operator → Class → Option State
+abbrev pub half_step : List Front → Reading → Operator → Class → Option MachineState
 half_step outer k And Ampersand = Some (outer, Operand (record { chain = Some (k, And); nots = 0 }))
 half_step outer k Or Bar = Some (outer, Operand (record { chain = Some (k, Or); nots = 0 }))
 half_step outer k op _ = None
 
 -- one byte further, from where a unary comes
-abbrev pub operand_step : List Front → Front → Class → ℕ → Option State
+abbrev pub operand_step : List Front → Front → Class → ℕ → Option MachineState
 operand_step outer f Space b = Some (outer, Operand f)
 operand_step outer f Bang b = Some (outer, Operand (record { chain = f.chain; nots = suc f.nots }))
 operand_step outer f Question b = Some (outer, Asked f)
@@ -85,7 +85,7 @@ operand_step outer f Letter b = Some (outer, Named f false (b ∷ []) 0)
 operand_step outer f _ b = None
 
 -- one byte further, from where an object comes
-abbrev pub asked_step : List Front → Front → Class → ℕ → Option State
+abbrev pub asked_step : List Front → Front → Class → ℕ → Option MachineState
 asked_step outer f Space b = Some (outer, Asked f)
 asked_step outer f Sharp b = Some (outer, Number f true [])
 asked_step outer f Digit b = Some (outer, Named f true (b ∷ []) 0)
@@ -93,14 +93,14 @@ asked_step outer f Letter b = Some (outer, Named f true (b ∷ []) 0)
 asked_step outer f _ b = None
 
 -- one byte further, after a sharp and digits
-abbrev pub number_step : List Front → Front → Bool → List ℕ → Class → ℕ → Option State
+abbrev pub number_step : List Front → Front → Bool → List ℕ → Class → ℕ → Option MachineState
 number_step outer f a ds Digit b =
     if nat_lt (length ds) MOST_DIGITS then Some (outer, Number f a (ds ++ b ∷ [])) else None
 number_step outer f a [] k b = None
 number_step outer f a (d ∷ ds) k b = after_step outer (extend_chain f (atom a (SHARP ∷ d ∷ ds))) k
 
 -- one byte further, after a name
-abbrev pub named_step : List Front → Front → Bool → List ℕ → ℕ → Class → ℕ → Option State
+abbrev pub named_step : List Front → Front → Bool → List ℕ → ℕ → Class → ℕ → Option MachineState
 named_step outer f a text n Space b = Some (outer, Named f a text (suc n))
 named_step outer f a text n Digit b = Some (outer, Named f a (text ++ replicate n SPACE ++ b ∷ []) 0)
 named_step outer f a text n Letter b = Some (outer, Named f a (text ++ replicate n SPACE ++ b ∷ []) 0)
@@ -108,7 +108,7 @@ named_step outer f a text n Sharp b = Some (outer, Named f a (text ++ replicate 
 named_step outer f a text n k b = after_step outer (extend_chain f (atom a text)) k
 
 -- one byte further, from anywhere
-abbrev pub step : List Front → Mode → Class → ℕ → Option State
+abbrev pub step : List Front → Mode → Class → ℕ → Option MachineState
 step outer (Operand f) k b = operand_step outer f k b
 step outer (Asked f) k b = asked_step outer f k b
 step outer (Number f a ds) k b = number_step outer f a ds k b
@@ -117,17 +117,17 @@ step outer (After t) k b = after_step outer t k
 step outer (Half t op) k b = half_step outer t op k
 
 -- one byte further, unless no key text went on so
-abbrev pub next : Option State → ℕ → Option State
+abbrev pub next : Option MachineState → ℕ → Option MachineState
 next None b = None
 next (Some s) b = step s.0 s.1 (class_of b) b
 
 -- after these bytes
-abbrev pub run : Option State → List ℕ → Option State
+abbrev pub run : Option MachineState → List ℕ → Option MachineState
 run s [] = s
 run s (b ∷ bs) = run (next s b) bs
 
 -- before the first byte
-abbrev pub start : Option State
+abbrev pub start : Option MachineState
 start = Some ([], Operand bare)
 
 -- the chain that stands, if the unary is whole

@@ -1,4 +1,4 @@
--- What the reader of names does at each byte. Clauses of private parts cite it, and `names_in` in Reading.antt
+-- What the reader of names does at each byte. Clauses of private parts cite it, and `names_in` in Finds.antt
 -- computes by it; the law `laws::names` ties that to names texts.
 use Rattle.std.specs.Prelude.{ℕ, ◌+◌, ◌-◌, List, [], ◌∷◌, ◌++◌, length, map, replicate, Option, Some, None}
 use Rattle.std.specs.Prelude.{string_bytes, nat_eq, nat_lt, if◌then◌else◌}

@@ -7,7 +7,7 @@ use Rattle.mud_key.specs.declared.limits.TheConstants.{MOST_NAMES}
 use Rattle.mud_key.specs.declared.names.NamesFault.{NamesFault}
 use Rattle.mud_key.specs.declared.names.NamesFault.TheVariants.{OutOfMemory, BadName}
 use Rattle.mud_key.specs.Name.{IsName}
-use Rattle.mud_key.specs.Parts.{without_leading_spaces}
+use Rattle.mud_key.specs.Commas.{without_leading_spaces}
 
 -- the text is a name with spaces round it
 pub record SpellsName (text name : List ℕ) : Type 0 where

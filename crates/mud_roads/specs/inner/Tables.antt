@@ -15,4 +15,4 @@ Fit from (end ∷ ends) steps = (from ≤ end) × (end - from ≤ length steps) 
 
 -- the list says of each number whether the object is unlocked for p
 abbrev pub Knows : State → ℕ → List Bool → Type 0
-Knows w p opened = (n : ℕ) → slice_index_or opened n false ≡ unlocked w p n
+Knows w p marks = (n : ℕ) → slice_index_or marks n false ≡ unlocked w p n

@@ -1,6 +1,6 @@
--- Steps of the code. Cited only by private clauses: what they come to, Matching, Outcome, Journeys and Table say.
-use Rattle.std.specs.Prelude.{ℕ, Bool, true, false, not, ◌&&◌, ◌||◌, nat_lt, List, [], ◌∷◌, ◌++◌, length, filter, codes}
-use Rattle.std.specs.Prelude.{Option, Some, None, ok_or, Result, Ok, Err, if◌then◌else◌}
+-- Steps of the code. Cited only by private clauses: what they come to, Matches, Outcome, Journeys and Table say.
+use Rattle.std.specs.Prelude.{ℕ, Bool, false, not, ◌&&◌, ◌||◌, nat_eq, nat_lt, List, [], ◌∷◌, ◌++◌, length, filter}
+use Rattle.std.specs.Prelude.{codes, Option, Some, None, ok_or, Result, Ok, Err, if◌then◌else◌}
 use Rattle.std.specs.Borrow.{Bor}
 use Rattle.std.specs.Option.{option_map_or}
 use Rattle.std.specs.List.{list_any}
@@ -8,9 +8,8 @@ use Rattle.std.specs.Str.{str_eq_ignore_ascii_case}
 use Rattle.mud_world.specs.declared.change.Target.{Target}
 use Rattle.mud_world.specs.declared.change.Target.TheVariants.{New, Old}
 use Rattle.mud_world.specs.declared.refusal.Refusal.{Refusal}
-use Rattle.mud_world.specs.declared.refusal.Refusal.TheVariants.{NoSuch as NoObject, WrongKind, Denied}
-use Rattle.mud_world.specs.declared.refusal.Refusal.TheVariants.{PartyBad}
-use Rattle.mud_world.specs.Refusals.{refused_if}
+use Rattle.mud_world.specs.declared.refusal.Refusal.TheVariants as refusal
+use Rattle.mud_world.specs.Refusals.{number, refused_if}
 use Rattle.mud_world.specs.State.{State, has, exists, is_room, is_player, place_of}
 use Rattle.mud_world.specs.Conditions.{owns}
 use Rattle.mud_rules.specs.declared.matching.Likeness.{Likeness}
@@ -20,10 +19,9 @@ use Rattle.mud_rules.specs.declared.matching.Match.TheVariants.{Nothing, NoSuch,
 use Rattle.mud_rules.specs.declared.matching.Sort.{Sort}
 use Rattle.mud_rules.specs.declared.matching.Sort.TheVariants.{Rooms, Players}
 use Rattle.mud_rules.specs.declared.verb.Verb.{Verb}
-use Rattle.mud_rules.specs.declared.verb.Verb.TheVariants as verb
-use Rattle.mud_rules.specs.Matching.{is_empty, is_like, sole, object_number}
+use Rattle.mud_rules.specs.Matches.{is_empty, is_like, sole, object_number}
 use Rattle.mud_rules.specs.Party.{is_party}
-use Rattle.mud_rules.specs.Listing.{object_list}
+use Rattle.mud_rules.specs.ObjectLists.{object_list}
 
 -- ---- matching
 
@@ -41,10 +39,13 @@ abbrev pub fits : Likeness → List ℕ → List ℕ → Bool
 fits Equal = is_like Equal
 fits Prefix = λ text name. nat_lt (length text) (length name) && is_like Prefix text name
 
+-- object n has a name that passes the test
+abbrev pub is_named : (List ℕ → Bool) → State → ℕ → Bool
+is_named test w n = has w n (λ r. list_any test r.names)
+
 -- the one candidate with a name that fits
 abbrev pub sole_fit : Likeness → State → List ℕ → List ℕ → Result ℕ Match
-sole_fit likeness w text candidates =
-    sole (filter (λ n. has w n (λ r. list_any (fits likeness text) r.names)) candidates)
+sole_fit likeness w text candidates = sole (filter (is_named (fits likeness text) w) candidates)
 
 -- what two lists of candidates give together
 abbrev pub together : Result ℕ Match → Result ℕ Match → Result ℕ Match
@@ -56,55 +57,56 @@ abbrev pub is_sort : Sort → State → ℕ → Bool
 is_sort Rooms w n = is_room w n
 is_sort Players w n = is_player w n
 
+-- ---- refusals
+
+-- all refusals, by rising number
+abbrev pub all_refusals : List Refusal
+all_refusals =
+    refusal.NotUnderstood ∷ refusal.NoSuch ∷ refusal.Ambiguous ∷ refusal.WrongKind ∷ refusal.NotHere ∷ refusal.Denied
+    ∷ refusal.BadName ∷ refusal.NameTaken ∷ refusal.BadKey ∷ refusal.KeyNesting ∷ refusal.BadCost
+    ∷ refusal.RecursiveMove ∷ refusal.LockedExit ∷ refusal.LockedRoom ∷ refusal.LockedThing ∷ refusal.InUse
+    ∷ refusal.WorldFull ∷ refusal.PartyBad ∷ []
+
+-- there is a refusal here, and it is f
+abbrev pub refuses : Option Refusal → Refusal → Bool
+refuses own f = option_map_or (λ g. nat_eq (number g) (number f)) own false
+
 -- ---- what bars a player from a change, before a text of it is looked at
 
 -- he is no player of the world
 abbrev pub no_player : State → ℕ → Option Refusal
 no_player w p =
-    if not (exists w p) then Some NoObject
-    else if not (is_player w p) then Some WrongKind
+    if not (exists w p) then Some refusal.NoSuch
+    else if not (is_player w p) then Some refusal.WrongKind
     else None
 
 -- he is no player, or an old room is none
 abbrev pub no_room : State → ℕ → Target → Option Refusal
 no_room w p (New names) = no_player w p
 no_room w p (Old room) =
-    if not (exists w p) || not (exists w room) then Some NoObject
-    else if not (is_player w p) || not (is_room w room) then Some WrongKind
+    if not (exists w p) || not (exists w room) then Some refusal.NoSuch
+    else if not (is_player w p) || not (is_room w room) then Some refusal.WrongKind
     else None
 
 -- he is no player, there is no object x, it is of the wrong kind, it is another's
 abbrev pub not_his : State → ℕ → ℕ → Bool → Option Refusal
 not_his w p x wrong_kind =
-    if not (exists w p) || not (exists w x) then Some NoObject
-    else if not (is_player w p) || wrong_kind then Some WrongKind
-    else if not (owns w p x) then Some Denied
+    if not (exists w p) || not (exists w x) then Some refusal.NoSuch
+    else if not (is_player w p) || wrong_kind then Some refusal.WrongKind
+    else if not (owns w p x) then Some refusal.Denied
     else None
 
 -- ---- meetings
 
 -- the refusal of those who are no party
 abbrev pub unfit : List ℕ → Option Refusal
-unfit party = refused_if (not (is_party party)) PartyBad
+unfit party = refused_if (not (is_party party)) refusal.PartyBad
 
 -- ---- verbs
 
 -- a row of the code's table of verbs
 abbrev pub row_of : Bor (List ℕ) × Verb → List ℕ × Verb
 row_of row = (row.0.now, row.1)
-
--- the verbs of questions
-abbrev pub asks : Verb → Bool
-asks verb.Look = true
-asks verb.Inventory = true
-asks verb.Key = true
-asks verb.Route = true
-asks verb.Meet = true
-asks verb.Proof = true
-asks verb.Version = true
-asks verb.History = true
-asks verb.Quit = true
-asks other = false
 
 -- ---- lists
 

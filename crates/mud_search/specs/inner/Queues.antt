@@ -4,7 +4,7 @@ use Rattle.std.specs.Prelude.{length, map, slice_index, slice_index_or}
 use Rattle.mud_roads.specs.declared.label.Label.{Label}
 use Rattle.mud_search.specs.declared.queue.Entry.{Entry}
 use Rattle.mud_search.specs.declared.queue.Heap.{Heap}
-use Rattle.mud_search.specs.Boards.{IsBefore}
+use Rattle.mud_search.specs.inner.Boards.{IsBefore}
 
 -- the entry at a place
 abbrev pub entry_at : List Entry → ℕ → Entry

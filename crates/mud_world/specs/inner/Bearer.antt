@@ -5,7 +5,7 @@ use Rattle.mud_world.specs.declared.locks.Bearer.{Bearer}
 use Rattle.mud_world.specs.declared.locks.Bearer.TheVariants.{Number, Holder, Marks}
 use Rattle.mud_world.specs.declared.locks.Asked.{Asked}
 use Rattle.mud_world.specs.declared.locks.Asked.TheVariants.{Levels, Answers}
-use Rattle.mud_world.specs.State.{State, within, opens}
+use Rattle.mud_world.specs.State.{State, within, unlocked_in}
 
 -- object a is true for the bearer
 abbrev pub has_for : State → Bearer → ℕ → Bool
@@ -15,5 +15,5 @@ has_for w (Marks t) a = slice_index_or t.now a false
 
 -- ?o is true, where these objects are: the keys say it, or the answers do
 abbrev pub asked_for : State → (ℕ → Bool) → Asked → ℕ → Bool
-asked_for w held (Levels n) o = opens w n held o
+asked_for w held (Levels n) o = unlocked_in w n held o
 asked_for w held (Answers t) o = slice_index_or t.now o false

@@ -10,7 +10,7 @@ use Rattle.mud_world.specs.Kinds.{kind_at, kind_place, is_player_kind}
 use Rattle.mud_world.specs.State.{State, record_at, place_of, follow, exists, is_room, is_player, all_nest, is_taken}
 use Rattle.mud_world.specs.Sound.{IsPlacedWell, IsSound}
 use Rattle.mud_world.specs.Legal.{with_new}
-use Rattle.mud_world.specs.inner.Parts.{with_key}
+use Rattle.mud_world.specs.inner.Fields.{with_key}
 
 -- object t can go from place q to another place y: y is fit for it, and y isn't within t
 pub record CanGo (w : State) (t q y : ℕ) : Type 0 where

@@ -2,7 +2,7 @@ use Rattle.std.proofs.Common.{◌≡◌, ◌≢◌, ℕ, List, ◌++◌, Option,
 use Rattle.std.specs.Prelude.{MatchOption, option_map}
 use Rattle.std.proofs.lemmas.Bool.Decides.{Decides-eqb}
 use Rattle.std.proofs.lemmas.Slice.Eq.{strip_prefix_is}
-use Rattle.mud_cert.specs.inner.Reading.{after}
+use Rattle.mud_cert.specs.inner.Reader.{after}
 use Rattle.mud_cert.proofs.Pieces.{after-none, after-front}
 use Rattle.mud_cert.proofs.lines.after.Goals as goal
 

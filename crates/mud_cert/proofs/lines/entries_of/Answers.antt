@@ -2,7 +2,7 @@
 use Rattle.std.proofs.Common.{◌≡◌, ◌<◌, length, None, sym, arith}
 use Rattle.std.proofs.lemmas.Grind.{common_steps}
 use Rattle.mud_cert.specs.Text.{entry_text}
-use Rattle.mud_cert.specs.inner.Reading.{entry_at}
+use Rattle.mud_cert.specs.inner.Reader.{entry_at}
 use Rattle.mud_cert.proofs.Pieces.{under-start, shorter, under-more, under-fails, under-done}
 use Rattle.mud_cert.proofs.Entries.{entry-reader, IsRead}
 use Rattle.mud_cert.proofs.lines.entries_of.Goals as goal

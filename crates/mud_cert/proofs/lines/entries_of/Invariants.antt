@@ -1,5 +1,5 @@
 use Rattle.std.proofs.Common.{length}
-use Rattle.mud_cert.specs.inner.Reading.{entry_at, pieces_at}
+use Rattle.mud_cert.specs.inner.Reader.{entry_at, pieces_at}
 use Rattle.mud_cert.proofs.Pieces.{IsUnder}
 use Rattle.mud_cert.proofs.lines.entries_of.Given as goal
 

@@ -3,7 +3,7 @@ use Rattle.std.proofs.Common.{◌≡◌, ◌<◌, length, None, sym, arith}
 use Rattle.std.proofs.lemmas.Grind.{common_steps}
 use Rattle.mud_cert.specs.inner.Lines.{exit_text}
 use Rattle.mud_cert.specs.Certificate.{IsNumber}
-use Rattle.mud_cert.specs.inner.Reading.{exit_at}
+use Rattle.mud_cert.specs.inner.Reader.{exit_at}
 use Rattle.mud_cert.proofs.Pieces.{under-start, shorter, under-more, under-fails, under-done}
 use Rattle.mud_cert.proofs.Entries.{exit-reader}
 use Rattle.mud_cert.proofs.lines.exits_of.Goals as goal

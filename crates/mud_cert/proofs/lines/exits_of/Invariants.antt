@@ -1,5 +1,5 @@
 use Rattle.std.proofs.Common.{length}
-use Rattle.mud_cert.specs.inner.Reading.{exit_at, pieces_at}
+use Rattle.mud_cert.specs.inner.Reader.{exit_at, pieces_at}
 use Rattle.mud_cert.proofs.Pieces.{IsUnder}
 use Rattle.mud_cert.proofs.lines.exits_of.Given as goal
 

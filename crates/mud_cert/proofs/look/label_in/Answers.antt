@@ -5,7 +5,7 @@ use Rattle.std.proofs.lemmas.Bool.Decides.{nat_tests}
 use Rattle.std.specs.Ordering.{ordering_index}
 use Rattle.std.proofs.lemmas.List.Sorted.{answers_always}
 use Rattle.mud_roads.specs.declared.label.Label.{Label}
-use Rattle.mud_cert.specs.Lookup.{Rises}
+use Rattle.mud_cert.specs.inner.Labels.{Rises}
 use Rattle.mud_cert.proofs.Lookups.{label-found, label-missing}
 use Rattle.mud_cert.proofs.look.label_in.Goals as goal
 

@@ -1,7 +1,7 @@
 use Rattle.std.proofs.Common.{◌≤◌, ℕ, List, drop, Some, None, sym, ap, arith, ltb}
 use Rattle.std.proofs.lemmas.Bool.{cond-false, le-ltb}
-use Rattle.mud_cert.specs.declared.limits.TheConstants.{AMOUNTS}
-use Rattle.mud_cert.specs.inner.Reading.{digits_on}
+use Rattle.mud_key.specs.declared.limits.TheConstants.{AMOUNTS}
+use Rattle.mud_cert.specs.inner.Reader.{digits_on}
 use Rattle.mud_cert.proofs.Digits.{grows}
 use Rattle.mud_cert.proofs.numbers.digits_on.Goals as goal
 

@@ -1,5 +1,5 @@
 use Rattle.std.proofs.Common.{◌≡◌, ◌<◌, drop}
-use Rattle.mud_cert.specs.inner.Reading.{digits_on}
+use Rattle.mud_cert.specs.inner.Reader.{digits_on}
 use Rattle.mud_cert.proofs.numbers.digits_on.Given as goal
 
 abbrev pub invariant-loop-i : goal.invariant-loop-i

@@ -1,7 +1,7 @@
 use Rattle.std.proofs.Common.{◌<◌, length, string_bytes, sym, arith}
 use Rattle.std.proofs.lemmas.Bool.{eqb-true, eqb-false}
 use Rattle.std.proofs.lemmas.List.{nil_from_length, take_rest}
-use Rattle.mud_explain.specs.Explained.{Says}
+use Rattle.mud_explain.specs.Explanation.{Says}
 use Rattle.mud_explain.proofs.Answering.{goes_on-next, goes_on-end, goes_on-last}
 use Rattle.mud_chron.proofs.Lined.{cut-at, line-whole}
 use Rattle.mud_explain.proofs.lines.explained_lines.Goals as goal

@@ -1,5 +1,5 @@
 use Rattle.std.proofs.Common.{string_bytes, length}
-use Rattle.mud_explain.specs.Explained.{Says}
+use Rattle.mud_explain.specs.Explanation.{Says}
 use Rattle.mud_explain.proofs.Answering.{GoesOn}
 use Rattle.mud_explain.proofs.lines.explained_lines.Given as goal
 

@@ -1,8 +1,8 @@
 use Rattle.std.proofs.Common.{◌≡◌, ◌++◌, codes, map, string_bytes, sym, ap, ◌∙◌}
 use Rattle.std.specs.Option.{option_map_or}
 use Rattle.std.proofs.lemmas.Result.{IfOk-weaker}
-use Rattle.mud_key.specs.Reading.{names_in}
-use Rattle.mud_explain.specs.Listed.{bracket_all}
+use Rattle.mud_key.specs.Finds.{names_in}
+use Rattle.mud_explain.specs.Brackets.{bracket_all}
 use Rattle.mud_explain.proofs.lines.said_names.Goals as goal
 
 pub returns-in_ok-push_listed-in-Ok : goal.returns-in_ok-push_listed-in-Ok

@@ -1,6 +1,6 @@
 use Rattle.std.proofs.Common.{◌≡◌, ◌++◌, map, codes, string_bytes, take}
 use Rattle.std.specs.List.{flat_map}
-use Rattle.mud_explain.specs.Listed.{in_brackets}
+use Rattle.mud_explain.specs.Brackets.{in_brackets}
 use Rattle.mud_explain.proofs.listed.push_others.Given as goal
 
 abbrev pub invariant-loop-text : goal.invariant-loop-text

@@ -1,5 +1,5 @@
 use Rattle.std.proofs.Common.{take}
-use Rattle.mud_explain.specs.inner.Played.{AreHanded}
+use Rattle.mud_explain.specs.inner.Steps.{AreHanded}
 use Rattle.mud_explain.proofs.play.handed_in.Given as goal
 
 -- the desks of the numbers so far are handed in

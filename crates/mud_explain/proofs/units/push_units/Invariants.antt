@@ -1,5 +1,5 @@
 use Rattle.std.proofs.Common.{◌≡◌, ◌++◌, string_bytes, take}
-use Rattle.mud_nvt.specs.Shown.{all_shown}
+use Rattle.mud_nvt.specs.UnitViews.{all_shown}
 use Rattle.mud_explain.specs.inner.Texts.{units_text}
 use Rattle.mud_explain.proofs.units.push_units.Given as goal
 

@@ -1,5 +1,5 @@
 use Rattle.std.proofs.Common.{◌≡◌, List, [], ◌++◌, sym, ap, ◌∙◌}
-use Rattle.mud_nvt.specs.Shown.{all_shown}
+use Rattle.mud_nvt.specs.UnitViews.{all_shown}
 use Rattle.mud_nvt.specs.Units.{Given}
 use Rattle.mud_explain.proofs.units.units_of.Goals as goal
 

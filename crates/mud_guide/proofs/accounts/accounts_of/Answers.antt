@@ -14,7 +14,7 @@ use Rattle.mud_guide.proofs.accounts.accounts_of.Goals as goal
 pub loop-member-preserved : goal.loop-member-preserved
 loop-member-preserved c =
     let labels : ℕ → ℕ → Option Label = λ n. label_in c.args.labels.now (c.args.first + n) in
-    let js = c.args.journeys.now in
+    let js = c.args.legs.now in
     let es = c.loop-member.accounts.items in
     let m = c.loop-member.member in
     let e = c.in_ok-account_of.field-0 in
@@ -28,7 +28,7 @@ loop-member-preserved c =
           (listed-push labels c.args.next js es m e old.long old.each (λ j.
           let Q : Leg → Type 0 = λ x. IsListed (labels m) c.args.next x e in
           subst Q (sym
-          (read-at js m c.index-journeys-member.result j c.loop-member-test.true c.index-journeys-member.is))
+          (read-at js m c.index-legs-member.result j c.loop-member-test.true c.index-legs-member.is))
           c.in_ok-account_of.ensures.account));
       limits = subst (All IsAccount) (sym items) (All-push IsAccount es e old.limits c.in_ok-account_of.ensures.limits);
     }

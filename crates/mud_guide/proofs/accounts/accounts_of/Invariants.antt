@@ -10,7 +10,7 @@ abbrev pub invariant-loop-member : goal.invariant-loop-member
 invariant-loop-member l = record {
   long : length l.accounts.items ≡ l.member;
   each : (m : ℕ) (j : Leg) (a : Account) → m < length l.accounts.items
-      → IsListed (label_in l.labels (l.first + m)) l.next (slice_index_or l.journeys m j)
+      → IsListed (label_in l.labels (l.first + m)) l.next (slice_index_or l.legs m j)
       (slice_index_or l.accounts.items m a);
   limits : All IsAccount l.accounts.items;
 }

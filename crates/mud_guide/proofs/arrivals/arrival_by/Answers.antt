@@ -1,5 +1,5 @@
 use Rattle.std.proofs.Common.{Option, ap, sym, ◌∙◌, subst}
-use Rattle.mud_roads.specs.Open.{roads_of}
+use Rattle.mud_roads.specs.Passable.{roads_of}
 use Rattle.mud_search.specs.Least.{label_in}
 use Rattle.mud_guide.specs.declared.arrivals.Arrival.{Arrival}
 use Rattle.mud_guide.specs.inner.Arrivals.{IsBy, ends}

@@ -1,5 +1,5 @@
 use Rattle.std.proofs.Common.{sym, ◌∙◌, arith}
-use Rattle.mud_roads.specs.Open.{roads_of}
+use Rattle.mud_roads.specs.Passable.{roads_of}
 use Rattle.mud_search.specs.Least.{label_in}
 use Rattle.mud_guide.proofs.Lowest.{all-left, left-more, last-is, none-left}
 use Rattle.mud_guide.proofs.arrivals.last_step.Goals as goal

@@ -1,6 +1,6 @@
 use Rattle.std.proofs.Common.{◌≡◌, take, map}
 use Rattle.std.specs.Prelude.{All}
-use Rattle.mud_roads.specs.Open.{IsTraveller}
+use Rattle.mud_roads.specs.Passable.{IsTraveller}
 use Rattle.mud_guide.proofs.ask.travellers_of.Given as goal
 
 abbrev pub invariant-loop-player : goal.invariant-loop-player

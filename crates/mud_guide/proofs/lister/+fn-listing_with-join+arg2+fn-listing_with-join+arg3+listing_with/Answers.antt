@@ -1,6 +1,6 @@
 use Rattle.std.proofs.Common.{◌+◌, ◌-◌, length, rules, arith}
 use Rattle.mud_search.specs.Least.{label_in}
-use Rattle.mud_guide.specs.inner.Parts.{AreMembers}
+use Rattle.mud_guide.specs.inner.Travellers.{AreMembers}
 use Rattle.mud_guide.specs.inner.Listings.{IsListing}
 use Rattle.mud_guide.proofs.Parts.{members_front, members_back}
 use Rattle.mud_guide.proofs.Listings.{listing-beside}

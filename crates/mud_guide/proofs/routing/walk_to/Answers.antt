@@ -2,7 +2,7 @@ use Rattle.std.proofs.Common.{List, [], ◌∷◌, ◌++◌, Option, length, rev
 use Rattle.std.proofs.lemmas.List.{with_items_is, append-nil, append_assoc, reverse-reverse}
 use Rattle.mud_roads.specs.declared.label.Step.{Step}
 use Rattle.mud_roads.specs.Walks.{RouteBack}
-use Rattle.mud_roads.specs.Open.{roads_of}
+use Rattle.mud_roads.specs.Passable.{roads_of}
 use Rattle.mud_search.specs.Least.{label_in}
 use Rattle.mud_guide.specs.declared.arrivals.Arrival.{Arrival}
 use Rattle.mud_guide.specs.inner.Arrivals.{IsLast}

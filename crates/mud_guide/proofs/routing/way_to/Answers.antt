@@ -1,5 +1,5 @@
 use Rattle.std.proofs.Common.{sym, ◌∙◌}
-use Rattle.mud_roads.specs.Open.{roads_of}
+use Rattle.mud_roads.specs.Passable.{roads_of}
 use Rattle.mud_search.specs.Least.{label_in}
 use Rattle.mud_guide.proofs.Totals.{way-cost}
 use Rattle.mud_guide.proofs.routing.way_to.Goals as goal

@@ -1,5 +1,5 @@
 use Rattle.std.proofs.Common.{ℕ, List, ◌++◌, sym, subst, rules}
-use Rattle.mud_guide.specs.inner.Parts.{AreTravellers}
+use Rattle.mud_guide.specs.inner.Travellers.{AreTravellers}
 use Rattle.mud_guide.proofs.Parts.{travellers-beside}
 use Rattle.mud_guide.proofs.workers.+fn-party_with-join+arg2+fn-party_with-join+arg3+party_with.Goals as goal
 

@@ -1,5 +1,5 @@
 use Rattle.std.proofs.Common.{◌≡◌, ◌≤◌, length}
-use Rattle.mud_hall.specs.Settling.{first_apart, versions_by}
+use Rattle.mud_hall.specs.Settlement.{first_apart, versions_by}
 use Rattle.mud_hall.proofs.Apart.{left}
 use Rattle.mud_hall.proofs.close.differs.Given as goal
 

@@ -2,8 +2,8 @@ use Rattle.std.proofs.Common.{◌≡◌, ◌++◌, ◌∷◌, [], ℕ, List, Opt
 use Rattle.std.proofs.lemmas.List.{take_all}
 use Rattle.mud_chron.specs.Entry.{Entry}
 use Rattle.mud_hall.specs.Desk.{View}
-use Rattle.mud_hall.specs.Settling.{first_apart, versions_by}
-use Rattle.mud_hall.specs.inner.Checking.{IsLeast, Differs, lesser_of}
+use Rattle.mud_hall.specs.Settlement.{first_apart, versions_by}
+use Rattle.mud_hall.specs.inner.CheckFaults.{IsLeast, Differs, lesser_of}
 use Rattle.mud_hall.proofs.Lists.{take_snoc}
 use Rattle.mud_hall.proofs.Apart.{differs_more}
 use Rattle.mud_hall.proofs.close.first_difference.Goals as goal

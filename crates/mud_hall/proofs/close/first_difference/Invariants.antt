@@ -1,5 +1,5 @@
 use Rattle.std.proofs.Common.{◌≡◌, take}
-use Rattle.mud_hall.specs.inner.Checking.{IsLeast, Differs}
+use Rattle.mud_hall.specs.inner.CheckFaults.{IsLeast, Differs}
 use Rattle.mud_hall.proofs.close.first_difference.Given as goal
 
 abbrev pub invariant-loop-desk : goal.invariant-loop-desk

@@ -1,5 +1,5 @@
 use Rattle.std.proofs.Common.{ℕ, ◌+◌, below_more, refl}
-use Rattle.mud_hall.specs.Settling.{HasNumber}
+use Rattle.mud_hall.specs.Settlement.{HasNumber}
 use Rattle.mud_hall.proofs.close.first_missing.Goals as goal
 
 pub loop-n-preserved : goal.loop-n-preserved

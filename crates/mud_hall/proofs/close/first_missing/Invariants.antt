@@ -1,5 +1,5 @@
 use Rattle.std.proofs.Common.{◌<◌, ◌+◌, ℕ}
-use Rattle.mud_hall.specs.Settling.{HasNumber}
+use Rattle.mud_hall.specs.Settlement.{HasNumber}
 use Rattle.mud_hall.proofs.close.first_missing.Given as goal
 
 abbrev pub invariant-loop-n : goal.invariant-loop-n

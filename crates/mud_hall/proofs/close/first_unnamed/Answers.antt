@@ -4,7 +4,7 @@ use Rattle.std.proofs.lemmas.List.{take_all}
 use Rattle.std.proofs.lemmas.Option.{get_or_from_slice_get, slice_get_within}
 use Rattle.mud_chron.specs.Entry.{Entry}
 use Rattle.mud_hall.specs.Desk.{View}
-use Rattle.mud_hall.specs.Settling.{HasNumber}
+use Rattle.mud_hall.specs.Settlement.{HasNumber}
 use Rattle.mud_hall.proofs.Lists.{all_snoc}
 use Rattle.mud_hall.proofs.Checks.{unnamed_here, unnamed_none}
 use Rattle.mud_hall.proofs.close.first_unnamed.Goals as goal

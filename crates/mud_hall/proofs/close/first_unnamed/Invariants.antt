@@ -1,6 +1,6 @@
 use Rattle.std.proofs.Common.{◌≡◌, take}
 use Rattle.std.specs.Prelude.{All}
-use Rattle.mud_hall.specs.Settling.{HasNumber}
+use Rattle.mud_hall.specs.Settlement.{HasNumber}
 use Rattle.mud_hall.proofs.close.first_unnamed.Given as goal
 
 abbrev pub invariant-loop-i : goal.invariant-loop-i

@@ -2,8 +2,9 @@ use Rattle.std.proofs.Common.{◌≡◌, ◌∙◌, ◌<◌, ℕ, List, length, 
 use Rattle.std.proofs.lemmas.List.{take_all}
 use Rattle.mud_chron.specs.Entry.{Entry}
 use Rattle.mud_hall.specs.Desk.{View}
-use Rattle.mud_hall.specs.Settling.{IsGathered}
-use Rattle.mud_hall.proofs.Lists.{take_snoc, set_same}
+use Rattle.mud_hall.specs.Settlement.{IsGathered}
+use Rattle.mud_row.proofs.Notes.{set_same}
+use Rattle.mud_hall.proofs.Lists.{take_snoc}
 use Rattle.mud_hall.proofs.Checks.{gathered_more}
 use Rattle.mud_hall.proofs.close.gather.Goals as goal
 

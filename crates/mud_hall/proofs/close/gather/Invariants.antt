@@ -1,5 +1,5 @@
 use Rattle.std.proofs.Common.{◌≡◌, take}
-use Rattle.mud_hall.specs.Settling.{IsGathered}
+use Rattle.mud_hall.specs.Settlement.{IsGathered}
 use Rattle.mud_hall.proofs.close.gather.Given as goal
 
 abbrev pub invariant-loop-i : goal.invariant-loop-i

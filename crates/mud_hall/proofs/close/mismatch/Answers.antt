@@ -1,8 +1,8 @@
 use Rattle.std.proofs.Common.{ℕ, List, Option, sym, subst}
 use Rattle.mud_chron.specs.Entry.{Entry}
 use Rattle.mud_hall.specs.Desk.{View}
-use Rattle.mud_hall.specs.Settling.{IsAtOdds}
-use Rattle.mud_hall.specs.inner.Checking.{IsLeast, Differs, IsUnnamed}
+use Rattle.mud_hall.specs.Settlement.{IsAtOdds}
+use Rattle.mud_hall.specs.inner.CheckFaults.{IsLeast, Differs, IsUnnamed}
 use Rattle.mud_hall.proofs.Least.{least_either}
 use Rattle.mud_hall.proofs.close.mismatch.Goals as goal
 

@@ -2,8 +2,8 @@ use Rattle.std.proofs.Common.{◌≡◌, ◌+◌, ◌<◌, ◌++◌, ◌∷◌, 
 use Rattle.std.proofs.Common.{arith, refl, ◌∙◌}
 use Rattle.std.proofs.lemmas.List.{take_all}
 use Rattle.mud_hall.specs.Desk.{View}
-use Rattle.mud_hall.specs.Settling.{HasNumber, HaveSameNumber}
-use Rattle.mud_hall.specs.inner.Checking.{IsLeast, lesser_of}
+use Rattle.mud_hall.specs.Settlement.{HasNumber, HaveSameNumber}
+use Rattle.mud_hall.specs.inner.CheckFaults.{IsLeast, lesser_of}
 use Rattle.mud_hall.proofs.Lists.{take_snoc}
 use Rattle.mud_hall.proofs.Checks.{twice_more, twice_same}
 use Rattle.mud_hall.proofs.close.same_number.Goals as goal

@@ -1,7 +1,7 @@
 use Rattle.std.proofs.Common.{List, subst, sym}
 use Rattle.mud_chron.specs.Entry.{Entry}
-use Rattle.mud_hall.specs.Settling.{IsGathered}
-use Rattle.mud_house.specs.Listening.{MayEnd}
+use Rattle.mud_hall.specs.Settlement.{IsGathered}
+use Rattle.mud_house.specs.Listener.{MayEnd}
 use Rattle.mud_house.proofs.Written.{may_end}
 use Rattle.mud_house.proofs.ending.settle.Goals as goal
 

@@ -1,5 +1,5 @@
 use Rattle.std.proofs.Common.{◌≡◌, length, sym, subst, arith}
-use Rattle.mud_hall.specs.Settling.{IsGathered}
+use Rattle.mud_hall.specs.Settlement.{IsGathered}
 use Rattle.mud_journal.specs.Disk.{Holds}
 use Rattle.mud_house.proofs.Keeping.{prefix_trans, all_there}
 use Rattle.mud_house.proofs.ending.settle_journaled.Goals as goal

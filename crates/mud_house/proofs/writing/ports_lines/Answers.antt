@@ -1,7 +1,7 @@
 use Rattle.std.proofs.Common.{◌≡◌, ◌++◌, ◌∙◌, codes, Some, string_bytes}
 use Rattle.std.specs.Fmt.{decimal}
 use Rattle.std.proofs.lemmas.Result.{IfOk-weaker}
-use Rattle.mud_house.specs.Listening.{opening_lines}
+use Rattle.mud_house.specs.Listener.{opening_lines}
 use Rattle.mud_house.proofs.Written.{two_lines}
 use Rattle.mud_house.proofs.writing.ports_lines.Goals as goal
 

@@ -1,6 +1,6 @@
 use Rattle.std.proofs.Common.{◌≡◌, ◌≤◌, false, length}
 use Rattle.mud_keeping.specs.Shorter.{has_talk}
-use Rattle.mud_keeping.specs.inner.Shortening.{LeadsTo}
+use Rattle.mud_keeping.specs.inner.ShorterHistory.{LeadsTo}
 use Rattle.mud_keeping.proofs.shortening.shorten.Given as goal
 
 -- what is kept is no longer, has no talk and leads to the world

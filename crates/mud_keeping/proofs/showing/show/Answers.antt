@@ -1,7 +1,7 @@
 use Rattle.std.proofs.Common.{arith, ◌++◌, ap, ◌∙◌}
 use Rattle.std.specs.Prelude.{string_bytes}
 use Rattle.std.specs.List.{flat_map}
-use Rattle.mud_keeping.specs.Shown.{row}
+use Rattle.mud_keeping.specs.Rows.{row}
 use Rattle.mud_keeping.proofs.Rows.{text_at, one_more, all_left}
 use Rattle.mud_keeping.proofs.showing.show.Goals as goal
 

@@ -1,7 +1,7 @@
 use Rattle.std.proofs.Common.{◌≡◌, ◌++◌, ◌-◌}
 use Rattle.std.specs.Prelude.{string_bytes}
 use Rattle.std.specs.List.{flat_map, range_with_len}
-use Rattle.mud_keeping.specs.Shown.{row}
+use Rattle.mud_keeping.specs.Rows.{row}
 use Rattle.mud_keeping.proofs.Rows.{text_at}
 use Rattle.mud_keeping.proofs.showing.show.Given as goal
 

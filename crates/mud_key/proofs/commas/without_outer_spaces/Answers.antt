@@ -1,5 +1,5 @@
 use Rattle.std.proofs.Common.{◌∙◌, ap, reverse}
-use Rattle.mud_key.specs.Parts.{without_leading_spaces}
+use Rattle.mud_key.specs.Commas.{without_leading_spaces}
 use Rattle.mud_key.proofs.Spaces.{trimmed_in_front, trimmed_behind}
 use Rattle.mud_key.proofs.commas.without_outer_spaces.Goals as goal
 

@@ -1,7 +1,7 @@
 use Rattle.std.proofs.Common.{rules, ◌≡◌, drop, sym, subst}
 use Rattle.std.proofs.lemmas.List.{places, length-take-le}
 use Rattle.std.proofs.lemmas.Result.{err_from_is_err_and}
-use Rattle.mud_house.specs.Listening.{IsListenFault}
+use Rattle.mud_house.specs.Listener.{IsListenFault}
 use Rattle.mud_house.proofs.Keeping.{all_loaded}
 use Rattle.mud_house.proofs.Written.{opened, any_err, end_of, none_written, front_written, line_written, part_written}
 use Rattle.mud_house.proofs.Written.{write_fault, all_journaled, whole_written}

@@ -1,5 +1,5 @@
 use Rattle.std.proofs.Common.{rules}
-use Rattle.mud_house.specs.Listening.{IsListenFault}
+use Rattle.mud_house.specs.Listener.{IsListenFault}
 use Rattle.mud_house.proofs.Written.{opened, any_err, end_of, none_written, front_written, line_written}
 use Rattle.mud_house.proofs.Written.{part_written, all_written, whole_written}
 use Rattle.mud_listen.proofs.listen.listen_on.Goals as goal

@@ -1,5 +1,5 @@
 use Rattle.std.proofs.Common.{◌≡◌, ◌++◌, take}
-use Rattle.mud_map.specs.Quoted.{escape}
+use Rattle.mud_map.specs.Quotes.{escape}
 use Rattle.mud_map.proofs.quoted.push_escaped.Given as goal
 
 abbrev pub invariant-loop-byte : goal.invariant-loop-byte

@@ -1,7 +1,7 @@
 use Rattle.std.proofs.Common.{◌≡◌, ◌∙◌, ◌≤◌, ◌-◌, ℕ, take, take_all, slice_index, drop, length, length-drop, arith}
 use Rattle.std.proofs.Common.{add-zero}
 use Rattle.std.proofs.lemmas.List.{take_rest, get_or-drop}
-use Rattle.mud_nvt.specs.Shown.{all_shown}
+use Rattle.mud_nvt.specs.UnitViews.{all_shown}
 use Rattle.mud_nvt.proofs.Whole.{takes_in, more_state, more_given}
 use Rattle.mud_nvt.proofs.Stopping.{stops_before}
 use Rattle.mud_nvt.proofs.Nvt.feed.Goals as goal

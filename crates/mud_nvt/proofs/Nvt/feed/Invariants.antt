@@ -1,7 +1,7 @@
 use Rattle.std.proofs.Common.{◌≡◌, ◌≤◌, ◌-◌, ◌++◌, take, length, All}
-use Rattle.mud_nvt.specs.Machine.{run, run_units}
+use Rattle.mud_nvt.specs.inner.Machine.{run, run_units}
 use Rattle.mud_nvt.specs.Lines.{IsSound}
-use Rattle.mud_nvt.specs.Shown.{all_shown}
+use Rattle.mud_nvt.specs.UnitViews.{all_shown}
 use Rattle.mud_nvt.proofs.Nvt.feed.Given as goal
 
 abbrev pub invariant-loop-taken : goal.invariant-loop-taken

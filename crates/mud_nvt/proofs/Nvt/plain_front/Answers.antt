@@ -1,6 +1,6 @@
 use Rattle.std.proofs.Common.{ap, sym, subst, ◌∙◌, ◌≤◌, ◌-◌, length, string_bytes, rules}
 use Rattle.mud_nvt.specs.declared.TheConstants.{MOST}
-use Rattle.mud_nvt.specs.Machine.{Held}
+use Rattle.mud_nvt.specs.Held.{Held}
 use Rattle.mud_nvt.proofs.Runs.{is_typed}
 use Rattle.mud_nvt.proofs.Nvt.plain_front.Goals as goal
 

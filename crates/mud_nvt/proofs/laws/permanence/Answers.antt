@@ -1,4 +1,4 @@
-use Rattle.mud_nvt.specs.Machine.{start, run, run_units}
+use Rattle.mud_nvt.specs.inner.Machine.{start, run, run_units}
 use Rattle.mud_nvt.proofs.Whole.{units-append}
 use Rattle.mud_nvt.proofs.laws.permanence.Goals as goal
 

@@ -1,6 +1,6 @@
 use Rattle.std.proofs.Common.{arith}
 use Rattle.std.proofs.lemmas.List.Elements.{All-more}
-use Rattle.mud_nvt.specs.Lines.{IsPrintable}
+use Rattle.mud_nvt.specs.inner.Lines.{IsPrintable}
 use Rattle.mud_nvt.proofs.typed.printable_len.Goals as goal
 
 pub loop-at-preserved : goal.loop-at-preserved

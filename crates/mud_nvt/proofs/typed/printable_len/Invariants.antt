@@ -1,5 +1,5 @@
 use Rattle.std.proofs.Common.{take, All}
-use Rattle.mud_nvt.specs.Lines.{IsPrintable}
+use Rattle.mud_nvt.specs.inner.Lines.{IsPrintable}
 use Rattle.mud_nvt.proofs.typed.printable_len.Given as goal
 
 abbrev pub invariant-loop-at : goal.invariant-loop-at

@@ -4,4 +4,4 @@ use Rattle.mud_roads.proofs.access.unlocked_for.Goals as goal
 pub returns : goal.returns
 returns c =
     IfOk-weaker c.judge.result _ _
-    (λ opened known n. known c.args.player n c.in_ok-holding.ensures.holding) c.judge.ensures
+    (λ marks known n. known c.args.player n c.in_ok-holding.ensures.holding) c.judge.ensures

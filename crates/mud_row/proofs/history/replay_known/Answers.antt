@@ -9,7 +9,14 @@ use Rattle.mud_chron.specs.Entry.{Entry, IsEntry}
 use Rattle.mud_row.specs.Known.{Known, entry_at}
 use Rattle.mud_row.proofs.Legal.{next_legal, next_illegal}
 use Rattle.mud_row.proofs.Lines.{entry_at-place}
+use Rattle.mud_row.proofs.history.replay_known.Goals.{In-Some}
 use Rattle.mud_row.proofs.history.replay_known.Goals as goal
+
+-- the entry that was read stands at the next place
+read_at : (c : In-Some) → slice_get c.args.pass.now.list c.loop-n.n ≡ Some c.in-Some.entry.now
+read_at c =
+    sym (entry_at-place c.args.pass.now.list c.loop-n.n) ∙ sym (c.in-Some.ensures.entry
+    ∙ ap (λ (p : Known). entry_at p.list (c.loop-n.n + 1)) c.loop-n.invariant.pass)
 
 pub returns-in-Err-clause-err : goal.returns-in-Err-clause-err
 returns-in-Err-clause-err c =
@@ -17,9 +24,7 @@ returns-in-Err-clause-err c =
     let n : ℕ = c.loop-n.n in
     let e : Entry = c.in-Some.entry.now in
     let w : State = c.loop-n.world in
-    let at : slice_get es n ≡ Some e =
-    sym (entry_at-place es n) ∙ sym (c.in-Some.ensures.entry
-    ∙ ap (λ (p : Known). entry_at p.list (n + 1)) c.loop-n.invariant.pass) in
+    let at = read_at (goal.at.returns-in-Err-clause-err c).In-Some in
     next_illegal es n e w c.in-Err.field-0 at c.loop-n.invariant.legal c.loop-n.invariant.world
     (ap (refusal w) (sym c.change-change.ensures.change) ∙ c.in-Err.ensures)
 
@@ -29,9 +34,7 @@ loop-n-preserved c =
     let n : ℕ = c.loop-n.n in
     let e : Entry = c.in-Some.entry.now in
     let w : State = c.loop-n.world in
-    let at : slice_get es n ≡ Some e =
-    sym (entry_at-place es n) ∙ sym (c.in-Some.ensures.entry
-    ∙ ap (λ (p : Known). entry_at p.list (n + 1)) c.loop-n.invariant.pass) in
+    let at = read_at (goal.at.loop-n-preserved c).In-Some in
     let here : get_or es n e ≡ e = get_or_from_slice_get es n e e at in
     let g = next_legal es n e w at c.loop-n.invariant.legal c.loop-n.invariant.world
     (ap (refusal w) (sym c.change-change.ensures.change) ∙ c.in-Ok.ensures) in

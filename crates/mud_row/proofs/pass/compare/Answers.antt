@@ -1,32 +1,27 @@
-use Rattle.std.proofs.Common.{◌≡◌, length, get_or, slice_get, sym, ap, ◌∙◌, subst, arith, add-one, List, Option}
+use Rattle.std.proofs.Common.{◌≡◌, ◌<◌, ℕ, length, get_or, slice_get, sym, ap, ◌∙◌, subst, arith, add-one, List}
+use Rattle.std.proofs.Common.{Option}
 use Rattle.std.specs.Prelude.{IfSome}
 use Rattle.once_cell.specs.Once.{Agrees}
+use Rattle.once_cell.specs.declared.race.note.Note.{Note}
 use Rattle.mud_chron.specs.Entry.{Entry}
-use Rattle.mud_row.specs.Known.{names_of, known_front}
+use Rattle.mud_row.specs.inner.Known.{names_of, known_front}
 use Rattle.mud_row.proofs.Notes.{front_bound, name_beside, known_at, stands_at, notes_agree, take_agree, set_same}
 use Rattle.mud_row.proofs.pass.compare.Goals as goal
 
+-- the notes reach as far as their entries are known
+reaches : (k : ℕ) (now ns : List (Note Entry)) (i : ℕ) → now ≡ ns → length (known_front k ns) ≡ k → i < k
+    → i < length now
+reaches k now ns i same all lt = omega (arith, ap length same, front_bound k ns)
+
 pub index_mut-requires : goal.index_mut-requires
 index_mut-requires c =
-    omega (
-      arith,
-      ap length c.loop-i.invariant.1,
-      front_bound c.args.theirs_known
-          c.args.theirs.now.items,
-      c.requires.theirs_all,
-      c.requires.within.1,
-    )
+    let r = reaches c.args.theirs_known _ _ c.loop-i.i c.loop-i.invariant.1 c.requires.theirs_all
+    (omega (arith, c.requires.within.1)) in omega arith
 
 pub index_mut-requires-in-loop-i : goal.index_mut-requires-in-loop-i
 index_mut-requires-in-loop-i c =
-    omega (
-      arith,
-      ap length c.loop-i.invariant.0,
-      front_bound c.args.mine_known
-          c.args.mine.now.items,
-      c.requires.mine_all,
-      c.requires.within.0,
-    )
+    let r = reaches c.args.mine_known _ _ c.loop-i.i c.loop-i.invariant.0 c.requires.mine_all
+    (omega (arith, c.requires.within.0)) in omega arith
 
 pub compare-requires : goal.compare-requires
 compare-requires c =
@@ -35,14 +30,7 @@ compare-requires c =
     ap (λ n. n.cell) c.again-copy.ensures.1
     ∙ name_beside c.loop-i.mine.items c.loop-i.theirs.items c.loop-i.i c.index_mut-in-loop-i.result.now
     c.index_mut.result.now same
-    (omega (
-      arith,
-      ap length c.loop-i.invariant.0,
-      front_bound c.args.mine_known
-          c.args.mine.now.items,
-      c.requires.mine_all,
-      c.requires.within.0,
-    ))
+    (reaches c.args.mine_known _ _ _ c.loop-i.invariant.0 c.requires.mine_all (omega (arith, c.requires.within.0)))
     c.index_mut-in-loop-i.ensures.value c.index_mut.ensures.value
 
 pub loop-i-preserved : goal.loop-i-preserved

@@ -1,5 +1,5 @@
 use Rattle.std.proofs.Common.{◌≡◌, take}
-use Rattle.mud_row.specs.Known.{known_front}
+use Rattle.mud_row.specs.inner.Known.{known_front}
 use Rattle.mud_row.proofs.pass.compare.Given as goal
 
 abbrev pub invariant-loop-i : goal.invariant-loop-i

@@ -1,20 +1,11 @@
 use Rattle.std.proofs.Common.{◌≡◌, ◌<◌, length, get_or, sym, ap, ◌∙◌, arith, add-one}
-use Rattle.mud_row.specs.Known.{names_of}
-use Rattle.mud_row.proofs.Notes.{name_beside, names-length, names-set, take-set_agree, set_same}
+use Rattle.mud_row.specs.inner.Known.{names_of}
+use Rattle.mud_row.proofs.Notes.{name_beside, names_as_many, names-set, take-set_agree, set_same}
 use Rattle.mud_row.proofs.pass.take_over.Goals as goal
 
 pub index_mut-requires-in-loop-i : goal.index_mut-requires-in-loop-i
 index_mut-requires-in-loop-i c =
-    omega (
-      arith,
-      ap length c.loop-i.invariant.0,
-      ap length c.requires.row,
-      names-length
-          c.loop-i.mine.items,
-      names-length c.args.mine.now.items,
-      names-length c.args.theirs.now.items,
-      c.requires.within,
-    )
+    omega (arith, names_as_many _ _ c.loop-i.invariant.0, names_as_many _ _ c.requires.row, c.requires.within)
 
 pub loop-i-preserved : goal.loop-i-preserved
 loop-i-preserved c =
@@ -24,17 +15,7 @@ loop-i-preserved c =
     let same : names_of c.loop-i.mine.items ≡ names_of c.loop-i.theirs.items =
     c.loop-i.invariant.0 ∙ (c.requires.row ∙ sym (ap names_of c.loop-i.invariant.1)) in
     let mine_room : i < length c.loop-i.mine.items =
-    omega (
-      arith,
-      ap length c.loop-i.invariant.0,
-      ap length c.requires.row,
-      names-length
-          c.loop-i.mine.items,
-      names-length c.args.mine.now.items,
-      names-length
-          c.args.theirs.now.items,
-      c.requires.within,
-    ) in
+    omega (arith, names_as_many _ _ c.loop-i.invariant.0, names_as_many _ _ c.requires.row, c.requires.within) in
     let name : c.again.result.cell ≡ x.cell =
     ap (λ n. n.cell) c.again.ensures.1
     ∙ name_beside c.loop-i.mine.items c.loop-i.theirs.items i x y same mine_room c.index_mut-in-loop-i.ensures.value

@@ -1,5 +1,5 @@
 use Rattle.std.proofs.Common.{◌≡◌, take}
-use Rattle.mud_row.specs.Known.{names_of}
+use Rattle.mud_row.specs.inner.Known.{names_of}
 use Rattle.mud_row.proofs.pass.take_over.Given as goal
 
 abbrev pub invariant-loop-i : goal.invariant-loop-i

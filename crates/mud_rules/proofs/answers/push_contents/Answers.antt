@@ -1,7 +1,7 @@
 use Rattle.std.proofs.Common.{◌≡◌, ◌++◌, ◌∙◌, ap, subst, not, filter, codes, string_bytes}
 use Rattle.std.specs.Prelude.{OnOk}
 use Rattle.mud_world.specs.State.{is_number}
-use Rattle.mud_rules.specs.Listing.{listed_under}
+use Rattle.mud_rules.specs.ObjectLists.{listed_under}
 use Rattle.mud_rules.proofs.Listed.{contents_shown}
 use Rattle.mud_rules.proofs.answers.push_contents.Goals as goal
 

@@ -1,6 +1,6 @@
 use Rattle.std.proofs.Common.{◌≡◌, ◌++◌, ◌∙◌, ap, subst, codes, string_bytes}
 use Rattle.std.specs.Prelude.{OnOk}
-use Rattle.mud_rules.specs.Listing.{listed_under}
+use Rattle.mud_rules.specs.ObjectLists.{listed_under}
 use Rattle.mud_rules.proofs.Listed.{exits_shown}
 use Rattle.mud_rules.proofs.answers.push_exits.Goals as goal
 

@@ -1,5 +1,5 @@
 use Rattle.std.proofs.Common.{◌≡◌, drop}
-use Rattle.mud_rules.specs.inner.Parts.{has_empty_side}
+use Rattle.mud_rules.specs.Commands.{has_empty_side}
 use Rattle.mud_rules.proofs.Sides.{empty_side}
 use Rattle.mud_rules.proofs.digging.has_empty_side.Given as goal
 

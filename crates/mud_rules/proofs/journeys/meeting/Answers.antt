@@ -2,7 +2,7 @@ use Rattle.std.proofs.Common.{Ok, Err, ◌∙◌, sym, ap}
 use Rattle.std.specs.Option.{option_map_or}
 use Rattle.mud_world.specs.Refusals.{lesser}
 use Rattle.mud_rules.specs.declared.verdict.Journey.TheVariants.{Meet}
-use Rattle.mud_rules.specs.inner.Parts.{members}
+use Rattle.mud_rules.specs.Journeys.{members}
 use Rattle.mud_rules.specs.inner.Steps.{unfit}
 use Rattle.mud_rules.proofs.Ordered.{meeting_is}
 use Rattle.mud_rules.proofs.Parties.{fit}

@@ -1,5 +1,5 @@
 use Rattle.std.proofs.Common.{◌≡◌, ◌++◌, drop}
-use Rattle.mud_rules.specs.inner.Parts.{members}
+use Rattle.mud_rules.specs.Journeys.{members}
 use Rattle.mud_rules.proofs.journeys.members.Given as goal
 
 -- those found so far, and those to be found, are all

@@ -1,5 +1,5 @@
 use Rattle.std.proofs.Common.{◌≡◌, ◌<◌, ◌^◌, drop}
-use Rattle.mud_rules.specs.inner.Parts.{digits_value}
+use Rattle.mud_rules.specs.Matches.{digits_value}
 use Rattle.mud_rules.proofs.matching.digits_value.Given as goal
 
 -- what is left goes on from the value so far, which has no more digits than were read

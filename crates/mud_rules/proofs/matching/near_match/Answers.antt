@@ -1,6 +1,6 @@
 use Rattle.std.proofs.Common.{Err, ◌∙◌, sym, ap}
 use Rattle.mud_rules.specs.declared.matching.Likeness.TheVariants.{Prefix}
-use Rattle.mud_rules.specs.Matching.{candidates, or_else, sole_like}
+use Rattle.mud_rules.specs.Matches.{candidates, or_else, sole_like}
 use Rattle.mud_rules.proofs.Longer.{longer_only}
 use Rattle.mud_rules.proofs.matching.near_match.Goals as goal
 

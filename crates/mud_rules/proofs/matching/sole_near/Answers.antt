@@ -2,9 +2,8 @@ use Rattle.std.proofs.Common.{◌∙◌, sym, ap, ◌++◌, []}
 use Rattle.std.specs.Prelude.{filter}
 use Rattle.std.specs.Option.{option_map_or}
 use Rattle.mud_world.specs.State.{contents_of, leaving_of}
-use Rattle.mud_rules.specs.Matching.{sole}
-use Rattle.mud_rules.specs.inner.Parts.{is_named}
-use Rattle.mud_rules.specs.inner.Steps.{fits, together}
+use Rattle.mud_rules.specs.Matches.{sole}
+use Rattle.mud_rules.specs.inner.Steps.{is_named, fits, together}
 use Rattle.mud_rules.proofs.Joining.{sole_of-three}
 use Rattle.mud_rules.proofs.matching.sole_near.Goals as goal
 

@@ -1,6 +1,6 @@
 use Rattle.std.proofs.Common.{Option, subst, sym}
 use Rattle.mud_roads.specs.declared.label.Label.{Label}
-use Rattle.mud_roads.specs.Open.{roads_of}
+use Rattle.mud_roads.specs.Passable.{roads_of}
 use Rattle.mud_roads.specs.Walks.{Least}
 use Rattle.mud_search.proofs.alone.alone_for.Goals as goal
 

@@ -1,7 +1,7 @@
 use Rattle.std.proofs.Common.{List, ◌++◌, sym, ap, subst, rules}
-use Rattle.mud_roads.specs.Open.{Knowledge}
+use Rattle.mud_roads.specs.Passable.{Knowledge}
 use Rattle.mud_search.specs.Tables.{table}
-use Rattle.mud_search.specs.inner.Parts.{AreFound}
+use Rattle.mud_search.specs.inner.Travellers.{AreFound}
 use Rattle.mud_search.proofs.Parts.{found-beside}
 use Rattle.mud_search.proofs.shared.+fn-labels_apart-join+arg2+fn-labels_apart-join+arg3+labels_apart.Goals as goal
 

@@ -1,6 +1,6 @@
 use Rattle.std.proofs.Common.{◌≡◌, ◌≤◌, ◌*◌, length, take}
 use Rattle.std.specs.List.{flat_map}
-use Rattle.mud_session.specs.inner.Parts.{on_wire}
+use Rattle.mud_session.specs.inner.Wire.{on_wire}
 use Rattle.mud_session.proofs.wiring.length_on_wire.Given as goal
 
 abbrev pub invariant-loop-byte : goal.invariant-loop-byte

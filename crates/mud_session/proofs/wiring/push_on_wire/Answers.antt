@@ -3,7 +3,7 @@ use Rattle.std.specs.Prelude.{OnOk, is_ok, if◌then◌else◌}
 use Rattle.std.specs.List.{flat_map}
 use Rattle.mud_nvt.specs.declared.codes.TheConstants.{LF, CR}
 use Rattle.mud_chron.proofs.Lined.{cut-at, line-whole}
-use Rattle.mud_session.specs.inner.Parts.{on_wire}
+use Rattle.mud_session.specs.inner.Wire.{on_wire}
 use Rattle.mud_session.proofs.Widening.{line-more, line-wide}
 use Rattle.mud_session.proofs.wiring.push_on_wire.Goals as goal
 

@@ -1,6 +1,6 @@
 use Rattle.std.proofs.Common.{◌≡◌, ◌++◌, length}
 use Rattle.std.specs.List.{flat_map}
-use Rattle.mud_session.specs.inner.Parts.{on_wire}
+use Rattle.mud_session.specs.inner.Wire.{on_wire}
 use Rattle.mud_session.proofs.wiring.push_on_wire.Given as goal
 
 -- the lines gone over are sent, and the rest is left

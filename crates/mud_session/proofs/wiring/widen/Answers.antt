@@ -1,6 +1,6 @@
 use Rattle.std.proofs.Common.{◌≡◌, ◌+◌, ◌-◌, ℕ, List, take, get_or, ap, subst, arith}
 use Rattle.std.specs.List.{flat_map}
-use Rattle.mud_session.specs.inner.Parts.{on_wire}
+use Rattle.mud_session.specs.inner.Wire.{on_wire}
 use Rattle.mud_session.proofs.Widening.{IsWidened, widened-lf, widened-other}
 use Rattle.mud_session.proofs.wiring.widen.Goals.{then-byte-eq10, else-byte-eq10}
 use Rattle.mud_session.proofs.wiring.widen.Goals as goal

@@ -1,6 +1,6 @@
 use Rattle.std.proofs.Common.{◌-◌, take}
 use Rattle.std.specs.List.{flat_map}
-use Rattle.mud_session.specs.inner.Parts.{on_wire}
+use Rattle.mud_session.specs.inner.Wire.{on_wire}
 use Rattle.mud_session.proofs.Widening.{IsWidened}
 use Rattle.mud_session.proofs.wiring.widen.Given as goal
 

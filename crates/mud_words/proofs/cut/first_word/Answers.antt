@@ -1,7 +1,7 @@
 use Rattle.std.proofs.Common.{ap, sym, refl, ◌∙◌, [], false, arith}
 use Rattle.std.proofs.lemmas.Str.{IsCharBoundary-after_ascii}
 use Rattle.mud_words.specs.declared.piece.Piece.TheVariants.{Gap}
-use Rattle.mud_words.specs.Words.{piece, quoted_after, escaped_after}
+use Rattle.mud_words.specs.inner.Pieces.{piece, quoted_after, escaped_after}
 use Rattle.mud_words.proofs.ReadingLemmas.{next, nothing_read, ascii_here, gap_rest, end_words}
 use Rattle.mud_words.proofs.cut.first_word.Goals as goal
 

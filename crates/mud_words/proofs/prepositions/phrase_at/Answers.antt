@@ -1,6 +1,6 @@
 use Rattle.std.proofs.Common.{map, ap, ◌∙◌, option_map, arith}
 use Rattle.std.specs.Cow.{cow_str_bytes}
-use Rattle.mud_words.specs.inner.Searching.{row_shown, phrase_len}
+use Rattle.mud_words.specs.inner.Spots.{row_shown, phrase_len}
 use Rattle.mud_words.proofs.PrepositionLemmas.{nothing_begun, empty_begun, letter_begun}
 use Rattle.mud_words.proofs.prepositions.phrase_at.Goals as goal
 

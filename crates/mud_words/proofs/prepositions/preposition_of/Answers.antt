@@ -1,6 +1,6 @@
 use Rattle.std.proofs.Common.{ap, sym, ◌∙◌, option_map, arith}
 use Rattle.std.specs.Cow.{cow_str_bytes}
-use Rattle.mud_words.specs.inner.Searching.{spot_of}
+use Rattle.mud_words.specs.inner.Spots.{spot_of}
 use Rattle.mud_words.proofs.PrepositionLemmas.{counted_here, counted_later, counted_first, counted_end}
 use Rattle.mud_words.proofs.prepositions.preposition_of.Goals as goal
 

@@ -1,7 +1,7 @@
 use Rattle.std.proofs.Common.{subst, Ok, Err, [], ◌∷◌}
 use Rattle.std.specs.Prelude.{codes}
 use Rattle.mud_key.specs.declared.names.NamesFault.TheVariants.{BadName}
-use Rattle.mud_key.specs.Reading.{names_in, Finds}
+use Rattle.mud_key.specs.Finds.{names_in, Finds}
 use Rattle.mud_key.proofs.Found.{names_read}
 use Rattle.mud_key.proofs.NamesTaken.{one_list}
 use Rattle.mud_world.proofs.FirstNames.{wizard_text}

@@ -1,6 +1,6 @@
 use Rattle.std.proofs.Common.{◌≡◌, Some, arith}
 use Rattle.std.proofs.lemmas.Grind.{common_steps}
-use Rattle.mud_cert.specs.inner.Reading.{labels_at}
+use Rattle.mud_cert.specs.inner.Reader.{labels_at}
 use Rattle.mud_cert.proofs.Machine.{account-read}
 use Rattle.mud_cert.proofs.stage.Party.label.Goals as goal
 

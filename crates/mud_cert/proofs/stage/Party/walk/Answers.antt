@@ -2,7 +2,7 @@ use Rattle.std.proofs.Common.{◌≡◌, Some, Option, List, ℕ, arith}
 use Rattle.std.specs.Prelude.{option_map}
 use Rattle.std.proofs.lemmas.Grind.{common_steps}
 use Rattle.mud_cert.specs.Certificate.{Account}
-use Rattle.mud_cert.specs.inner.Reading.{walk_at}
+use Rattle.mud_cert.specs.inner.Reader.{walk_at}
 use Rattle.mud_cert.proofs.Machine.{account-walks}
 use Rattle.mud_cert.proofs.stage.Party.walk.Goals as goal
 

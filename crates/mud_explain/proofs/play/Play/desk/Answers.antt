@@ -1,6 +1,6 @@
 use Rattle.std.proofs.Common.{inl, inr, refl}
 use Rattle.std.proofs.lemmas.Result.{on_ok_weaker}
-use Rattle.mud_explain.specs.inner.Told.{fault_line}
+use Rattle.mud_explain.specs.inner.StepLines.{fault_line}
 use Rattle.mud_explain.proofs.play.Play.desk.Goals as goal
 
 pub returns-in-Err-clause-told : goal.returns-in-Err-clause-told

@@ -1,8 +1,8 @@
 use Rattle.std.proofs.Common.{inl, inr, refl, rules, ◌≡◌, ◌++◌, ◌⊎◌, ℕ, List, length, string_bytes, Some}
 use Rattle.std.proofs.lemmas.Result.{on_ok_weaker}
-use Rattle.mud_hall.specs.Settling.{IsCloseFault, IsSettled, entries_made}
-use Rattle.mud_explain.specs.inner.Played.{Settles, GoesOn}
-use Rattle.mud_explain.specs.inner.Told.{settled_lines, unsettled_line}
+use Rattle.mud_hall.specs.Settlement.{IsCloseFault, IsSettled, entries_made}
+use Rattle.mud_explain.specs.inner.Steps.{Settles, GoesOn}
+use Rattle.mud_explain.specs.inner.StepLines.{settled_lines, unsettled_line}
 use Rattle.mud_explain.proofs.play.Play.settle.Goals as goal
 
 pub returns-in-Ok : goal.returns-in-Ok

@@ -1,9 +1,9 @@
 use Rattle.std.proofs.Common.{◌≡◌, None, sym, subst}
 use Rattle.mud_world.specs.Legal.{refusal}
 use Rattle.mud_chron.proofs.Spellable.{legal_is_spellable}
-use Rattle.mud_hall.specs.Told.{world_after}
+use Rattle.mud_hall.specs.Notices.{world_after}
 use Rattle.mud_hall.specs.Desk.{View}
-use Rattle.mud_hall.proofs.Seats.{world-sound}
+use Rattle.mud_hall.proofs.Worlds.{world-sound}
 use Rattle.mud_hall.proofs.desk.Desk.entry.Goals as goal
 
 pub new-requires : goal.new-requires

@@ -1,6 +1,6 @@
 use Rattle.std.proofs.Common.{◌≡◌, ◌++◌, [], None, map, take, drop, ap, ◌∙◌}
 use Rattle.std.specs.Prelude.{string_bytes}
-use Rattle.mud_hall.specs.Told.{notices}
+use Rattle.mud_hall.specs.Notices.{notices}
 use Rattle.mud_hall.specs.Desk.{View, as_guest}
 use Rattle.mud_hall.proofs.Notices.{notices-none}
 use Rattle.mud_hall.proofs.desk.Desk.guest.Goals as goal

@@ -1,5 +1,5 @@
 use Rattle.std.proofs.Common.{ap, subst}
-use Rattle.mud_hall.specs.Told.{world_after}
+use Rattle.mud_hall.specs.Notices.{world_after}
 use Rattle.mud_hall.specs.Desk.{View}
 use Rattle.mud_hall.specs.inner.Desks.{IsSeated}
 use Rattle.mud_hall.proofs.desk.Desk.player.Goals as goal

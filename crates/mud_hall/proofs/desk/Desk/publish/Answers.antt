@@ -1,10 +1,10 @@
 use Rattle.std.proofs.Common.{◌≡◌, ◌≤◌, ◌++◌, ◌∷◌, [], ℕ, length, Some, None, sym, ap, ◌∙◌, subst}
 use Rattle.mud_world.specs.Legal.{refusal}
 use Rattle.mud_world.specs.declared.change.Change.{Change}
-use Rattle.mud_rules.specs.Outcome.{IsActor}
+use Rattle.mud_rules.specs.inner.Outcome.{IsActor}
 use Rattle.mud_chron.specs.Entry.{Entry}
 use Rattle.mud_row.specs.Known.{Standing}
-use Rattle.mud_hall.specs.Told.{world_after}
+use Rattle.mud_hall.specs.Notices.{world_after}
 use Rattle.mud_hall.specs.Desk.{View, IsHeld}
 use Rattle.mud_hall.proofs.Storing.{held-stored}
 use Rattle.mud_hall.proofs.desk.Desk.publish.Goals as goal

@@ -1,7 +1,7 @@
 use Rattle.std.proofs.Common.{◌≡◌, length, sym, ap, ◌∙◌}
 use Rattle.mud_chron.specs.Replay.{world_at}
 use Rattle.mud_row.specs.Known.{Standing}
-use Rattle.mud_hall.specs.Told.{world_after}
+use Rattle.mud_hall.specs.Notices.{world_after}
 use Rattle.mud_hall.specs.Desk.{View}
 use Rattle.mud_hall.proofs.Storing.{all_in}
 use Rattle.mud_hall.proofs.desk.Desk.world.Goals as goal

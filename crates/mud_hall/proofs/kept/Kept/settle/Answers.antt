@@ -6,8 +6,8 @@ use Rattle.mud_chron.specs.Entry.{Entry}
 use Rattle.mud_row.specs.Known.{Known}
 use Rattle.mud_hall.specs.declared.fault.CloseFault.{CloseFault}
 use Rattle.mud_hall.specs.Desk.{View}
-use Rattle.mud_hall.specs.Settling.{HasNumber, AreApart, IsSettled, versions_by, entries_made}
-use Rattle.mud_hall.specs.inner.Checking.{IsCheckFault}
+use Rattle.mud_hall.specs.Settlement.{HasNumber, AreApart, IsSettled, versions_by, entries_made}
+use Rattle.mud_hall.specs.inner.CheckFaults.{IsCheckFault}
 use Rattle.mud_hall.proofs.Checks.{fault_of}
 use Rattle.mud_hall.proofs.kept.Kept.settle.Goals as goal
 

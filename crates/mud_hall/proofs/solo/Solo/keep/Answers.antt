@@ -6,16 +6,16 @@ use Rattle.mud_world.specs.State.{State, is_player}
 use Rattle.mud_world.specs.History.{world_of}
 use Rattle.mud_world.specs.Legal.{refusal, after}
 use Rattle.mud_world.proofs.Histories.{world_of-legal}
-use Rattle.mud_rules.specs.Outcome.{IsActor}
+use Rattle.mud_rules.specs.inner.Outcome.{IsActor}
 use Rattle.mud_chron.specs.Entry.{Entry}
 use Rattle.mud_chron.specs.Replay.{changes_of}
 use Rattle.mud_chron.proofs.Spellable.{legal_is_spellable}
-use Rattle.mud_hall.specs.Told.{world_after}
+use Rattle.mud_hall.specs.Notices.{world_after}
 use Rattle.mud_hall.specs.Desk.{DeskState, as_accepted}
-use Rattle.mud_hall.specs.Settling.{versions_by}
+use Rattle.mud_hall.specs.Settlement.{versions_by}
 use Rattle.mud_hall.specs.Alone.{Alone, alone}
 use Rattle.mud_hall.proofs.Notices.{state_eq}
-use Rattle.mud_hall.proofs.Seats.{world-sound}
+use Rattle.mud_hall.proofs.Worlds.{world-sound}
 use Rattle.mud_hall.proofs.Storing.{actor-plays, actor-seated}
 use Rattle.mud_hall.proofs.Lists.{versions-snoc}
 use Rattle.mud_hall.proofs.solo.Solo.keep.Goals as goal

@@ -1,6 +1,6 @@
 use Rattle.std.proofs.Common.{◌∙◌, Some, ap}
 use Rattle.mud_words.specs.Line.{line_of}
-use Rattle.mud_hall.specs.Told.{world_after}
+use Rattle.mud_hall.specs.Notices.{world_after}
 use Rattle.mud_hall.specs.Alone.{Alone}
 use Rattle.mud_hall.proofs.Deciding.{decided, lawful}
 use Rattle.mud_hall.proofs.solo.Solo.verdict.Goals as goal

@@ -1,6 +1,6 @@
 use Rattle.std.proofs.Common.{true, refl, sym, subst}
 use Rattle.mud_journal.specs.Disk.{Holds}
-use Rattle.mud_house.specs.Journaled.{IsWritten}
+use Rattle.mud_house.specs.JournalText.{IsWritten}
 use Rattle.mud_house.proofs.Keeping.{unwritten}
 use Rattle.mud_house.proofs.scribe.Scribe.finish.Goals as goal
 

@@ -1,6 +1,6 @@
 use Rattle.std.proofs.Common.{◌≡◌, ◌++◌, List, true, false, refl, sym, ap, ◌∙◌, subst}
 use Rattle.mud_chron.specs.Entry.{Entry}
-use Rattle.mud_house.specs.Journaled.{IsWritten}
+use Rattle.mud_house.specs.JournalText.{IsWritten}
 use Rattle.mud_house.proofs.Keeping.{committed, unwritten}
 use Rattle.mud_house.proofs.scribe.Scribe.write.Goals as goal
 

@@ -1,6 +1,6 @@
 use Rattle.std.proofs.Common.{◌≡◌, ◌++◌, drop}
 use Rattle.std.specs.List.{filter_map}
-use Rattle.mud_roads.specs.Open.{open_step}
+use Rattle.mud_roads.specs.Passable.{open_step}
 use Rattle.mud_roads.proofs.access.Access.add_steps.Given as goal
 
 abbrev pub invariant-loop-exit : goal.invariant-loop-exit

@@ -1,5 +1,5 @@
 use Rattle.std.proofs.Common.{◌≤◌, length, sym, ap, arith}
-use Rattle.mud_row.specs.Known.{known_front}
+use Rattle.mud_row.specs.inner.Known.{known_front}
 use Rattle.mud_row.proofs.Notes.{prefix_of_take}
 use Rattle.mud_row.proofs.pass.Pass.agree.Goals as goal
 

@@ -1,5 +1,5 @@
 use Rattle.std.proofs.Common.{◌≡◌, length, ap, ◌∙◌, arith, inr}
-use Rattle.mud_row.specs.Known.{known_front}
+use Rattle.mud_row.specs.inner.Known.{known_front}
 use Rattle.mud_row.proofs.Notes.{front_bound, front-take, names-length, prefix_self}
 use Rattle.mud_row.proofs.pass.Pass.learn.Goals as goal
 

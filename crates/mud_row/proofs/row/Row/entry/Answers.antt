@@ -1,27 +1,29 @@
 use Rattle.std.proofs.Common.{◌-◌, ◌≡◌, slice_get, length, Some, sym, ap, ◌∙◌, arith}
 use Rattle.std.specs.Option.{option_copied}
-use Rattle.mud_row.specs.Known.{known_front}
-use Rattle.mud_row.proofs.Notes.{name_at, beside, kept-same, counted-kept, known_at, stands_at, read_again}
+use Rattle.mud_row.specs.inner.Known.{known_front}
+use Rattle.mud_row.proofs.Notes.{name_at, IsBeside, beside, kept-same, counted-kept, known_at, stands_at, read_again}
 use Rattle.mud_row.proofs.Notes.{entry_at_place, found_place}
+use Rattle.mud_row.proofs.row.Row.entry.Goals.{After-self}
 use Rattle.mud_row.proofs.row.Row.entry.Goals as goal
+
+-- the notes that the pass has here lie beside the cells
+lies_beside : (c : After-self)
+    → IsBeside c.self.inside.cells.items c.pass.inside.notes.items c.pass.inside.count c.args.pass.now c.args.self.now
+lies_beside c = beside _ _ _ _ _ c.pass.view_is c.requires c.self.view_is c.pass.invariant
 
 pub index-requires : goal.index-requires
 index-requires c =
-    let b = beside c.self.inside.cells.items c.pass.inside.notes.items c.pass.inside.count c.args.pass.now
-    c.args.self.now c.pass.view_is c.requires c.self.view_is c.pass.invariant in omega arith
+    let b = lies_beside (goal.at.index-requires c).After-self in omega arith
 
 pub index_mut-requires : goal.index_mut-requires
 index_mut-requires c =
-    let b = beside c.self.inside.cells.items c.pass.inside.notes.items c.pass.inside.count c.args.pass.now
-    c.args.self.now c.pass.view_is c.requires c.self.view_is c.pass.invariant in omega arith
+    let b = lies_beside (goal.at.index_mut-requires c).After-self in omega arith
 
 pub get_as-requires : goal.get_as-requires
 get_as-requires c =
-    let b = beside c.self.inside.cells.items c.pass.inside.notes.items c.pass.inside.count c.args.pass.now
-    c.args.self.now c.pass.view_is c.requires c.self.view_is c.pass.invariant in
-    name_at c.self.inside.cells.items c.pass.inside.notes.items
-    (c.args.n - 1) c.index.result.now c.index_mut.result.now b.names
-    (omega arith) c.index.ensures c.index_mut.ensures.value
+    let b = lies_beside (goal.at.get_as-requires c).After-self in
+    name_at c.self.inside.cells.items _ (c.args.n - 1) _ _ b.names (omega arith) c.index.ensures
+    c.index_mut.ensures.value
 
 -- the note at the place knows the entry of that number
 noted_at : (c : goal.After-pass-1)
@@ -44,16 +46,12 @@ seen_again c =
 
 pub invariant_of-pass : goal.invariant_of-pass
 invariant_of-pass c =
-    counted-kept c.pass.inside.count c.pass.inside.notes.items (c.args.n - 1) c.get_as.new.note c.pass.invariant
-    (kept-same c.pass.inside.count c.pass.inside.notes.items
-    (c.args.n - 1) c.index_mut.result.now c.get_as.new.note c.index_mut.ensures.value c.get_as.ensures.cell
-    (seen_again c).1)
+    counted-kept _ _ _ _ c.pass.invariant
+    (kept-same _ _ _ _ _ c.index_mut.ensures.value c.get_as.ensures.cell (seen_again c).1)
 
 pub returns-clause-same : goal.returns-clause-same
 returns-clause-same c =
-    kept-same c.pass.inside.count c.pass.inside.notes.items
-    (c.args.n - 1) c.index_mut.result.now c.get_as.new.note c.index_mut.ensures.value c.get_as.ensures.cell
-    (seen_again c).1 ∙ c.pass.view_is
+    kept-same _ _ _ _ _ c.index_mut.ensures.value c.get_as.ensures.cell (seen_again c).1 ∙ c.pass.view_is
 
 pub returns-clause-entry : goal.returns-clause-entry
 returns-clause-entry c =
@@ -64,8 +62,7 @@ returns-clause-entry c =
 
 pub returns-clause-place : goal.returns-clause-place
 returns-clause-place c =
-    let b = beside c.self.inside.cells.items c.pass.inside.notes.items c.pass.inside.count c.args.pass.now
-    c.args.self.now c.pass.view_is c.requires c.self.view_is c.pass.invariant in
+    let b = lies_beside (goal.at.returns-clause-place c).After-self in
     let some =
     stands_at (known_front c.pass.inside.count c.pass.inside.notes.items) (c.args.n - 1)
     (omega (arith, c.pass.invariant.1)) in

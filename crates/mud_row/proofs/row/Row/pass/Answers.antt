@@ -1,7 +1,7 @@
 use Rattle.std.proofs.Common.{◌≡◌, length, map, ap, ◌∙◌, refl, arith, add-one}
 use Rattle.std.proofs.lemmas.List.{take_all}
 use Rattle.once_cell.specs.Once.{cell_name}
-use Rattle.mud_row.specs.Known.{names_of}
+use Rattle.mud_row.specs.inner.Known.{names_of}
 use Rattle.mud_row.proofs.Notes.{names_more, same_length}
 use Rattle.mud_row.proofs.row.Row.pass.Goals as goal
 

@@ -1,5 +1,5 @@
 use Rattle.std.proofs.Common.{◌≡◌, length, drop}
-use Rattle.mud_search.specs.Boards.{offers}
+use Rattle.mud_search.specs.inner.Boards.{offers}
 use Rattle.mud_search.proofs.board.Board.follow.Given as goal
 
 abbrev pub invariant-loop-step : goal.invariant-loop-step

@@ -4,7 +4,7 @@ use Rattle.mud_roads.specs.declared.label.Label.{Label}
 use Rattle.mud_search.specs.declared.slot.Slot.{Slot}
 use Rattle.mud_search.specs.declared.slot.Slot.TheVariants.{Unknown}
 use Rattle.mud_search.specs.Slots.{label_of}
-use Rattle.mud_search.specs.Boards.{label_at}
+use Rattle.mud_search.specs.inner.Boards.{label_at}
 use Rattle.mud_search.specs.Least.{AreLabelsBelow}
 use Rattle.mud_search.proofs.Below.{below-skip, below-push, below-past}
 use Rattle.mud_search.proofs.board.Board.labels_below.Goals as goal

@@ -1,4 +1,4 @@
-use Rattle.mud_search.specs.Boards.{label_at}
+use Rattle.mud_search.specs.inner.Boards.{label_at}
 use Rattle.mud_search.specs.Least.{AreLabelsBelow}
 use Rattle.mud_search.proofs.board.Board.labels_below.Given as goal
 

@@ -9,7 +9,7 @@ use Rattle.mud_roads.specs.declared.label.Label.{Label}
 use Rattle.mud_search.specs.declared.slot.Slot.{Slot}
 use Rattle.mud_search.specs.declared.slot.Slot.TheVariants.{Unknown}
 use Rattle.mud_search.specs.Slots.{is_waiting, is_held}
-use Rattle.mud_search.specs.Boards.{slot_at, waiting_label}
+use Rattle.mud_search.specs.inner.Boards.{slot_at, waiting_label}
 use Rattle.mud_search.proofs.board.Board.mark.Goals as goal
 use mir.Val.{bool_byte}
 

@@ -1,6 +1,6 @@
 use Rattle.std.proofs.Common.{◌≡◌, ◌<◌, [], length, arith}
 use Rattle.std.proofs.lemmas.List.{get_or_read}
-use Rattle.mud_search.specs.Boards.{board_of}
+use Rattle.mud_search.specs.inner.Boards.{board_of}
 use Rattle.mud_search.proofs.Frontiers.{frontier-released}
 use Rattle.mud_search.proofs.frontier.Frontier.back.Goals as goal
 

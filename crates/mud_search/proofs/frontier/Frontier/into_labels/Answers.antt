@@ -1,7 +1,7 @@
 use Rattle.std.proofs.Common.{ap, arith}
 use Rattle.std.proofs.lemmas.List.{get_or_past}
 use Rattle.std.proofs.Common.{[], None, get_or}
-use Rattle.mud_search.specs.Tables.{lists_in}
+use Rattle.mud_search.specs.inner.Tables.{lists_in}
 use Rattle.mud_search.proofs.frontier.Frontier.into_labels.Goals as goal
 
 pub returns-clause-members : goal.returns-clause-members

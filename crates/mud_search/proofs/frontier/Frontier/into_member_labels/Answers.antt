@@ -3,7 +3,7 @@ use Rattle.std.proofs.lemmas.List.{length-map}
 use Rattle.mud_search.specs.Least.{label_in}
 use Rattle.mud_search.specs.inner.Order.{labels_in}
 use Rattle.mud_search.specs.Slots.{label_of}
-use Rattle.mud_search.specs.Tables.{lists_in}
+use Rattle.mud_search.specs.inner.Tables.{lists_in}
 use Rattle.mud_search.proofs.Frontiers.{label-of_boards, frontier-bounded}
 use Rattle.mud_search.proofs.frontier.Frontier.into_member_labels.Goals as goal
 

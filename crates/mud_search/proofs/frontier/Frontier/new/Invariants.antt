@@ -1,5 +1,5 @@
 use Rattle.std.proofs.Common.{◌≡◌, map, take}
-use Rattle.mud_search.specs.Boards.{begun_at}
+use Rattle.mud_search.specs.inner.Boards.{begun_at}
 use Rattle.mud_search.proofs.frontier.Frontier.new.Given as goal
 
 abbrev pub invariant-loop-traveller : goal.invariant-loop-traveller

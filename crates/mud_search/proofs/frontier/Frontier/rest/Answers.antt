@@ -12,5 +12,5 @@ returns-clause-least g c none_waiting none_held =
     let all : take c.loop-board.board-index seen ≡ boards =
     take_all c.loop-board.board-index seen (omega arith) ∙ c.deref-board-items.ensures.value in
     rw (← c.self.view_is) (frontier-rest g.J.Job.world g.J.Job.travellers boards c.self.invariant
-    (ap (sum_by (count_by is_waiting)) (sym all) ∙ sym c.loop-board.invariant.opened ∙ none_waiting)
+    (ap (sum_by (count_by is_waiting)) (sym all) ∙ sym c.loop-board.invariant.waiting ∙ none_waiting)
     (ap (sum_by (count_by is_held)) (sym all) ∙ sym c.loop-board.invariant.held ∙ none_held))

@@ -5,7 +5,7 @@ use Rattle.mud_search.proofs.frontier.Frontier.rest.Given as goal
 
 abbrev pub invariant-loop-board : goal.invariant-loop-board
 invariant-loop-board g l = record {
-  opened : l.opened ≡ sum_by (count_by is_waiting) (take l.board-index l.board-items);
+  waiting : l.waiting ≡ sum_by (count_by is_waiting) (take l.board-index l.board-items);
   held : l.held ≡ sum_by (count_by is_held) (take l.board-index l.board-items);
-  few : (l.opened ≤ 4294967296 * l.board-index) × (l.held ≤ 4294967296 * l.board-index);
+  few : (l.waiting ≤ 4294967296 * l.board-index) × (l.held ≤ 4294967296 * l.board-index);
 }

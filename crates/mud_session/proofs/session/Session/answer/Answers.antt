@@ -1,8 +1,8 @@
 use Rattle.std.proofs.Common.{List, ℕ, refl, sym, ap, subst, ◌∙◌, Global}
 use Rattle.mud_nvt.specs.declared.Unit.{Unit as CodeUnit}
 use Rattle.mud_nvt.specs.Units.{TooLong, Ayt, Answer}
-use Rattle.mud_nvt.specs.Shown.{unit_shown}
-use Rattle.mud_session.specs.inner.Turning.{sends, HasTurn}
+use Rattle.mud_nvt.specs.UnitViews.{unit_shown}
+use Rattle.mud_session.specs.inner.TurnTexts.{sends, HasTurn}
 use Rattle.mud_session.proofs.Answering.{on_ok, rested}
 use Rattle.mud_session.proofs.session.Session.answer.Goals as goal
 

@@ -2,7 +2,7 @@ use Rattle.std.proofs.Common.{◌≡◌, [], ap, ◌∙◌, subst, arith}
 use Rattle.std.specs.Prelude.{OnOk}
 use Rattle.mud_session.specs.State.{SessionState}
 use Rattle.mud_session.specs.Session.{wire_text, with_version}
-use Rattle.mud_session.specs.inner.Turning.{sends}
+use Rattle.mud_session.specs.inner.TurnTexts.{sends}
 use Rattle.mud_session.proofs.Sending.{sends_twice}
 use Rattle.mud_session.proofs.Widening.{numbered_wide}
 use Rattle.mud_session.proofs.session.Session.send_numbered.Goals as goal

@@ -1,6 +1,6 @@
 use Rattle.std.proofs.Common.{◌++◌, arith, sym, ap, subst, ◌∙◌}
 use Rattle.std.proofs.lemmas.List.{take_all}
-use Rattle.mud_nvt.specs.Shown.{all_shown}
+use Rattle.mud_nvt.specs.UnitViews.{all_shown}
 use Rattle.mud_nvt.specs.History.{StandsAfter}
 use Rattle.mud_session.specs.State.{SessionState}
 use Rattle.mud_session.proofs.Taking.{SoFar-none, SoFar-more, Feeds-from}

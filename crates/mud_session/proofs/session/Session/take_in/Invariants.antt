@@ -1,5 +1,5 @@
 use Rattle.std.proofs.Common.{take}
-use Rattle.mud_nvt.specs.Shown.{all_shown}
+use Rattle.mud_nvt.specs.UnitViews.{all_shown}
 use Rattle.mud_session.proofs.Taking.{SoFar}
 use Rattle.mud_session.proofs.session.Session.take_in.Given as goal
 

@@ -2,7 +2,7 @@ use Rattle.std.proofs.Common.{◌≡◌, take, map}
 use Rattle.std.specs.Prelude.{string_bytes}
 use Rattle.std.specs.List.{flat_map}
 use Rattle.mud_session.specs.Session.{wire_text}
-use Rattle.mud_session.specs.inner.Turning.{sends}
+use Rattle.mud_session.specs.inner.TurnTexts.{sends}
 use Rattle.mud_session.proofs.session.Session.tell.Given as goal
 
 -- the lines gone over are sent

@@ -2,7 +2,7 @@ use Rattle.std.proofs.Common.{true, ap, sym, ◌∙◌, arith}
 use Rattle.std.specs.Option.{option_map_or, option_and_then}
 use Rattle.mud_key.proofs.Sizes.{size_of, size_within}
 use Rattle.mud_world.specs.State.{record_at, key_of, nests}
-use Rattle.mud_world.specs.inner.Parts.{with_lock}
+use Rattle.mud_world.specs.inner.Fields.{with_lock}
 use Rattle.mud_world.proofs.Locking.{key_of-locked_same, key_of-locked_other, key_of-locked_gone}
 use Rattle.mud_world.proofs.world.World.+nesting.Goals as goal
 

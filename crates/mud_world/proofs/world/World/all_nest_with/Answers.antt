@@ -1,6 +1,6 @@
 use Rattle.std.proofs.Common.{◌∙◌, arith, ap, sym, refl, is_some, not}
 use Rattle.mud_world.specs.State.{nests}
-use Rattle.mud_world.specs.inner.Parts.{with_lock}
+use Rattle.mud_world.specs.inner.Fields.{with_lock}
 use Rattle.mud_world.proofs.Records.{record_cases}
 use Rattle.std.proofs.lemmas.Bool.{true≢false}
 use Rattle.mud_world.specs.State.{record_at}

@@ -1,5 +1,5 @@
 use Rattle.std.proofs.Common.{◌≡◌, ℕ, ◌+◌}
-use Rattle.mud_world.specs.Legal.{arrives}
+use Rattle.mud_world.specs.inner.Reach.{arrives}
 use Rattle.mud_world.proofs.world.World.arrives.Given as goal
 
 -- what is left of the way has the answer of the whole

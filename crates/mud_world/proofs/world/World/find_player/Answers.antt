@@ -1,6 +1,6 @@
 use Rattle.std.proofs.Common.{◌∙◌, ap}
 use Rattle.mud_world.specs.State.{named_player}
-use Rattle.mud_world.specs.Inside.{state_of}
+use Rattle.mud_world.specs.inner.Maps.{state_of}
 use Rattle.mud_world.proofs.Holders.{owner-named}
 use Rattle.mud_world.proofs.world.World.find_player.Goals as goal
 

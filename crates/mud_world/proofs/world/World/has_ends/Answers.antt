@@ -1,6 +1,6 @@
 use Rattle.std.proofs.Common.{◌∙◌, ◌||◌, not, ap, sym}
 use Rattle.std.specs.List.{list_any}
-use Rattle.mud_world.specs.Inside.{leaves, arrives}
+use Rattle.mud_world.specs.inner.Maps.{leaves, arrives}
 use Rattle.mud_world.proofs.Needed.{by_list}
 use Rattle.mud_world.proofs.world.World.has_ends.Goals as goal
 

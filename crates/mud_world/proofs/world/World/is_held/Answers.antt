@@ -2,7 +2,7 @@ use Rattle.std.proofs.Common.{◌∙◌, [], ◌∷◌, false, not, ap, sym}
 use Rattle.std.specs.Prelude.{nat_eq}
 use Rattle.std.specs.Option.{option_map_or}
 use Rattle.mud_world.specs.State.{is_taken}
-use Rattle.mud_world.specs.Inside.{state_of}
+use Rattle.mud_world.specs.inner.Maps.{state_of}
 use Rattle.mud_world.proofs.Holders.{taken-one}
 use Rattle.mud_world.proofs.world.World.is_held.Goals as goal
 

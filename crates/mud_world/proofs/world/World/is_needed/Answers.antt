@@ -1,6 +1,6 @@
 use Rattle.std.proofs.Common.{◌∙◌, ◌||◌, not, ap, sym}
 use Rattle.std.specs.List.{list_any}
-use Rattle.mud_world.specs.Inside.{lies_in, leaves, arrives}
+use Rattle.mud_world.specs.inner.Maps.{lies_in, leaves, arrives}
 use Rattle.mud_world.proofs.Needed.{by_list, needed}
 use Rattle.mud_world.proofs.world.World.is_needed.Goals as goal
 

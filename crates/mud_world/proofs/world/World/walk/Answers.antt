@@ -1,6 +1,6 @@
 use Rattle.std.proofs.Common.{ap, sym, ◌∙◌}
 use Rattle.std.specs.Option.{option_map, option_map_or}
-use Rattle.mud_world.specs.inner.Parts.{with_place}
+use Rattle.mud_world.specs.inner.Fields.{with_place}
 use Rattle.mud_world.proofs.Going.{moved-same, CanGo-walk}
 use Rattle.mud_world.proofs.world.World.walk.Goals as goal
 

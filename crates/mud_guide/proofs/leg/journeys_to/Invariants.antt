@@ -1,8 +1,0 @@
-use Rattle.std.proofs.Common.{take}
-use Rattle.std.specs.List.{AllZip}
-use Rattle.mud_guide.specs.Legs.{IsJourney}
-use Rattle.mud_guide.proofs.leg.journeys_to.Given as goal
-
-abbrev pub invariant-loop-member : goal.invariant-loop-member
-invariant-loop-member l =
-    AllZip (λ t j. IsJourney l.world l.to t.player j) (take l.member l.travellers) l.journeys.items

@@ -1,0 +1,41 @@
+-- What a player hears of the changes of others, as bytes.
+use Rattle.std.specs.Prelude.{ℕ, nat_eq, false, List, ◌++◌, codes, Option, Some, None, if◌then◌else◌}
+use Rattle.std.specs.Option.{option_map_or, option_or}
+use Rattle.mud_world.specs.declared.change.Change.{Change}
+use Rattle.mud_world.specs.declared.change.Deed.{Deed}
+use Rattle.mud_world.specs.declared.change.Deed.TheVariants.{Move, Walk, Player, Say, Emote}
+use Rattle.mud_world.specs.State.{State, place_of, is_number, is_thing, destination_of}
+use Rattle.mud_rules.specs.ObjectLists.{first_name}
+
+-- the line, where player p is in that room
+abbrev pub heard_in : State → ℕ → Option ℕ → List ℕ → Option (List ℕ)
+heard_in w p room line = if option_map_or (λ r. is_number r (place_of w p)) room false then Some line else None
+
+-- A does something with T
+abbrev pub sentence : State → ℕ → List ℕ → ℕ → List ℕ → List ℕ
+sentence w actor does thing end = first_name w actor ++ does ++ first_name w thing ++ end
+
+-- what is said of thing T that goes from A to himself, his room, a thing Y, the hearer, another player Y
+abbrev pub moved_line : State → ℕ → ℕ → ℕ → ℕ → List ℕ
+moved_line w p actor thing to =
+    if nat_eq to actor then sentence w actor (codes " takes ") thing (codes ".")
+    else if is_number to (place_of w actor) then sentence w actor (codes " drops ") thing (codes ".")
+    else (if is_thing w to then sentence w actor (codes " puts ") thing (codes " in " ++ first_name w to ++ codes ".")
+    else (if nat_eq to p then sentence w actor (codes " gives ") thing (codes " to you.")
+    else sentence w actor (codes " gives ") thing (codes " to " ++ first_name w to ++ codes ".")))
+
+-- a walk is heard in the room that the actor leaves, or else in the one that he comes to; a new player comes to #0
+abbrev pub heard_deed : State → ℕ → ℕ → Deed → Option (List ℕ)
+heard_deed w p actor (Say text) =
+    heard_in w p (place_of w actor) (first_name w actor ++ codes " says, \"" ++ text ++ codes "\"")
+heard_deed w p actor (Emote text) = heard_in w p (place_of w actor) (first_name w actor ++ codes " " ++ text)
+heard_deed w p actor (Move thing to) = heard_in w p (place_of w actor) (moved_line w p actor thing to)
+heard_deed w p actor (Walk exit) =
+    option_or (heard_in w p (place_of w actor) (sentence w actor (codes " leaves by ") exit (codes ".")))
+    (heard_in w p (destination_of w exit) (first_name w actor ++ codes " arrives."))
+heard_deed w p actor (Player name) = heard_in w p (Some 0) (name ++ codes " arrives.")
+heard_deed w p actor deed = None
+
+-- the line that player p is told of another's change, w being the world before it
+abbrev pub heard_line : State → Change → ℕ → Option (List ℕ)
+heard_line w e p = if nat_eq p e.actor then None else heard_deed w p e.actor e.deed

@@ -9,7 +9,8 @@ A definition whose comment says that a reader need not look into it counts, and 
 it on from call to call, and whatever it says, what they claim of texts and worlds names other definitions only.
 
 A file in a folder `inner` is private: what it has is cited by private clauses, by proofs, and by definitions that are
-closed in that way. No public clause may reach it otherwise.
+closed in that way. No public clause may reach it otherwise. Of what no public clause reaches, only that stands outside
+of `inner` which a closed definition of the same file cites, and which cites that file's own.
 """
 import pathlib
 import re
@@ -174,9 +175,26 @@ def is_private(module):
     return PRIVATE in module.split(".")
 
 
+def cites_its_file(definitions, beside):
+    """Whether one of these definitions of a file cites what else the file has."""
+    for at in beside:
+        lines, uses = definitions.lines[at]
+        cited = definitions.cited("\n".join(lines), uses, at[0])
+        if any(it[0] == at[0] and it not in beside for it in cited):
+            return True
+    return False
+
+
 def strays(definitions, found):
-    """What stands in a public file though no public clause reaches it: module and name."""
-    return [at for at in sorted(definitions.lines) if at not in found and not is_private(at[0])]
+    """What stands in a public file though no public clause reaches it: module and name. It may stand beside a closed
+    definition that cites it, where it cites what else the file has: two files can't cite each other."""
+    left = {at for at in definitions.lines if at not in found and not is_private(at[0])}
+    for closed in filter(definitions.is_closed, definitions.lines):
+        lines, uses = definitions.lines[closed]
+        cited = definitions.reached(it for it in definitions.cited("\n".join(lines), uses, closed[0]) if it in left)
+        beside = {at for at in cited & left if at[0] == closed[0]}
+        left -= beside if cites_its_file(definitions, beside) else set()
+    return sorted(left)
 
 
 def counted(definitions):
@@ -209,6 +227,8 @@ def definitions(count, word=""):
         print("\n".join(f"{module} {name} {lines}{' (law)' * law}" for (module, name), (lines, law) in found.items()))
     if word == "--strays":
         print("\n".join(f"{module} {name}" for module, name in strays(known, found)))
+    stray = ", ".join(f"{module} {name}" for module, name in strays(known, found))
+    count("public files", not stray, f"no public clause reaches what public files have: {stray}")
     reached = ", ".join(f"{module} {name}" for module, name in found if is_private(module))
     count("private files", not reached, f"public clauses reach what private files have: {reached}")
     page = PAGE.read_text()

@@ -9,6 +9,14 @@ HOST = "127.0.0.1"
 SECONDS = 10
 
 
+def received(connection):
+    """What came by a connection: nothing at the end, or where it was given up."""
+    try:
+        return connection.recv(65_536)
+    except ConnectionError:
+        return b""
+
+
 class Server:
     """`PROGRAM listen WORD..` on a free port, which is its `port`; None where it ended before it said so. With a
     console it is typed at. Its errors go to a file, unless it is said where else.
@@ -80,10 +88,7 @@ class Client:
 
     def more(self):
         """Whether more came; not so at the end, or where the connection was given up."""
-        try:
-            some = self.socket.recv(65_536)
-        except ConnectionError:
-            some = b""
+        some = received(self.socket)
         self.kept += some
         return bool(some)
 

@@ -7,7 +7,7 @@ import os
 import socket
 import struct
 
-from harness.server import HOST, SECONDS
+from harness.server import HOST, SECONDS, received
 
 GUID = b"258EAFA5-E914-47DA-95CA-C5AB0DC85B11"
 CONTINUATION, TEXT, BINARY, CLOSE, PING, PONG = 0, 1, 2, 8, 9, 10
@@ -118,10 +118,7 @@ class WebClient:
 
     def receive(self):
         """Whether more bytes came."""
-        try:
-            some = self.socket.recv(65_536)
-        except ConnectionError:
-            some = b""
+        some = received(self.socket)
         self.frames += some
         return bool(some)
 

@@ -1,19 +1,15 @@
 // Refuses memory beyond a ceiling. CEILING_FILE names a file of eight bytes. Once a number stands there, the program
 // that this is preloaded into may have as many bytes more than it has at its next request, and no more.
 
-#include <errno.h>
 #include <fcntl.h>
 #include <malloc.h>
 #include <stdint.h>
-#include <stdlib.h>
 #include <sys/mman.h>
 #include <unistd.h>
 
-// What the C library calls its own, so that nothing need be looked up.
-extern void *__libc_malloc(size_t size);
-extern void *__libc_calloc(size_t count, size_t size);
-extern void *__libc_realloc(void *block, size_t size);
-extern void *__libc_memalign(size_t alignment, size_t size);
+#include "memory.h"
+
+// One more that the C library calls its own.
 extern void __libc_free(void *block);
 
 // How many bytes there are now, the most that there may be, and where the test says how many more there may be.
@@ -80,19 +76,6 @@ void *realloc(void *block, size_t size) {
 
 void *memalign(size_t alignment, size_t size) {
     return is_refused(size) ? NULL : given(__libc_memalign(alignment, size));
-}
-
-void *aligned_alloc(size_t alignment, size_t size) {
-    return memalign(alignment, size);
-}
-
-int posix_memalign(void **block, size_t alignment, size_t size) {
-    void *found = memalign(alignment, size);
-    if (found == NULL) {
-        return ENOMEM;
-    }
-    *block = found;
-    return 0;
 }
 
 void free(void *block) {

@@ -19,7 +19,7 @@ use Rattle.mud_cert.specs.inner.Ways.{step_of, steps_of, end_of}
 use Rattle.mud_cert.specs.inner.Tests.{◌or◌, unless, numbers, is_label, is_new, stands, is_started, is_kept}
 use Rattle.mud_cert.specs.inner.Tests.{label_behind}
 use Rattle.mud_cert.specs.inner.Tests.{breaks, first_break, first_lock, given_doubt, member_doubt}
-use Rattle.mud_world.specs.Counts.{FailsAt}
+use Rattle.mud_world.specs.FirstFailure.{FailsAt}
 use Rattle.mud_cert.specs.Doubts.{Breaks, IsUnbroken, Holds}
 use Rattle.mud_cert.proofs.Finds.{find-none, find-some}
 use Rattle.mud_cert.proofs.Ways.{road-at, road-of, open-source, step-exit}

@@ -16,7 +16,7 @@ use Rattle.mud_cert.specs.Lookup.{label_at}
 use Rattle.mud_cert.specs.inner.Ways.{step_of, steps_of, end_of}
 use Rattle.mud_cert.specs.inner.Tests.{is_label, leaves, first_break, first_lock}
 use Rattle.mud_cert.specs.Valid.{States}
-use Rattle.mud_world.specs.Counts.{FailsAt}
+use Rattle.mud_world.specs.FirstFailure.{FailsAt}
 use Rattle.mud_cert.specs.Doubts.{IsUnbroken}
 use Rattle.mud_cert.proofs.Ways.{source-passage, leaves-source}
 use Rattle.mud_cert.proofs.Doubtless.{walk-from, label-is, is-label}

@@ -11,7 +11,7 @@ use Rattle.mud_world.specs.State.{State, is_player, is_room, place_of, passage_o
 use Rattle.mud_cert.specs.declared.cert.Form.{Form}
 use Rattle.mud_cert.specs.declared.doubt.Doubt.{Doubt}
 use Rattle.mud_cert.specs.declared.doubt.Doubt.TheVariants as doubts
-use Rattle.mud_world.specs.Counts.{FailsAt}
+use Rattle.mud_world.specs.FirstFailure.{FailsAt}
 use Rattle.mud_cert.specs.Certificate.{Account, Certificate, hop_of}
 use Rattle.mud_cert.specs.Lookup.{label_at}
 use Rattle.mud_cert.specs.Valid.{States, Agrees}

@@ -1,6 +1,6 @@
 -- The line at which a text stops being the beginning of a certificate's.
 use Rattle.std.specs.Prelude.{◌≡◌, ℕ, ◌≤◌, List, ◌++◌, length, take}
-use Rattle.mud_world.specs.Counts.{FailsAt}
+use Rattle.mud_world.specs.FirstFailure.{FailsAt}
 use Rattle.mud_cert.specs.Certificate.{Certificate, IsCertificate}
 use Rattle.mud_cert.specs.Text.{text_of, cert_lines, cert_text}
 

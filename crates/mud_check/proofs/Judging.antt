@@ -3,7 +3,7 @@ use Rattle.std.proofs.Common.{◌≡◌, ℕ, List, Option, Some, None, IfSome, 
 use Rattle.mud_verdict.specs.declared.outcome.Outcome.{Outcome}
 use Rattle.mud_verdict.specs.Verdict.{IsVerdict}
 use Rattle.mud_check.specs.Input.{IsSplit}
-use Rattle.mud_check.specs.Said.{IsJudged}
+use Rattle.mud_check.specs.Judgement.{IsJudged}
 
 -- the verdict on the two texts of what was read is that on the bytes of the source
 pub judged : (left : Option (List ℕ)) (input history proof : List ℕ) (outcome : Outcome)

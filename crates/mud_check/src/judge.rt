@@ -3,7 +3,7 @@
 ghost use Rattle.std.specs.Prelude.{◌≡◌, ◌≢◌, false, IfErr, IfOk, IfSome, OnOk};
 ghost use Rattle.std.specs.Io.KnownBytes.{IsAtEnd};
 ghost use Rattle.std.specs.IoError.{error_kind};
-ghost use Rattle.mud_check.specs.Said.{IsJudged, IsInputFault};
+ghost use Rattle.mud_check.specs.Judgement.{IsJudged, IsInputFault};
 
 use crate::input::split;
 use mud_ends::Source;

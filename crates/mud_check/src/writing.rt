@@ -1,6 +1,6 @@
 //! Where the line goes.
 
-ghost use Rattle.mud_check.specs.Said.{Says};
+ghost use Rattle.mud_check.specs.Judgement.{Says};
 
 use mud_ends::Sink;
 use std::io::Write;

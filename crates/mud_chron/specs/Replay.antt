@@ -8,7 +8,7 @@ use Rattle.mud_world.specs.declared.change.Change.{Change}
 use Rattle.mud_chron.specs.declared.fault.ChronFault.{ChronFault}
 use Rattle.mud_chron.specs.declared.fault.ChronFault.TheVariants.{OutOfMemory, BadChange}
 use Rattle.mud_chron.specs.Entry.{Entry}
-use Rattle.mud_world.specs.Counts.{FailsAt}
+use Rattle.mud_world.specs.FirstFailure.{FailsAt}
 
 -- the changes of entries
 abbrev pub changes_of : List Entry → List Change

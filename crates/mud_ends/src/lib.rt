@@ -22,4 +22,4 @@ mod sink;
 mod source;
 
 pub use sink::Sink;
-pub use source::{MAX_READS, Source};
+pub use source::{MOST_READS, Source};

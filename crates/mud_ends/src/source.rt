@@ -11,7 +11,7 @@ use std::io::{self, ErrorKind, Read};
 use std::marker::Model;
 
 /// How many pieces may be read of one source.
-pub const MAX_READS: u32 = 16_777_216;
+pub const MOST_READS: u32 = 16_777_216;
 
 /// A reader, with how often a piece was read of it, whether its end was seen, and whether it failed
 /// when it was read last. There is no other way to the reader than these calls, so a contract can say
@@ -52,7 +52,7 @@ impl<R: Read> Source<R> {
 
     /// Reads a piece, like `Read::read`, up to the first read that sees the end: none comes after it.
     pub fn read(&mut self, buf: &mut [u8]) -> io::Result<usize>
-        requires few { self.old.reads < MAX_READS }
+        requires few { self.old.reads < MOST_READS }
         requires no_end { self.old.at_end ≡ false }
         ensures bound { ReadsAtMost result buf.new }
         ensures bytes { ReadConsumes self.old.left self.new.left result buf.new }

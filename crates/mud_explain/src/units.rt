@@ -10,6 +10,9 @@ ghost use Rattle.mud_explain.specs.inner.Texts.{byte_text, units_text};
 use mud_nvt::{Nvt, Unit};
 use std::alloc::{AllocError, Global};
 
+// The first of the letters that are digits of sixteen.
+const LETTER_A: u8 = b'A';
+
 // The units that the bytes give, where no byte came before them.
 fn units_of(alloc: Global, input: &[u8]) -> Result<Vec<Unit>, AllocError>
     ensures { IfOk result (λ given. all_shown given.items ≡ units input.now) }
@@ -30,7 +33,7 @@ fn hex_digit(value: u8) -> char
     if value < 10 {
         char::from(b'0' + value)
     } else {
-        char::from(b'A' - 10 + value)
+        char::from(LETTER_A - 10 + value)
     }
 }
 

@@ -21,7 +21,7 @@ use Rattle.mud_world.specs.Conditions.{owns}
 use Rattle.mud_world.specs.Legal.{fails, refusal}
 use Rattle.mud_rules.specs.declared.verdict.Verdict.TheVariants.{Change as Changes, Refused}
 use Rattle.mud_rules.specs.Outcome.{outcome, does}
-use Rattle.mud_rules.specs.inner.Steps.{all_refusals, refuses, no_player, no_room, not_his}
+use Rattle.mud_rules.specs.inner.Bars.{all_refusals, refuses, no_player, no_room, not_his}
 use Rattle.mud_rules.proofs.Least.{Agree, lesser-agree}
 use Rattle.mud_rules.proofs.Ordered.{outcome_is, outcome_first}
 

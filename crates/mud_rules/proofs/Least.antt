@@ -9,7 +9,7 @@ use Rattle.mud_world.specs.declared.refusal.Refusal.TheVariants.{Denied, BadName
 use Rattle.mud_world.specs.declared.refusal.Refusal.TheVariants.{BadCost, RecursiveMove, LockedExit, LockedRoom}
 use Rattle.mud_world.specs.declared.refusal.Refusal.TheVariants.{LockedThing, InUse, WorldFull, PartyBad}
 use Rattle.mud_world.specs.Refusals.{number, lesser}
-use Rattle.mud_rules.specs.inner.Steps.{all_refusals, refuses}
+use Rattle.mud_rules.specs.inner.Bars.{all_refusals, refuses}
 
 pub bool_cases : {P : Type 0} (b : Bool) → (b ≡ true → P) → (b ≡ false → P) → P
 bool_cases true f g = f refl

@@ -5,7 +5,7 @@ use Rattle.std.specs.Prelude.{cond, filter, not, codes}
 use Rattle.std.proofs.lemmas.List.{at_drop_more}
 use Rattle.mud_world.specs.State.{State, is_number}
 use Rattle.mud_rules.specs.ObjectLists.{entry_text, object_list, listed_under}
-use Rattle.mud_rules.specs.inner.Steps.{listed_after}
+use Rattle.mud_rules.specs.inner.ObjectLists.{listed_after}
 
 after_first : (lead : List ℕ) (w : State) (n : ℕ) (ns : List ℕ)
     → listed_after lead w (n ∷ ns) ≡ lead ++ (entry_text w n ++ listed_after (codes ", ") w ns)

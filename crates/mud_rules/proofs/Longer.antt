@@ -15,7 +15,7 @@ use Rattle.mud_rules.specs.declared.matching.Likeness.TheVariants.{Equal, Prefix
 use Rattle.mud_rules.specs.declared.matching.Match.{Match}
 use Rattle.mud_rules.specs.declared.matching.Match.TheVariants.{NoSuch, Ambiguous}
 use Rattle.mud_rules.specs.Matches.{is_like, sole, sole_like}
-use Rattle.mud_rules.specs.inner.Steps.{is_named, fits, sole_fit}
+use Rattle.mud_rules.specs.inner.Matches.{is_named, fits, sole_fit}
 use Rattle.mud_rules.proofs.Least.{bool_cases}
 
 -- ---- one name

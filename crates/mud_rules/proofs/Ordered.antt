@@ -20,7 +20,7 @@ use Rattle.mud_rules.specs.declared.verdict.Verdict.TheVariants.{Change as Chang
 use Rattle.mud_rules.specs.Outcome.{outcome}
 use Rattle.mud_rules.specs.declared.verdict.Journey.TheVariants.{Meet}
 use Rattle.mud_rules.specs.Journeys.{meeting, least_refusal, members}
-use Rattle.mud_rules.specs.inner.Steps.{all_refusals, refuses, unfit}
+use Rattle.mud_rules.specs.inner.Bars.{all_refusals, refuses, unfit}
 use Rattle.mud_rules.proofs.Least.{lesser_first, find-append_miss}
 
 -- three refusals are of lines only

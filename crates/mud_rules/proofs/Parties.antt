@@ -14,7 +14,7 @@ use Rattle.mud_world.specs.State.{State, is_player}
 use Rattle.mud_rules.specs.Matches.{match_among}
 use Rattle.mud_rules.specs.Party.{IsParty, all_distinct, is_party}
 use Rattle.mud_rules.specs.Journeys.{player_meant, least_refusal, members, meet}
-use Rattle.mud_rules.specs.inner.Steps.{unfit}
+use Rattle.mud_rules.specs.inner.Bars.{unfit}
 use Rattle.mud_key.specs.Commas.{parts_of}
 use Rattle.mud_rules.specs.declared.verdict.Journey.TheVariants.{Meet}
 use Rattle.mud_rules.specs.Outcome.{of_kind, object_meant as meant}

@@ -1,2 +1,5 @@
-pub mod Steps
 pub mod Outcome
+pub mod Matches
+pub mod Bars
+pub mod Verbs
+pub mod ObjectLists

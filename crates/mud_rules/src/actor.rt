@@ -2,7 +2,7 @@
 
 ghost use Rattle.std.specs.Prelude.{◌≡◌};
 ghost use Rattle.mud_rules.specs.Outcome.{does};
-ghost use Rattle.mud_rules.specs.inner.Steps.{no_player, no_room, not_his};
+ghost use Rattle.mud_rules.specs.inner.Bars.{no_player, no_room, not_his};
 
 use crate::Verdict;
 use crate::outcome::outcome;

@@ -7,7 +7,7 @@ ghost use Rattle.mud_rules.specs.Matches.{match_among};
 ghost use Rattle.mud_rules.specs.Party.{all_distinct, is_party};
 ghost use Rattle.mud_rules.specs.Outcome.{object_meant, of_kind};
 ghost use Rattle.mud_rules.specs.Journeys.{player_meant, meeting, least_refusal, route, members, meet};
-ghost use Rattle.mud_rules.specs.inner.Steps.{unfit};
+ghost use Rattle.mud_rules.specs.inner.Bars.{unfit};
 
 use crate::actor::Actor;
 use crate::matching::{player_match, room_match};

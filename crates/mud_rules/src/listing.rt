@@ -2,9 +2,10 @@
 
 ghost use Rattle.std.specs.Prelude.{◌≡◌, ◌++◌, ◌∷◌, [], ◌+◌, ◌<◌, OnOk, codes, decimal, filter, not, string_bytes};
 ghost use Rattle.std.specs.Prelude.{if◌then◌else◌};
+ghost use Rattle.mud_key.specs.declared.codes.TheConstants.{ZERO};
 ghost use Rattle.mud_world.specs.State.{is_number};
 ghost use Rattle.mud_rules.specs.ObjectLists.{first_name, entry_text};
-ghost use Rattle.mud_rules.specs.inner.Steps.{listed_after};
+ghost use Rattle.mud_rules.specs.inner.ObjectLists.{listed_after};
 
 use mud_world::World;
 use std::alloc::AllocError;
@@ -12,7 +13,7 @@ use std::alloc::AllocError;
 // A digit.
 fn push_digit(text: &mut String, digit: u32) -> Result<(), AllocError>
     requires { digit < 10 }
-    ensures { OnOk result (string_bytes text.new ≡ string_bytes text.old ++ (48 + digit) ∷ []) }
+    ensures { OnOk result (string_bytes text.new ≡ string_bytes text.old ++ (ZERO + digit) ∷ []) }
 {
     text.push((b'0' + digit as u8) as char)
 }

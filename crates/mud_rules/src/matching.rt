@@ -6,7 +6,7 @@ ghost use Rattle.mud_key.specs.declared.limits.TheConstants.{MOST_DIGITS};
 ghost use Rattle.mud_rules.specs.declared.matching.Likeness.TheVariants.{Equal, Prefix};
 ghost use Rattle.mud_rules.specs.Matches.{is_like, sole_like, or_else, number_in, object_number, digits_value};
 ghost use Rattle.mud_rules.specs.Matches.{candidates, local_match, match_among};
-ghost use Rattle.mud_rules.specs.inner.Steps.{is_named, direct_match, fits, sole_fit, together, is_sort};
+ghost use Rattle.mud_rules.specs.inner.Matches.{is_named, direct_match, fits, sole_fit, together, is_sort};
 ghost use Rattle.mud_world.specs.State.{exists, is_room, is_player, place_of};
 
 use crate::comparing::is_same;

@@ -5,7 +5,7 @@ ghost use Rattle.std.specs.Option.{option_map_or};
 ghost use Rattle.std.specs.Char.{to_ascii_lowercase};
 ghost use Rattle.std.specs.Map.{lookup};
 ghost use Rattle.std.specs.Str.{str_eq_ignore_ascii_case};
-ghost use Rattle.mud_rules.specs.inner.Steps.{row_of};
+ghost use Rattle.mud_rules.specs.inner.Verbs.{row_of};
 ghost use Rattle.mud_rules.specs.Table.{verb_named, asks};
 
 use crate::comparing::is_word;

@@ -22,11 +22,11 @@ use Rattle.mud_world.specs.Sound.{IsSound}
 use Rattle.mud_search.proofs.Inside.{world-within, place-within}
 use Rattle.mud_search.specs.declared.slot.Slot.{Slot}
 use Rattle.mud_search.specs.declared.slot.Slot.TheVariants.{Unknown, Waiting, Held, Finished}
-use Rattle.mud_search.specs.Frontier.{IsKept}
+use Rattle.mud_search.specs.Memory.{IsKept}
 use Rattle.mud_search.specs.inner.Boards.{slot_at, label_at, settle, offers, IsBoardOf, board_of, slot_of, begun_at}
 use Rattle.mud_search.specs.inner.Boards.{potential, weight, lists_of, Below}
 use Rattle.mud_search.specs.Slots.{label_of, is_waiting, is_held}
-use Rattle.mud_search.specs.Facts.{IsFrontier}
+use Rattle.mud_search.specs.Frontier.{IsFrontier}
 use Rattle.mud_search.specs.Tasks.{IsBegun, IsChanged, IsDone}
 use Rattle.mud_search.specs.Least.{AreLeast, AreBounded, label_in}
 use Rattle.mud_search.specs.inner.Order.{labels_in}

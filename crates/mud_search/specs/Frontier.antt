@@ -1,19 +1,28 @@
--- What is true of a frontier.
-use Rattle.std.specs.Prelude.{◌≡◌, ℕ, ◌≤◌}
-use Rattle.std.specs.Prelude.{List, length, Some, slice_get}
-use Rattle.mud_world.specs.declared.limits.TheConstants.{MOST_PARTY}
+-- What holds of the slots of a search, whoever took and put what.
+use Rattle.std.specs.Prelude.{◌≡◌, ◌≢◌, ℕ, ◌<◌, ◌≤◌, List, Some, length, slice_get, Contains}
 use Rattle.mud_world.specs.State.{State}
 use Rattle.mud_world.specs.Sound.{IsSound}
+use Rattle.mud_roads.specs.declared.label.Label.{Label}
+use Rattle.mud_roads.specs.declared.label.Step.{Step}
+use Rattle.mud_roads.specs.Walks.{Roads, Walk, after, total}
+use Rattle.mud_roads.specs.Labels.{start_label, Reaches}
 use Rattle.mud_roads.specs.Passable.{Knowledge, roads_of}
 use Rattle.mud_search.specs.declared.slot.Slot.{Slot}
-use Rattle.mud_search.specs.inner.Boards.{board_of, IsBoardOf}
+use Rattle.mud_search.specs.declared.slot.Slot.TheVariants.{Unknown, Finished}
+use Rattle.mud_search.specs.Slots.{labels_of}
+use Rattle.mud_world.specs.declared.limits.TheConstants.{MOST_PARTY}
 
--- ---- the facts
+-- every label is that of a walk; the start is labelled 0; the steps out of a finished room lead to no greater labels
+pub record IsFaithful (roads : Roads) (from : ℕ) (slots : ℕ → Slot) : Type 0 where
+  pub walked : (room : ℕ) (l : Label) → labels_of slots room ≡ Some l
+      → (ss : List Step) × Walk roads from ss room × (total 1 ss ≡ l)
+  pub start : labels_of slots from ≡ Some start_label
+  pub finished : (room : ℕ) (l : Label) (s : Step) → slots room ≡ Finished l → Contains (roads room) s
+      → Reaches (labels_of slots) s.to (after 1 l s)
 
--- how a frontier stands in memory. A reader need not look into this: `Frontier::facts` says what is to be known of it
-pub record IsKept (w : State) (ts : List Knowledge) (boards : List (List Slot)) : Type 0 where
+-- the world is sound, of at most 8 members only rooms are known, and the slots of each are faithful to his roads
+pub record IsFrontier (w : State) (ts : List Knowledge) (slots : ℕ → ℕ → Slot) : Type 0 where
   pub sound : IsSound w
-  pub count : length boards ≡ length ts
   pub few : length ts ≤ MOST_PARTY
-  pub faithful : (m : ℕ) (t : Knowledge) → slice_get ts m ≡ Some t
-      → IsBoardOf (roads_of w t.player) t.place w.next (board_of boards m)
+  pub inside : (m room : ℕ) → slots m room ≢ Unknown → (m < length ts) × (room < w.next)
+  pub faithful : (m : ℕ) (t : Knowledge) → slice_get ts m ≡ Some t → IsFaithful (roads_of w t.player) t.place (slots m)

@@ -1,5 +1,5 @@
+pub mod Memory
 pub mod Frontier
-pub mod Facts
 pub mod Least
 pub mod Rooms
 pub mod Slots

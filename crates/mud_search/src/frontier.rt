@@ -7,7 +7,7 @@ ghost use Rattle.mud_search.specs.Slots.{is_waiting, is_held, labels_of};
 ghost use Rattle.mud_search.specs.Tables.{how_many};
 ghost use Rattle.mud_search.specs.inner.Tables.{lists_in};
 ghost use Rattle.mud_search.specs.Rooms.{slot_in};
-ghost use Rattle.mud_search.specs.Facts.{IsFrontier};
+ghost use Rattle.mud_search.specs.Frontier.{IsFrontier};
 ghost use Rattle.mud_search.specs.Tasks.{IsBegun, IsFirst, IsChanged, IsDone};
 ghost use Rattle.mud_search.specs.Least.{label_in, AreLeast, AreBounded};
 ghost use Rattle.mud_search.specs.inner.Boards.{IsLeft, potential, lesser};
@@ -39,7 +39,7 @@ impl<J: Job> Model for Frontier<J> {
     ghost use Rattle.mud_search.specs.declared.slot.Slot.{Slot};
     ghost use Rattle.mud_search.specs.contracts.slot.Slot as slot;
     ghost use Rattle.mud_search.specs.Tables.{Table, table, table_code};
-    ghost use Rattle.mud_search.specs.Frontier.{IsKept};
+    ghost use Rattle.mud_search.specs.Memory.{IsKept};
 
     ghost Value = { Table Slot };
 

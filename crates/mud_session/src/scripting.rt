@@ -12,7 +12,7 @@ ghost use Rattle.mud_session.specs.inner.Service.{Serves, ServesInPart};
 
 use crate::door::Door;
 use crate::session::Session;
-use mud_ends::{MAX_READS, Sink, Source};
+use mud_ends::{MOST_READS, Sink, Source};
 use mud_hall::Solo;
 use std::alloc::{AllocError, Global};
 use std::io::{Read, Write};
@@ -52,10 +52,10 @@ pub fn script<X: Threads + Wait + Sync, R: Read, W: Write>(
     requires capacity { capacity ≤ MOST_ENTRIES }
     ensures ok { OnOk result (IsWhole TakesNone capacity lone_desk source.old source.new sink.old sink.new) }
     ensures fault { OnErr result (IsFront TakesNone capacity lone_desk source.old source.new sink.old sink.new) }
-    ensures reads { source.new.reads ≤ MAX_READS }
+    ensures reads { source.new.reads ≤ MOST_READS }
     ensures read { result ≡ Err ScriptFault.Read → source.new.has_failed ≡ true }
     ensures write { result ≡ Err ScriptFault.Write → sink.new.has_failed ≡ true }
-    ensures many { result ≡ Err ScriptFault.TooManyReads → source.new.reads ≡ MAX_READS }
+    ensures many { result ≡ Err ScriptFault.TooManyReads → source.new.reads ≡ MOST_READS }
     ensures open { result ≡ Err ScriptFault.TooManyReads
         → IsOpen TakesNone capacity lone_desk source.old source.new sink.old sink.new }
 {
@@ -95,16 +95,16 @@ fn converse<X: Threads + Wait + Sync, D: Door, R: Read, W: Write>(
         source.old source.new sink.old sink.new) }
     ensures fault { OnErr result (IsFront D.takes_in (D.state door.old).capacity (D.state door.old).desk
         source.old source.new sink.old sink.new) }
-    ensures reads { source.new.reads ≤ MAX_READS }
+    ensures reads { source.new.reads ≤ MOST_READS }
     ensures read { result ≡ Err ScriptFault.Read → source.new.has_failed ≡ true }
     ensures write { result ≡ Err ScriptFault.Write → sink.new.has_failed ≡ true }
-    ensures many { result ≡ Err ScriptFault.TooManyReads → source.new.reads ≡ MAX_READS }
+    ensures many { result ≡ Err ScriptFault.TooManyReads → source.new.reads ≡ MOST_READS }
     ensures open { result ≡ Err ScriptFault.TooManyReads
         → IsOpen D.takes_in (D.state door.old).capacity (D.state door.old).desk
         source.old source.new sink.old sink.new }
 {
     let mut buffer = [0u8; BUFFER_LEN];
-    for _reads in 0..MAX_READS {
+    for _reads in 0..MOST_READS {
         let n = match source.read(&mut buffer) {
             Ok(n) => n,
             Err(_) => return Err(ScriptFault::Read),

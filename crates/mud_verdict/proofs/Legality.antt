@@ -5,7 +5,7 @@ use Rattle.mud_world.specs.State.{State}
 use Rattle.mud_world.specs.Opening.{opening_state}
 use Rattle.mud_world.specs.Legal.{after}
 use Rattle.mud_world.specs.declared.change.Change.{Change}
-use Rattle.mud_world.specs.Counts.{FailsAt}
+use Rattle.mud_world.specs.FirstFailure.{FailsAt}
 use Rattle.mud_chron.specs.Replay.{AreLegalFrom, AreLegal, IsFirstIllegal}
 
 -- the first changes are legal where more are

@@ -20,7 +20,7 @@ use Rattle.websocket.proofs.StreamLemmas.{TookFrame_from_read, receive-read_all}
 use Rattle.mud_web.specs.Channel.{Standing, new_connection, typed_by, reply_by, text_typed, replies, StandsAfter, Grows}
 use Rattle.mud_web.specs.Channel.{TakesIn, EndsWith}
 use Rattle.mud_web.specs.Close.{closes_for, ending_of}
-use Rattle.mud_web.specs.Over.{IfOver}
+use Rattle.mud_web.specs.Channel.{IfOver}
 use Rattle.mud_web.specs.inner.Steps.{Took, Steps, Refuses, Reached, closes_in}
 use Rattle.mud_web.proofs.Roles.{IsLive, role_kept, live_kept, sends_server, stands_live, closes_is}
 

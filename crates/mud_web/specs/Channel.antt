@@ -14,6 +14,8 @@ use Rattle.websocket.specs.Stream.{read_all}
 use Rattle.mud_nvt.specs.declared.codes.TheConstants.{LF}
 use Rattle.mud_web.specs.declared.channel.TheConstants.{MOST_MESSAGE}
 use Rattle.mud_web.specs.Close.{closes_for}
+use Rattle.mud_web.specs.declared.fault.Fault.{Fault}
+use Rattle.mud_web.specs.declared.fault.Fault.TheVariants.{OutOfMemory, Over, Ended}
 
 -- a connection of a server to which no frame came yet: a message and a frame have 4,096 bytes at most, and a frame
 -- without a mask is refused
@@ -94,3 +96,9 @@ pub record EndsWith (old : Standing) (bytes typed_old typed_new replies_old repl
   pub ends : (earlier : List ℕ) → StandsAfter old earlier → (read_all new_connection (earlier ++ bytes)).end ≡ Err e
   pub grows : (earlier : List ℕ) → StandsAfter old earlier
       → Grows earlier bytes typed_old typed_new replies_old replies_new (closes_for e)
+
+-- a fact on the error with which the protocol ended, if that is the fault
+abbrev pub IfOver : Fault → (Error → Type 0) → Type 0
+IfOver OutOfMemory P = Unit {0}
+IfOver Ended P = Unit {0}
+IfOver (Over e) P = P e

@@ -81,3 +81,10 @@ LetsIn bytes origin (Play accept len) =
 LetsIn bytes origin More = Unit {0}
 LetsIn bytes origin Page = Unit {0}
 LetsIn bytes origin (Refused refusal) = Unit {0}
+
+-- a fact on the key that is answered, where one is
+abbrev pub IfPlay : Asked → (List ℕ → Type 0) → Type 0
+IfPlay (Play accept len) P = P accept
+IfPlay More P = Unit {0}
+IfPlay Page P = Unit {0}
+IfPlay (Refused refusal) P = Unit {0}

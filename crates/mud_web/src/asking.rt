@@ -6,7 +6,7 @@ ghost use Rattle.httparse.specs.Spans.{IsRequestWithin, IsRequestAt, IsHeaderWit
 ghost use Rattle.websocket.specs.Headers.{fields_of, eq_ignore_case, is_graphic_text};
 ghost use Rattle.websocket.specs.Handshake.{response_bytes};
 ghost use Rattle.mud_web.specs.Request.{Answers, AnswersWhole, Waits, values, LetsIn};
-ghost use Rattle.mud_web.specs.Answered.{IfPlay};
+ghost use Rattle.mud_web.specs.Request.{IfPlay};
 ghost use Rattle.mud_web.specs.inner.Origins.{IsSeen, is_own};
 
 use crate::refusal::Refusal;

@@ -8,7 +8,7 @@ ghost use Rattle.mud_nvt.specs.declared.codes.TheConstants.{LF};
 ghost use Rattle.mud_web.specs.Channel.{StandsAfter, TakesIn, EndsWith, typed_by, frame_of};
 ghost use Rattle.mud_web.specs.declared.fault.Fault.TheVariants.{Over};
 ghost use Rattle.mud_web.specs.Close.{ending_of, closes_once};
-ghost use Rattle.mud_web.specs.Over.{IfOver};
+ghost use Rattle.mud_web.specs.Channel.{IfOver};
 ghost use Rattle.mud_web.specs.inner.Steps.{Steps, Refuses, IsNoEnd, IsTyped, closes_in};
 
 use crate::closing::Ending;

@@ -4,7 +4,7 @@ ghost use Rattle.std.specs.Prelude.{◌≡◌, ◌++◌, ℕ, List, [], false, t
 ghost use Rattle.std.specs.Prelude.{OnOk, OnErr, IfOk, IfErr};
 ghost use Rattle.mud_web.specs.Channel.{TakesIn, EndsWith, frame_of};
 ghost use Rattle.mud_web.specs.Close.{closes_once};
-ghost use Rattle.mud_web.specs.Over.{IfOver as IfChannelOver};
+ghost use Rattle.mud_web.specs.Channel.{IfOver as IfChannelOver};
 ghost use Rattle.mud_session.specs.Session.{wire_text};
 ghost use Rattle.mud_web_session.specs.Web.{StandsAfter, AnswersTyped, NudgesWeb, FeedsWeb, EndsWeb, IfOver, IsNotOver};
 ghost use Rattle.mud_web_session.specs.Web.{has_ended};

@@ -3,7 +3,7 @@
 ghost use Rattle.std.specs.Prelude.{◌≡◌, true, IfOk};
 ghost use Rattle.websocket.specs.Headers.{is_graphic_text};
 ghost use Rattle.mud_web.specs.Request.{LetsIn};
-ghost use Rattle.mud_web.specs.Answered.{IfPlay};
+ghost use Rattle.mud_web.specs.Request.{IfPlay};
 ghost use Rattle.mud_wire.specs.Entrance.{WasLetIn};
 ghost use Rattle.mud_wire.specs.inner.Player.{IsPlaying};
 

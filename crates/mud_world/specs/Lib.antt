@@ -10,7 +10,7 @@ pub mod Legal
 pub mod Refusals
 pub mod Speech
 pub mod Numbers
-pub mod Counts
+pub mod FirstFailure
 pub mod Nesting
 pub mod Laws
 pub mod Memory

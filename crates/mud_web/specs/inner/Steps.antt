@@ -26,7 +26,7 @@ pub record Took (old new : Standing) (typed_old typed_new replies_old replies_ne
   pub answers : replies_new ≡ replies_old ++ reply_by effect.reply
 
 -- there is none yet
-pub record Waits (old new : Standing) (typed_old typed_new replies_old replies_new : List ℕ) : Type 0 where
+pub record Awaits (old new : Standing) (typed_old typed_new replies_old replies_new : List ℕ) : Type 0 where
   pub needed : ℕ
   pub reads : read_step old.conn old.unread ≡ Ok (Partial needed)
   pub same : new ≡ old
@@ -37,7 +37,7 @@ abbrev pub Steps : (old new : Standing) (typed_old typed_new replies_old replies
 Steps old new typed_old typed_new replies_old replies_new true =
     Took old new typed_old typed_new replies_old replies_new
 Steps old new typed_old typed_new replies_old replies_new false =
-    Waits old new typed_old typed_new replies_old replies_new
+    Awaits old new typed_old typed_new replies_old replies_new
 
 -- the fault is not that the channel had ended
 abbrev pub IsNoEnd : Fault → Type 0

@@ -3,7 +3,7 @@ use Rattle.std.specs.Option.{option_map_or}
 use Rattle.mud_world.specs.Refusals.{lesser}
 use Rattle.mud_rules.specs.declared.verdict.Journey.TheVariants.{Meet}
 use Rattle.mud_rules.specs.Journeys.{members}
-use Rattle.mud_rules.specs.inner.Steps.{unfit}
+use Rattle.mud_rules.specs.inner.Bars.{unfit}
 use Rattle.mud_rules.proofs.Ordered.{meeting_is}
 use Rattle.mud_rules.proofs.Parties.{fit}
 use Rattle.mud_rules.proofs.journeys.meeting.Goals as goal

@@ -1,7 +1,7 @@
 use Rattle.std.proofs.Common.{◌≡◌, ◌++◌, drop}
 use Rattle.std.specs.Prelude.{codes, filter, if◌then◌else◌, not, string_bytes}
 use Rattle.mud_world.specs.State.{is_number}
-use Rattle.mud_rules.specs.inner.Steps.{listed_after}
+use Rattle.mud_rules.specs.inner.ObjectLists.{listed_after}
 use Rattle.mud_rules.proofs.listing.push_listed.Given as goal
 
 -- what is listed so far, and those of the numbers left, are all

@@ -1,6 +1,6 @@
 use Rattle.std.proofs.Common.{◌∙◌, sym, ap}
 use Rattle.std.specs.Prelude.{string_bytes}
-use Rattle.mud_rules.specs.inner.Steps.{fits}
+use Rattle.mud_rules.specs.inner.Matches.{fits}
 use Rattle.mud_rules.proofs.Searching.{list_any-map, any_past, any_here}
 use Rattle.mud_rules.proofs.matching.any_fits.Goals as goal
 

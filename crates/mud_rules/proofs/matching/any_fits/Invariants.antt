@@ -1,7 +1,7 @@
 use Rattle.std.proofs.Common.{◌≡◌, drop}
 use Rattle.std.specs.Prelude.{map, string_bytes}
 use Rattle.std.specs.List.{list_any}
-use Rattle.mud_rules.specs.inner.Steps.{fits}
+use Rattle.mud_rules.specs.inner.Matches.{fits}
 use Rattle.mud_rules.proofs.matching.any_fits.Given as goal
 
 -- what is left of the names has the answer of all of them

@@ -3,7 +3,7 @@ use Rattle.std.specs.Prelude.{filter}
 use Rattle.std.specs.List.{range_with_len}
 use Rattle.mud_rules.specs.declared.matching.Likeness.TheVariants.{Prefix}
 use Rattle.mud_rules.specs.Matches.{or_else, sole_like}
-use Rattle.mud_rules.specs.inner.Steps.{is_sort}
+use Rattle.mud_rules.specs.inner.Matches.{is_sort}
 use Rattle.mud_rules.proofs.Longer.{longer_only}
 use Rattle.mud_rules.proofs.matching.named_match.Goals as goal
 

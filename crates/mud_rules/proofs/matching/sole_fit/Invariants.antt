@@ -1,5 +1,5 @@
 use Rattle.std.proofs.Common.{◌≡◌, take}
-use Rattle.mud_rules.specs.inner.Steps.{sole_fit}
+use Rattle.mud_rules.specs.inner.Matches.{sole_fit}
 use Rattle.mud_rules.proofs.matching.sole_fit.Given as goal
 
 abbrev pub invariant-loop-number : goal.invariant-loop-number

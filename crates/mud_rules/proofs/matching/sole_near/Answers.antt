@@ -3,7 +3,7 @@ use Rattle.std.specs.Prelude.{filter}
 use Rattle.std.specs.Option.{option_map_or}
 use Rattle.mud_world.specs.State.{contents_of, leaving_of}
 use Rattle.mud_rules.specs.Matches.{sole}
-use Rattle.mud_rules.specs.inner.Steps.{is_named, fits, together}
+use Rattle.mud_rules.specs.inner.Matches.{is_named, fits, together}
 use Rattle.mud_rules.proofs.Joining.{sole_of-three}
 use Rattle.mud_rules.proofs.matching.sole_near.Goals as goal
 

@@ -2,7 +2,7 @@ use Rattle.std.proofs.Common.{◌∙◌, sym, ap, Ok, add-one}
 use Rattle.std.specs.Prelude.{filter}
 use Rattle.std.specs.List.{range_with_len}
 use Rattle.mud_rules.specs.Matches.{sole}
-use Rattle.mud_rules.specs.inner.Steps.{is_named, fits, together, is_sort}
+use Rattle.mud_rules.specs.inner.Matches.{is_named, fits, together, is_sort}
 use Rattle.mud_rules.proofs.Ranging.{range_more}
 use Rattle.mud_rules.proofs.Joining.{both_hit, both_miss}
 use Rattle.mud_rules.proofs.matching.sole_of_sort.Goals as goal

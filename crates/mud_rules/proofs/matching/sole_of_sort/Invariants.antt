@@ -1,7 +1,7 @@
 use Rattle.std.proofs.Common.{◌≡◌}
 use Rattle.std.specs.Prelude.{filter}
 use Rattle.std.specs.List.{range_with_len}
-use Rattle.mud_rules.specs.inner.Steps.{sole_fit, is_sort}
+use Rattle.mud_rules.specs.inner.Matches.{sole_fit, is_sort}
 use Rattle.mud_rules.proofs.matching.sole_of_sort.Given as goal
 
 abbrev pub invariant-loop-number : goal.invariant-loop-number

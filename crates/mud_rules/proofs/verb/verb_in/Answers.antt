@@ -1,7 +1,7 @@
 use Rattle.std.proofs.Common.{[], ◌∙◌, sym}
 use Rattle.std.specs.Str.{str_eq_ignore_ascii_case}
 use Rattle.mud_rules.specs.declared.verb.Verb.TheVariants.{Connect}
-use Rattle.mud_rules.specs.inner.Steps.{row_of}
+use Rattle.mud_rules.specs.inner.Verbs.{row_of}
 use Rattle.mud_rules.proofs.Finding.{lookup_past, lookup_here}
 use Rattle.mud_rules.proofs.verb.verb_in.Goals as goal
 

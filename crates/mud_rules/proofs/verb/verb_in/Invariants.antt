@@ -2,7 +2,7 @@ use Rattle.std.proofs.Common.{◌≡◌, drop}
 use Rattle.std.specs.Prelude.{map}
 use Rattle.std.specs.Map.{lookup}
 use Rattle.std.specs.Str.{str_eq_ignore_ascii_case}
-use Rattle.mud_rules.specs.inner.Steps.{row_of}
+use Rattle.mud_rules.specs.inner.Verbs.{row_of}
 use Rattle.mud_rules.proofs.verb.verb_in.Given as goal
 
 -- what is left of the rows has the answer of all of them

@@ -1,5 +1,5 @@
 use Rattle.std.proofs.Common.{map, ap, ◌∙◌, arith}
-use Rattle.mud_rules.specs.inner.Steps.{row_of}
+use Rattle.mud_rules.specs.inner.Verbs.{row_of}
 use Rattle.mud_rules.specs.Table.{verb_named}
 use Rattle.mud_rules.proofs.Lettered.{empty_word, first_letter}
 use Rattle.mud_rules.proofs.verb.Verb.of_word.Goals as goal

@@ -5,7 +5,7 @@ use Rattle.std.proofs.lemmas.List.{take_all}
 use Rattle.mud_world.specs.Sound.{IsSound}
 use Rattle.mud_search.specs.declared.slot.Slot.{Slot}
 use Rattle.mud_search.specs.Tasks.{IsBegun}
-use Rattle.mud_search.specs.Frontier.{IsKept}
+use Rattle.mud_search.specs.Memory.{IsKept}
 use Rattle.mud_search.specs.inner.Boards.{slot_of, begun_at}
 use Rattle.mud_search.proofs.Frontiers.{begun, frontier-begun, begun-is}
 use Rattle.mud_search.proofs.Inside.{member-within}

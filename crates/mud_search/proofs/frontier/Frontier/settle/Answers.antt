@@ -4,7 +4,7 @@ use Rattle.std.specs.Prelude.{All}
 use Rattle.mud_world.specs.declared.limits.TheConstants.{MOST_COST}
 use Rattle.mud_roads.specs.declared.label.Step.{Step}
 use Rattle.mud_search.specs.declared.slot.Slot.{Slot}
-use Rattle.mud_search.specs.Frontier.{IsKept}
+use Rattle.mud_search.specs.Memory.{IsKept}
 use Rattle.mud_search.specs.inner.Boards.{label_at, settle, board_of, slot_of, potential}
 use Rattle.mud_search.specs.Tasks.{IsDone}
 use Rattle.mud_search.proofs.Frontiers.{put-bound, put-steps, put-kept, put-lighter, put-done}

@@ -3,7 +3,7 @@ use Rattle.std.proofs.lemmas.List.{get_or_read}
 use Rattle.mud_search.specs.declared.slot.Slot.{Slot}
 use Rattle.mud_search.specs.declared.slot.Slot.TheVariants.{Waiting, Held}
 use Rattle.mud_search.specs.Rooms.{slot_in}
-use Rattle.mud_search.specs.Frontier.{IsKept}
+use Rattle.mud_search.specs.Memory.{IsKept}
 use Rattle.mud_search.specs.inner.Boards.{board_of, slot_of}
 use Rattle.mud_search.specs.Slots.{label_of}
 use Rattle.mud_search.proofs.Firsts.{waiting-member}

@@ -1,29 +1,84 @@
 #!/usr/bin/env python3
 """make_page.py: writes the page into crates/mud_page/src/page.rt, as the whole answer that a browser gets.
 
-The page is page.html, with page.css as its style and replies.js, map.js and page.js as its script. Leading spaces and
-lines of comments are left out. The content policy allows that style and that script alone, by their SHA-256, and
-connections to the page's own origin: nothing else is loaded from anywhere.
+The page is page.html, with page.css as its style and the files of SCRIPTS and main.js as its script, behind the
+checker, which has a scope of its own. The commands of its help are the table of docs/COMMANDS.md. Comments and spaces
+that nothing needs are left out. The content policy allows that style and that script alone, by their SHA-256,
+connections to the page's own origin, and no text as a script: nothing else is loaded from anywhere.
 
-`make_page.py --check` writes nothing, and fails where the file is not what it would write.
+`make_page.py --check` writes nothing, and fails where the file is not what it would write. `make_page.py --logic`
+prints the script without main.js, as tests take it.
 """
 import base64
 import hashlib
+import json
 import pathlib
+import re
 import sys
 
 HERE = pathlib.Path(__file__).resolve().parent
 TARGET = HERE.parent / "crates" / "mud_page" / "src" / "page.rt"
-SCRIPTS = ["replies.js", "map.js", "page.js"]
+COMMANDS = HERE.parent / "docs" / "COMMANDS.md"
+CHECKER = ["keys.js", "history.js", "rules.js", "certificate.js", "verdict.js", "checker.js"]
+CHECKER_NAMES = "Checker, statement, record, parts"
+SCRIPTS = ["world.js", "answers.js", "conversation.js", "map-layout.js", "map-picture.js", "connection.js",
+           "completion.js", "checking.js", "frame.js", "log.js", "map-paint.js", "map-view.js", "hands.js", "line.js",
+           "help.js", "keep.js"]
 NAMED = {"\\": "\\\\", '"': '\\"', "\n": "\\n", "\r": "\\r"}
+# The tokens of a script. A slash begins a regular expression where a value may stand: after a sign but `)`, `]`, `}`.
+TOKENS = re.compile(r"""
+    (?P<space>\s+)|(?P<comment>//[^\n]*)
+    |(?P<text>"(?:[^"\\\n]|\\.)*"|'(?:[^'\\\n]|\\.)*'|`(?:[^`\\]|\\.)*`)
+    |(?P<pattern>(?:(?<=[(,=:\[!&|?{;\s])(?<![\w)\]]\s)|(?<=\breturn\s))
+        /(?:[^/\\\[\n]|\\.|\[(?:[^\]\\\n]|\\.)*\])+/[a-z]*)
+    |(?P<word>[\w$@#]+)|(?P<sign>.)""", re.X)
+WORD = frozenset("abcdefghijklmnopqrstuvwxyzABCDEFGHIJKLMNOPQRSTUVWXYZ0123456789_$#@")
+CLOSES = ("}", ")", "]")
+SHORTER = {"const": "let", "undefined": "void 0", "true": "!0", "false": "!1"}
 PRINTABLE = range(32, 127)
 LONGEST_LINE = 110  # Signs of a line of the byte string, without what closes it.
 
 
+def squeezed_script(text):
+    """A script without comments, and without the spaces that no two of its words need between them. All statements end
+    with a semicolon or a brace, so a line feed is kept only where the next line begins at the left edge. Some words are
+    put in place of longer ones.
+    """
+    kept, last = [], "\n"
+    for token in TOKENS.finditer(text):
+        piece, kind = token.group(), token.lastgroup
+        if kind in ("space", "comment"):
+            continue
+        piece = SHORTER.get(piece, piece)
+        is_apart = last[-1] in WORD and piece[0] in WORD or last[-1] == piece[0] and piece[0] in "+-"
+        is_left = text[token.start() - 1 : token.start()] == "\n" and piece not in CLOSES
+        if is_left or (is_apart and text[token.start() - 1] in " \n"):
+            kept.append("\n" if is_left else " ")
+        if piece == "}" and last == ";":
+            kept.pop()
+        kept.append(piece)
+        last = piece
+    return re.sub(r"(?<=[(,=:?!&|{;])\(([a-zA-Z]+)\)=>", r"\1=>", "".join(kept)) + "\n"
+
+
+def squeezed_style(text):
+    """A style without comments, and without the spaces that are not needed."""
+    text = re.sub(r"\s+", " ", re.sub(r"/\*.*?\*/", "", text, flags=re.S))
+    return re.sub(r" ?([{};,>]) ?", r"\1", re.sub(r": (?=[^{}]*[;}])", ":", text)).replace(";}", "}").strip() + "\n"
+
+
+def squeezed_markup(text):
+    """A page without spaces at the ends of its lines, and without the quotes that its attributes do not need."""
+    text = "".join(line.strip() + "\n" for line in text.splitlines()).replace(">\n<", "><")
+    return re.sub(r'="([a-z0-9-]+)"(?=[ >\n])', r"=\1", text)
+
+
 def squeezed(name):
-    """The text of a file without leading spaces, empty lines and lines of comments."""
-    lines = [line.strip() for line in (HERE / name).read_text(encoding="ascii").splitlines()]
-    return "\n".join(line for line in lines if line and not line.startswith("//")) + "\n"
+    """The text of a file without what a browser does not need."""
+    text = (HERE / name).read_text(encoding="ascii")
+    if name.endswith(".html"):
+        return squeezed_markup(text)
+    return squeezed_script(text) if name.endswith(".js") else squeezed_style(text)
 
 
 def hashed(text):
@@ -31,16 +86,37 @@ def hashed(text):
     return "'sha256-" + base64.b64encode(hashlib.sha256(text.encode()).digest()).decode() + "'"
 
 
+def commands():
+    """The rows of docs/COMMANDS.md that say what can be typed: what is typed, and what comes."""
+    text = COMMANDS.read_text(encoding="ascii")
+    table = text.partition("| Line | Refused as | Otherwise |\n")[2].partition("\n\n")[0]
+    rows = [re.split(r" ?(?<!`)\|(?!`) ?", line)[1:4] for line in table.splitlines()[1:]]
+    return [[typed.strip(), comes.strip().replace(", see below", "")] for typed, _, comes in rows]
+
+
+def checker():
+    """The checker, in a scope of its own; nothing, where it is not there."""
+    if not all((HERE / name).exists() for name in CHECKER):
+        return "const checker = undefined;\n"
+    source = "".join(squeezed(name) for name in CHECKER)
+    return f"const checker = (() => {{\n{source}return {{ {CHECKER_NAMES} }};\n}})();\n"
+
+
+def logic():
+    """The script but for main.js, which begins to do something."""
+    table = f"const COMMANDS = {json.dumps(commands())};\n"
+    return '"use strict";\n' + checker() + table + "".join(squeezed(name) for name in SCRIPTS)
+
+
 def parts():
     """The style and the script of the page."""
-    return squeezed("page.css"), '"use strict";\n' + "".join(squeezed(name) for name in SCRIPTS)
+    return squeezed("page.css"), logic() + squeezed("main.js")
 
 
 def page():
     """The page."""
     style, script = parts()
-    text = squeezed("page.html").replace("@page.css@", style)
-    return text.replace(" ".join(f"@{name}@" for name in SCRIPTS), script)
+    return squeezed("page.html").replace("@style@", style).replace("@script@", script)
 
 
 def policy():
@@ -49,6 +125,7 @@ def policy():
     allowed = {"default-src": "'none'", "connect-src": "'self'"}
     allowed |= {"style-src": hashed(style), "script-src": hashed(script)}
     closed = {"base-uri": "'none'", "form-action": "'none'", "frame-ancestors": "'none'"}
+    closed |= {"require-trusted-types-for": "'script'"}
     return "; ".join(f"{what} {whence}" for what, whence in {**allowed, **closed}.items())
 
 
@@ -93,6 +170,9 @@ def module():
 
 
 def main():
+    if sys.argv[1:] == ["--logic"]:
+        sys.stdout.write(logic())
+        return 0
     if sys.argv[1:] == ["--check"]:
         return 0 if TARGET.exists() and TARGET.read_text() == module() else f"{TARGET} is not what make_page.py writes"
     TARGET.write_text(module())

@@ -15,7 +15,8 @@ test("look tells the room, its exits, and where the player is", () => {
   const talk = after(["connect Ann", "[1] welcome #9"], HALL);
   assert.deepEqual(rooms(talk), ["#0 The Hall"]);
   assert.deepEqual(exits(talk), ["#3 north 0-undefined", "#7 the gate 0-undefined"]);
-  assert.deepEqual([talk.world.me, talk.world.here], [9, 0]);
+  assert.deepEqual([talk.world.me, talk.world.here, [...talk.world.visited]], [9, 0, [0]]);
+  assert.deepEqual([...talk.world.things], [[1, "Wizard"]]);
 });
 
 test("a look at another thing moves nobody", () => {
@@ -86,9 +87,11 @@ test("notices are no answers, and the order of the replies says what they answer
   const hall = ["[4] The Hall #0", "  exits north #3"];
   const sent = ['(3) Bob says, "[9] look"', ...hall, "(out of memory)", "(4) Bob leaves by north.", ...hall];
   const shown = talk.take(sent.map((line) => line + "\r\n").join(""));
-  const kinds = ["notice", "reply", "reply", "refusal", "notice", "reply", "reply"];
+  const kinds = ["notice", "reply", "refusal", "notice", "reply"];
   assert.deepEqual(shown.map(({ kind }) => kind), kinds);
+  assert.deepEqual(shown.map(({ line }) => line), [undefined, "look", "north", undefined, "look"]);
   assert.deepEqual([talk.asked, exits(talk), talk.world.here], [[], ["#3 north 0-undefined"], 0]);
+  assert.deepEqual([talk.latest, [...talk.world.people]], [4, ["Bob"]]);
 });
 
 test("any cutting of what is sent tells the same", () => {
@@ -96,9 +99,12 @@ test("any cutting of what is sent tells the same", () => {
   const sent = lines.map((line) => line + "\r\n").join("");
   for (let size = 1; size < sent.length; size += 1) {
     const talk = new logic.Conversation();
+    let told = 0;
+    talk.onAnswer = () => (told += 1);
     for (const line of ["look", "north", "look"]) talk.say(line);
     for (let at = 0; at < sent.length; at += size) talk.take(sent.slice(at, at + size));
     assert.deepEqual([exits(talk), talk.world.here], [["#3 north 0-2", "#4 up 2-undefined"], 2], `pieces of ${size}`);
+    assert.equal(told, 3, `pieces of ${size}`);
   }
 });
 
@@ -116,21 +122,68 @@ test("a history tells all rooms and exits, and where the player is", () => {
   assert.equal(talk.world.here, 4);
 });
 
+const MEMBER = ["member #8 from #4", "labels #4:0/0", "walk nothing"];
+const PROOF = ["mud proof 2", "version 11", ...MEMBER, "route #4 cost 0", "end"];
+
 test("the history and the proofs are kept as the checker reads them", () => {
-  const member = ["member #8 from #4", "labels #4:0/0", "walk nothing"];
-  const proof = ["mud proof 2", "version 11", ...member, "route #4 cost 0", "end"];
-  const talk = after(["@history", "[11] history", ...TALE], ["proof route to here", "[11] proof", ...proof],
-    ["proof route", "[11] I couldn't understand that."]);
-  assert.deepEqual(talk.files(), [
-    { name: "history-11.txt", text: TALE.join("\n") + "\n" },
-    { name: "proof-11-1.txt", text: proof.join("\n") + "\n" },
-  ]);
+  const talk = after(["@history", "[11] history", ...TALE], ["proof route to here", "[11] proof", ...PROOF],
+    ["proof route", "[11] I couldn't understand that."], ["proof meet", "[11] proof", "mud proof 2"]);
+  talk.begin();
+  assert.deepEqual(talk.history, { version: 11, text: TALE.join("\n") + "\n" });
+  assert.deepEqual(talk.proofs, [{ version: 11, text: PROOF.join("\n") + "\n" }]);
 });
 
-test("what came last is kept when another connection begins", () => {
-  const talk = after(["@history", "[11] history", ...TALE]);
+test("an answer in several pieces is told once, when it is whole", () => {
+  const talk = after(), told = [];
+  talk.onAnswer = ({ line, lines }) => told.push([line, lines.length]);
+  for (const line of ["@history", "proof route to here", "look"]) talk.say(line);
+  for (const line of ["[11] history", ...TALE, "[11] proof", ...PROOF, "[11] Yard #4"]) talk.take(line + "\r\n");
+  assert.deepEqual(told, [["@history", 14], ["proof route to here", 8], ["look", 1]]);
+  assert.deepEqual([talk.history.version, talk.world.here], [11, 4]);
+});
+
+test("what the page asks quietly is not shown, and tells no more than the player saw", () => {
+  const talk = after(["look", "[11] Yard #4", "  exits door #5"]), told = [];
+  talk.say("@history", true, ({ lines }) => told.push(lines.length));
+  talk.onAnswer = (entry) => entry.answered(entry);
+  const shown = talk.take(["[11] history", ...TALE, "(12) Bob arrives."].map((line) => line + "\r\n").join(""));
+  assert.deepEqual(shown.map(({ kind }) => kind), ["notice"]);
+  assert.deepEqual([told, rooms(talk), talk.history.version], [[14], ["#4 Yard"], 11]);
+});
+
+test("a history that is cut changes nothing", () => {
+  const talk = after(HALL), before = [rooms(talk), exits(talk)];
+  tell(talk, "@history", "[11] history", ...TALE.slice(0, 5));
+  talk.end();
+  assert.deepEqual([rooms(talk), exits(talk), talk.history], [...before, undefined]);
+});
+
+test("what was asked and not answered is told so when the connection ends", () => {
+  const talk = after(), told = [];
+  talk.say("@history", true, (entry) => told.push(entry));
+  talk.end();
+  talk.drop();
+  assert.deepEqual([told, talk.asked], [[undefined], []]);
+});
+
+test("who came in is known by name, and by the line that lets him in again", () => {
+  const lines = [["connect Ann", "Ann"], ["connect Ann of the Hill", "Ann"], ['connect "Old Ann"', "Old Ann"]];
+  for (const [line, name] of lines) {
+    const talk = after([line, "[3] welcome #9"]);
+    assert.deepEqual([talk.isIn, talk.connectLine, talk.name], [true, line, name]);
+    talk.begin();
+    assert.deepEqual([talk.isIn, talk.connectLine], [false, line]);
+  }
+});
+
+test("where versions go back it is another world, of which nothing was told", () => {
+  const talk = after(["connect Ann", "[7] welcome #9"], ["look", "[8] The Hall #0", "  exits north #3"]);
   talk.begin();
-  assert.deepEqual(talk.files(), [{ name: "history-11.txt", text: TALE.join("\n") + "\n" }]);
+  tell(talk, "connect Ann", "[8] welcome #9");
+  assert.deepEqual([rooms(talk), talk.world.age], [["#0 The Hall"], 0]);
+  talk.begin();
+  tell(talk, "connect Ann", "[5] welcome #2");
+  assert.deepEqual([rooms(talk), exits(talk), talk.world.age], [[], [], 1]);
 });
 
 test("who has left is not to come back", () => {
@@ -139,4 +192,14 @@ test("who has left is not to come back", () => {
   const talk = after(["quit", "[4] bye"]);
   talk.begin();
   assert.equal(talk.hasLeft, false);
+});
+
+test("each text of a refusal is taken for one, and no other reply is", async () => {
+  const { readFileSync } = await import("node:fs");
+  const page = readFileSync(new URL("../../docs/COMMANDS.md", import.meta.url), "utf8");
+  const texts = [...page.matchAll(/^\| \d+ \| \w+ \| `([^`]+)`/gm)].map(([, text]) => text);
+  assert.equal(texts.length, 18);
+  for (const text of texts) assert.ok(logic.isRefusal([text]), text);
+  for (const text of ["said", "version", "bye", "The Hall #0", "route #0 to #2 no way", "key of #3 is nothing"])
+    assert.ok(!logic.isRefusal([text]), text);
 });

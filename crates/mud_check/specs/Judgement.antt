@@ -21,6 +21,11 @@ abbrev pub IsInputFault : Bool → Unread → Type 0
 IsInputFault has_failed OutOfMemory = has_failed ≡ false
 IsInputFault has_failed (File name) = (has_failed ≡ true) × (name.now ≡ codes "-")
 
+-- why two files have no verdict: one of them can't be read, or memory ran out
+abbrev pub IsFileFault : List ℕ → List ℕ → Unread → Type 0
+IsFileFault history proof OutOfMemory = Unit {0}
+IsFileFault history proof (File name) = (name.now ≡ history) ⊎ (name.now ≡ proof)
+
 -- the line was written and the status is its own; or the writer failed, which left a front of it, and the status is 2
 abbrev pub Says : Option (List ℕ) → Option (List ℕ) → List ℕ → ℕ → Bool → ℕ → Type 0
 Says held now_held text code has_failed status =

@@ -3,7 +3,7 @@
 ghost use Rattle.std.specs.Prelude.{◌≡◌, ◌≢◌, false, IfErr, IfOk, IfSome, OnOk};
 ghost use Rattle.std.specs.Io.KnownBytes.{IsAtEnd};
 ghost use Rattle.std.specs.IoError.{error_kind};
-ghost use Rattle.mud_check.specs.Judgement.{IsJudged, IsInputFault};
+ghost use Rattle.mud_check.specs.Judgement.{IsJudged, IsInputFault, IsFileFault};
 
 use crate::input::split;
 use mud_ends::Source;
@@ -37,19 +37,23 @@ fn reason_of<'a>(name: &'a str, error: &io::Error) -> Unread<'a>
 }
 
 // The bytes of the file of this name.
-fn file<'a, R: Files + AllocGlobal>(rt: &R, name: &'a str) -> Result<Vec<u8>, Unread<'a>> {
+fn file<'a, R: Files + AllocGlobal>(rt: &R, name: &'a str) -> Result<Vec<u8>, Unread<'a>>
+    ensures { IfErr result (IsFileFault name.now name.now) }
+{
     match fs::read(rt, name) {
         Ok(bytes) => Ok(bytes),
         Err(error) => Err(reason_of(name, &error)),
     }
 }
 
-/// Reads the two files, the history first, and judges their texts.
+/// Reads the two files, the history first, and judges their texts. The fault names the file that can't be read.
 pub fn judge_files<'a, R: Files + AllocGlobal>(
     rt: &R,
     history: &'a str,
     proof: &'a str,
-) -> Result<Outcome, Unread<'a>> {
+) -> Result<Outcome, Unread<'a>>
+    ensures { IfErr result (IsFileFault history.now proof.now) }
+{
     let history = file(rt, history)?;
     let proof = file(rt, proof)?;
     match verdict(rt.alloc(), &history, &proof) {

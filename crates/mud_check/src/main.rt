@@ -37,10 +37,15 @@ fn run(rt: &HostRuntime, words: &[String]) -> ExitCode {
     }
 }
 
-// Says why the words ask for nothing, and answers the status.
+// Says why the words ask for nothing, or what they ask to be told, and answers the status, which is 2 where what was
+// asked for can't be written.
 fn tell_fault(rt: &HostRuntime, fault: CommandFault) -> ExitCode {
     match fault {
         CommandFault::OutOfMemory => print_outcome(rt, Err(Unread::OutOfMemory)),
+        CommandFault::Asked(text) => match print!(rt; "{text}") {
+            Ok(()) => ExitCode::SUCCESS,
+            Err(_) => ExitCode::from(2),
+        },
         CommandFault::Told(text) => ExitCode::from(show(rt, text.as_str())),
     }
 }

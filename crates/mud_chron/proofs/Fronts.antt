@@ -556,3 +556,136 @@ head_cases false bytes one two is_one is_two other none = λ h. go h.0 h.1
     go : (format : Format) → IsPrefix bytes (head_text format) → ⊥
     go One p = other (subst (IsPrefix bytes) (sym is_one) p)
     go Two p = none (subst (IsPrefix bytes) (sym is_two) p)
+
+-- ---- whatever stands behind
+
+-- two lines that end
+two_lines : (x y r s : List ℕ) → IsPlain x → IsPlain y → x ++ LF ∷ r ≡ y ++ LF ∷ s → (x ≡ y) × (r ≡ s)
+two_lines [] [] r s hx hy e = (refl, cc)
+two_lines [] (b ∷ y) r s hx hy e = let t : b ≡ LF = cc in absurd (hy.0 t)
+two_lines (a ∷ x) [] r s hx hy e = let t : a ≡ LF = cc in absurd (hx.0 t)
+two_lines (a ∷ x) (b ∷ y) r s hx hy e =
+    let head : a ≡ b = cc in
+    let tail : x ++ LF ∷ r ≡ y ++ LF ∷ s = cc in
+    let more = two_lines x y r s hx.1 hy.1 tail in
+    (ap (λ c. c ∷ x) head ∙ ap (λ t. b ∷ t) more.0, more.1)
+
+-- a line that has not ended has no line that has
+no_end_in : (x y : List ℕ) → IsPlain (x ++ LF ∷ y) → ⊥
+no_end_in [] y h = h.0 refl
+no_end_in (a ∷ x) y h = no_end_in x y h.1
+
+-- two first lines of one length
+two_heads : (h k x y : List ℕ) → length h ≡ length k → h ++ x ≡ k ++ y → (h ≡ k) × (x ≡ y)
+two_heads [] [] x y l e = (refl, e)
+two_heads [] (b ∷ k) x y l e = absurd (omega (arith, l))
+two_heads (a ∷ h) [] x y l e = absurd (omega (arith, l))
+two_heads (a ∷ h) (b ∷ k) x y l e =
+    let head : a ≡ b = cc in
+    let tail : h ++ x ≡ k ++ y = cc in
+    let more = two_heads h k x y (omega (arith, l)) tail in
+    (ap (λ c. c ∷ h) head ∙ ap (λ t. b ∷ t) more.0, more.1)
+
+-- lines and whatever stands behind them are the lines of these entries and one that has not ended
+lines_begin : (format : Format) (version : ℕ) (es got : List Entry) (behind torn : List ℕ)
+    → version + length es < 2 ^ 64 → version + length got < 2 ^ 64
+    → AllByRecursion (IsEntryOf format) es → AllByRecursion (IsEntryOf format) got → IsPlain torn
+    → entries_text version es ++ behind ≡ entries_text version got ++ torn → IsPrefix es got
+lines_begin format version [] got behind torn few fits all these plain e = (got, refl)
+lines_begin format version (f ∷ es) [] behind torn few fits all these plain e =
+    absurd (no_end_in (entry_line version f) (entries_text (version + 1) es ++ behind)
+    (subst IsPlain (sym e ∙ line_front version f (entries_text (version + 1) es) behind) plain))
+lines_begin format version (f ∷ es) (g ∷ got) behind torn few fits all these plain e =
+    let two =
+    two_lines (entry_line version f) (entry_line version g) (entries_text (version + 1) es ++ behind)
+    (entries_text (version + 1) got ++ torn)
+    (plain_entry version f (omega (arith, few)) all.0.0) (plain_entry version g (omega (arith, fits)) these.0.0)
+    (sym (line_front version f (entries_text (version + 1) es) behind) ∙ e
+    ∙ line_front version g (entries_text (version + 1) got) torn) in
+    let same : f ≡ g = one_entry version f g (omega (arith, few)) all.0.0 these.0.0 two.0 in
+    let rest = lines_begin format (version + 1) es got behind torn (omega (arith, few)) (omega (arith, fits)) all.1
+    these.1 plain two.1 in
+    (rest.0, ap (λ (x : Entry). x ∷ (es ++ rest.0)) same ∙ ap (λ (xs : List Entry). g ∷ xs) rest.1)
+
+-- whatever stands behind the text of a journal, its entries are found
+pub found_whatever_follows : (format found : Format) (synced : List Entry) (behind : List ℕ) (got : List Entry)
+    (keep : ℕ) → AreEntriesOf format synced → Recovers (journal_text format synced ++ behind) found got keep
+    → IsPrefix synced got
+found_whatever_follows format found synced behind got keep allowed r = go r.ends
+  where
+    bytes : List ℕ
+    bytes = journal_text format synced ++ behind
+
+    begins : bytes ≡ head_text format ++ (entries_text 1 synced ++ behind)
+    begins = append_assoc (head_text format) (entries_text 1 synced) behind
+
+    lines : (g : Format) → g ≡ found → (torn : List ℕ) → IsPlain torn
+        → (head_text format ≡ head_text g) × (entries_text 1 synced ++ behind ≡ entries_text 1 got ++ torn)
+        → IsPrefix synced got
+    lines g is torn plain two =
+        let same : format ≡ g = one_format format g two.0 in
+        let these : AllByRecursion (IsEntryOf format) got =
+        subst (λ x. AllByRecursion (IsEntryOf x) got) (sym (same ∙ is)) r.allowed.each in
+        lines_begin format 1 synced got behind torn (omega (arith, allowed.few)) (omega (arith, r.allowed.few))
+        allowed.each these plain two.1
+
+    go : EndsInHead bytes found got keep ⊎ EndsInLine bytes found got keep → IsPrefix synced got
+    go (inl (unended, head, format_is, none, keep_is)) =
+        absurd (unended format (entries_text 1 synced ++ behind) begins)
+    go (inr (torn, spelled, unended, keep_is)) =
+        lines found refl torn (plain_of torn unended)
+        (two_heads (head_text format) (head_text found) (entries_text 1 synced ++ behind) (entries_text 1 got ++ torn)
+        (length_head format ∙ sym (length_head found))
+        (sym begins ∙ spelled ∙ append_assoc (head_text found) (entries_text 1 got) torn))
+
+-- lines and whatever stands behind them are the lines of these entries and one that is none of the next entry's
+other_behind : (format : Format) (version : ℕ) (es got : List Entry) (behind line rest : List ℕ)
+    → version + length es < 2 ^ 64 → version + length got < 2 ^ 64
+    → AllByRecursion (IsEntryOf format) es → AllByRecursion (IsEntryOf format) got → IsPlain line
+    → IsNoEntryLine format (version + length got) line
+    → entries_text version es ++ behind ≡ entries_text version got ++ (line ++ LF ∷ rest) → IsPrefix es got
+other_behind format version [] got behind line rest few fits all these plain other e = (got, refl)
+other_behind format version (f ∷ es) [] behind line rest few fits all these plain other e =
+    let two =
+    two_lines (entry_line version f) line (entries_text (version + 1) es ++ behind) rest
+    (plain_entry version f (omega (arith, few)) all.0.0) plain
+    (sym (line_front version f (entries_text (version + 1) es) behind) ∙ e) in
+    let now : version ≡ version + 0 = omega arith in
+    absurd (other f all.0 (sym two.0 ∙ ap (λ v. entry_line v f) now))
+other_behind format version (f ∷ es) (g ∷ got) behind line rest few fits all these plain other e =
+    let two =
+    two_lines (entry_line version f) (entry_line version g) (entries_text (version + 1) es ++ behind)
+    (entries_text (version + 1) got ++ (line ++ LF ∷ rest))
+    (plain_entry version f (omega (arith, few)) all.0.0) (plain_entry version g (omega (arith, fits)) these.0.0)
+    (sym (line_front version f (entries_text (version + 1) es) behind) ∙ e
+    ∙ line_front version g (entries_text (version + 1) got) (line ++ LF ∷ rest)) in
+    let same : f ≡ g = one_entry version f g (omega (arith, few)) all.0.0 these.0.0 two.0 in
+    let at : version + length (g ∷ got) ≡ version + 1 + length got = omega arith in
+    let more =
+    other_behind format (version + 1) es got behind line rest (omega (arith, few)) (omega (arith, fits)) all.1 these.1
+    plain (subst (λ v. IsNoEntryLine format v line) at other) two.1 in
+    (more.0, ap (λ (x : Entry). x ∷ (es ++ more.0)) same ∙ ap (λ (xs : List Entry). g ∷ xs) more.1)
+
+-- whatever stands behind the text of a journal, a line that is none stands behind all its lines
+pub bad_line_behind : (format : Format) (synced : List Entry) (behind : List ℕ) (n : ℕ) → AreEntriesOf format synced
+    → HasOtherLine (journal_text format synced ++ behind) n → length synced + 2 ≤ n
+bad_line_behind format synced behind n allowed h =
+    let bytes : List ℕ = journal_text format synced ++ behind in
+    let b : Begins h.format h.entries bytes (h.line ++ LF ∷ h.rest) =
+    cut_begins h.format h.entries bytes h.line h.rest h.begins in
+    let two =
+    two_heads (head_text format) (head_text h.format) (entries_text 1 synced ++ behind)
+    (entries_text 1 h.entries ++ (h.line ++ LF ∷ h.rest)) (length_head format ∙ sym (length_head h.format))
+    (sym (append_assoc (head_text format) (entries_text 1 synced) behind) ∙ b.spelled
+    ∙ append_assoc (head_text h.format) (entries_text 1 h.entries) (h.line ++ LF ∷ h.rest)) in
+    let same : h.format ≡ format = sym (one_format format h.format two.0) in
+    let these : AllByRecursion (IsEntryOf format) h.entries =
+    subst (λ x. AllByRecursion (IsEntryOf x) h.entries) same b.allowed.each in
+    let at : length h.entries + 1 ≡ 1 + length h.entries = omega arith in
+    let other : IsNoEntryLine format (1 + length h.entries) h.line =
+    subst (λ v. IsNoEntryLine format v h.line) at
+    (subst (λ x. IsNoEntryLine x (length h.entries + 1) h.line) same h.other) in
+    let on : IsPrefix synced h.entries =
+    other_behind format 1 synced h.entries behind h.line h.rest (omega (arith, allowed.few))
+    (omega (arith, b.allowed.few)) allowed.each these (plain_of h.line h.whole) other two.1 in
+    omega (arith, h.number, ap length on.1, length-append synced on.0)

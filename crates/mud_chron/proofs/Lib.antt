@@ -10,3 +10,4 @@ mod Begun
 pub mod Spellable
 mod Returns
 pub mod Fronts
+pub mod Zeros

@@ -6,7 +6,9 @@ ghost use Rattle.mud_chron.specs.Laws.{IsWrittenAgain, FaultsAreNoFronts, Nothin
 ghost use Rattle.mud_chron.specs.History.{AreEntriesOf};
 ghost use Rattle.mud_chron.specs.Text.{journal_text};
 ghost use Rattle.mud_chron.specs.Fronts.{Recovers};
-ghost use Rattle.std.specs.Prelude.{ℕ, List, take};
+ghost use Rattle.std.specs.Prelude.{◌≡◌, ℕ, List, take};
+ghost use Rattle.mud_chron.specs.declared.codes.TheConstants.{QUOTE};
+ghost use Rattle.mud_chron.specs.declared.limits.TheConstants.{MOST_DESKS};
 ghost use Rattle.mud_chron.specs.Entry.{Entry};
 ghost use Rattle.mud_chron.specs.declared.format.Format.{Format};
 
@@ -54,4 +56,14 @@ pub fn no_front_with_a_fault()
 /// Of a journal that was cut after the text of what was synced all that was synced is found.
 pub fn nothing_is_lost()
     ensures { NothingIsLost }
+{}
+
+/// The limit of the desks.
+pub fn limits()
+    ensures most_desks { MOST_DESKS ≡ 64 }
+{}
+
+/// The byte that has a name is that of USASCII.
+pub fn codes()
+    ensures quote { QUOTE ≡ 34 }
 {}

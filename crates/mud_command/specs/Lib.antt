@@ -1,2 +1,3 @@
 pub mod Task
 pub mod Service
+pub mod inner

@@ -3,7 +3,7 @@ use Rattle.std.specs.Prelude.{◌≤◌}
 use Rattle.mud_command.specs.declared.limits.ChosenLimits.{ChosenLimits}
 use Rattle.mud_command.specs.declared.limits.TheConstants.{MOST_CAPACITY, MOST_WORKERS, MOST_TOTAL}
 use Rattle.mud_command.specs.declared.service.Service.{Service}
-use Rattle.mud_command.specs.declared.service.Service.TheVariants.{Version, Script, Listen}
+use Rattle.mud_command.specs.declared.service.Service.TheVariants.{Script, Listen}
 
 -- there are 0 to 8 workers, and a history has room for 1 to 65,536 changes
 pub record AreWithin (limits : ChosenLimits) : Type 0 where
@@ -13,6 +13,5 @@ pub record AreWithin (limits : ChosenLimits) : Type 0 where
 
 -- the numbers of a service are within their limits
 abbrev pub IsServed : Service → Type 0
-IsServed Version = Unit {0}
 IsServed (Script limits) = AreWithin limits
 IsServed (Listen listening) = AreWithin listening.limits × (listening.total ≤ MOST_TOTAL)

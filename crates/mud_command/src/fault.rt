@@ -1,6 +1,8 @@
 //! Why a command line asks for nothing.
 
 ghost use Rattle.std.specs.Prelude.{◌≡◌};
+ghost use Rattle.clap.specs.Values.{kind_of};
+ghost use Rattle.mud_command.specs.inner.Fault.{IsOfKind};
 
 use clap::Error;
 use clap::error::ErrorKind;
@@ -15,9 +17,12 @@ pub enum CommandFault {
     /// Memory ran out.
     #[error("out of memory")]
     OutOfMemory,
-    /// What is wrong with the words, in whole lines; help is such a text too.
+    /// What is wrong with the words, in whole lines.
     #[error("{0}")]
     Told(String),
+    /// Help or the version, for which the words ask, in whole lines.
+    #[error("{0}")]
+    Asked(String),
 }
 
 // The text of an error.
@@ -35,12 +40,19 @@ pub(crate) fn fault_of(text: Result<String, AllocError>) -> CommandFault {
     }
 }
 
-// What `clap` says, as a fault.
-pub(crate) fn fault_of_error(alloc: Global, error: &Error) -> CommandFault {
+// What `clap` says, as a fault: a text for standard output was asked for.
+pub(crate) fn fault_of_error(alloc: Global, error: &Error) -> CommandFault
+    ensures memory { kind_of error.now ≡ ErrorKind.OutOfMemory → result ≡ CommandFault.OutOfMemory }
+    ensures kind { IsOfKind (kind_of error.now) result }
+{
     if error.kind() == ErrorKind::OutOfMemory {
         return CommandFault::OutOfMemory;
     }
-    fault_of(text_of(alloc, error))
+    match text_of(alloc, error) {
+        Ok(text) if error.use_stderr() => CommandFault::Told(text),
+        Ok(text) => CommandFault::Asked(text),
+        Err(_) => CommandFault::OutOfMemory,
+    }
 }
 
 /// Writes the text of a fault to standard error, where that can be written, and answers the status of a command line

@@ -1,6 +1,7 @@
 //! The forms of a command line, as rows.
 
 use crate::argument::{Argument, arg_of};
+use crate::build::VERSION;
 use clap::{Arg, Command};
 use std::alloc::{AllocError, Global};
 
@@ -47,6 +48,7 @@ pub(crate) fn program_of<'a>(
     forms: &[Form<'a>],
 ) -> Result<Command<'a>, AllocError> {
     let command = Command::new(alloc, name)
+        .version(VERSION)
         .about(about)
         .subcommand_required(true);
     with_forms(alloc, command, forms)

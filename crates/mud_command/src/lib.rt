@@ -2,10 +2,11 @@
 //!
 //! A program takes its words by `words_of`, and what they ask for by a function of its own: `service_of` for
 //! `mud_serve`, `sources_of` for `mud_check`, `task_of` for `mud_explain`, `keeping_of` for `mud_keep`. Where the words
-//! ask for nothing, the fault has the text to be shown.
+//! ask for nothing, or for help or the version, the fault has the text to be shown.
 #![tactic(auto)]
 
 mod argument;
+mod build;
 mod fault;
 mod form;
 mod keeping;
@@ -20,9 +21,9 @@ mod task;
 mod words;
 
 pub use crate::fault::{CommandFault, show};
-pub use crate::keeping::{Keeping, Wish, keeping_of};
+pub use crate::keeping::{Keeping, KeptFile, Wish, keeping_of};
 pub use crate::limits::{ChosenLimits, MOST_CAPACITY, MOST_PER_ADDRESS, MOST_TOTAL, MOST_WORKERS};
-pub use crate::service::{KIT, Listening, Service, WebListening, service_of};
+pub use crate::service::{Listening, Service, WebListening, service_of};
 pub use crate::sources::{Sources, sources_of};
 pub use crate::subject::{Reading, Subject};
 pub use crate::task::{Opening, Task, task_of};

@@ -4,24 +4,19 @@ ghost use Rattle.std.specs.Prelude.{◌≤◌, IfOk, IfSome};
 ghost use Rattle.mud_command.specs.Service.{AreWithin, IsServed};
 
 use crate::argument::{CAPACITY, WORKERS};
-use crate::fault::{CommandFault, fault_of_error};
+use crate::fault::CommandFault;
 use crate::form::{Form, program_of};
 use crate::limits::{ChosenLimits, MOST_TOTAL, limits_in};
 use crate::listen::LISTEN;
-use crate::matches::unfit;
+use crate::matches::{matches_of, unfit};
 use crate::origin::is_origin;
 use clap::error::ErrorKind;
 use clap::{ArgMatches, Command};
 use std::alloc::{AllocError, Global};
 
-/// The toolchain with which the programs were proved and built.
-pub const KIT: &str = "rattle-kit-13f logic dac8208d650f15bf";
-
 /// What `mud_serve` is asked for.
 #[derive(Clone, Copy)]
 pub enum Service<'a> {
-    /// To name itself, and the toolchain with which it was proved.
-    Version,
     /// To answer a script.
     Script(ChosenLimits),
     /// To serve connections.
@@ -86,11 +81,7 @@ fn service_from<'a>(
 ) -> Result<Service<'a>, CommandFault>
     ensures { IfOk result IsServed }
 {
-    let matches = match command.try_get_matches_from_mut(words) {
-        Ok(matches) => matches,
-        Err(error) if error.kind() == ErrorKind::DisplayVersion => return Ok(Service::Version),
-        Err(error) => return Err(fault_of_error(alloc, &error)),
-    };
+    let matches = matches_of(alloc, command, words)?;
     let message = match service_in(&matches) {
         Some(service) if has_origin(&service) => return Ok(service),
         Some(_) =>
@@ -107,7 +98,7 @@ fn has_origin(service: &Service<'_>) -> bool {
             Some(web) => is_origin(web.origin),
             None => true,
         },
-        Service::Version | Service::Script(_) => true,
+        Service::Script(_) => true,
     }
 }
 
@@ -158,7 +149,7 @@ fn web_in<'a>(listen: &ArgMatches<'a>, address: &'a str) -> Option<WebListening<
 
 // The command line that is understood.
 fn command<'a>(alloc: Global) -> Result<Command<'a>, AllocError> {
-    Ok(program_of(alloc, "mud_serve", "A server of text worlds", &FORMS)?.version(KIT))
+    program_of(alloc, "mud_serve", "A server of text worlds", &FORMS)
 }
 
 // What a server can be asked for.

@@ -1,12 +1,13 @@
 //! The command line of `mud_check`.
 
 use crate::argument::{Argument, PLACE};
+use crate::build::VERSION;
 use crate::fault::CommandFault;
 use crate::form::{Form, command_of};
 use crate::matches::{matches_of, unfit};
 use clap::error::ErrorKind;
 use clap::{ArgMatches, Command};
-use std::alloc::Global;
+use std::alloc::{AllocError, Global};
 
 /// Where a history's text and a proof's are.
 #[derive(Clone, Copy)]
@@ -20,7 +21,7 @@ pub enum Sources<'a> {
 /// Where the words of `mud_check` say that the texts are: in two files, or in standard input where there
 /// are none but the program's name, which is the first.
 pub fn sources_of<'a>(alloc: Global, words: &'a [String]) -> Result<Sources<'a>, CommandFault> {
-    match command_of(alloc, &FORM) {
+    match command(alloc) {
         Ok(mut command) => sources_from(alloc, &mut command, words),
         Err(_) => Err(CommandFault::OutOfMemory),
     }
@@ -52,6 +53,11 @@ fn sources_in<'a>(matches: &ArgMatches<'a>) -> Option<Sources<'a>> {
 }
 
 // The command line that is understood.
+fn command<'a>(alloc: Global) -> Result<Command<'a>, AllocError> {
+    Ok(command_of(alloc, &FORM)?.version(VERSION))
+}
+
+// What is judged.
 static FORM: Form<'static> = Form {
     name: "mud_check",
     about: "Tries a certificate against a history; without files it reads the history's text and then the \

@@ -18,6 +18,7 @@
 //! ```
 #![tactic(auto)]
 
+pub mod laws;
 mod sink;
 mod source;
 

@@ -70,7 +70,8 @@ impl<R: Read> Source<R> {
         result
     }
 
-    /// Reads all that is left, like `Read::read_to_end`. Where memory runs out the reader has not failed.
+    /// Reads all that is left, like `Read::read_to_end`. Where memory runs out the reader has not failed. After an
+    /// error nothing is promised of `input` or of what is left: callers drop both.
     pub fn read_to_end(&mut self, input: &mut Vec<u8>) -> io::Result<usize>
         requires no_end { self.old.at_end ≡ false }
         ensures bytes { OnOk result (IfSome self.old.left (λ bytes. input.new.items ≡ input.old.items ++ bytes)) }

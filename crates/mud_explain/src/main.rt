@@ -23,7 +23,7 @@ use crate::explain::{ExplainFault, explain};
 use crate::hall::explain_hall;
 use mud_command::{CommandFault, Opening, Subject, Task, show, task_of, words_of};
 use mud_ends::{Sink, Source};
-use std::io::{self, Eprint};
+use std::io::{self, Eprint, Print};
 use std::process::ExitCode;
 use std::rt::Runtime;
 use std::sync::Wait;
@@ -71,10 +71,14 @@ fn run_hall<R: Runtime + AllocGlobal + Wait>(
     explain_hall(rt, opening, &mut source, &mut sink)
 }
 
-// Says why the words ask for nothing, and answers the status.
-fn tell_fault<R: Eprint>(rt: &R, fault: CommandFault) -> ExitCode {
+// Says why the words ask for nothing, or what they ask to be told, and answers the status.
+fn tell_fault<R: Print + Eprint>(rt: &R, fault: CommandFault) -> ExitCode {
     match fault {
         CommandFault::OutOfMemory => tell_stop(rt, ExplainFault::OutOfMemory),
+        CommandFault::Asked(text) => match print!(rt; "{text}") {
+            Ok(()) => ExitCode::SUCCESS,
+            Err(_) => tell_stop(rt, ExplainFault::Write),
+        },
         CommandFault::Told(text) => ExitCode::from(show(rt, text.as_str())),
     }
 }

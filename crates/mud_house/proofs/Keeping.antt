@@ -55,6 +55,13 @@ committed U (Ok x) old new es all added count now failed h n is adds more going 
 committed U (Err x) old new es all added count now failed h n is adds more going part fault =
     part_written old new es all added count now failed h n part is fault
 
+-- what a receipt says of what was written
+pub receipted : {R F : Type 0} (up_to : R → ℕ) (r : Result R F) (kept : Option Kept) (es : List Entry)
+    (count before : ℕ) (failed : Bool) → IsWritten es kept failed count → OnOk r (failed ≡ false)
+    → IfOk r (λ x. (count ≡ before) × (up_to x ≡ count)) → IfOk r (λ x. (up_to x ≡ length es) × Holds kept es)
+receipted up_to (Ok x) kept es count before failed w going more = (more.1 ∙ w.counted going, w.whole going)
+receipted up_to (Err e) kept es count before failed w going more = tt
+
 -- entries that were read and not written
 pub unwritten : (kept : Option Kept) (es all : List Entry) (now : ℕ) (failed : Bool) → Holds kept es
     → IsPrefix es all → failed ≡ true → IsWritten all kept failed now

@@ -5,7 +5,7 @@ use crate::options::bound_waits;
 use crate::ready::wait_for_either;
 use crate::resting::rest;
 use libc::{EBADF, EINVAL, ENOTSOCK};
-use log::{Log, warn};
+use log::{Log, error, warn};
 use mud_wire::Entrance;
 use std::io::{Error, ErrorKind};
 use std::net::{SocketAddr, TcpListener, TcpStream};
@@ -41,6 +41,14 @@ pub enum Arrival {
 // Whether a listener can never give a connection again: it is closed, or none.
 fn is_for_good(error: &Error) -> bool {
     matches!(error.raw_os_error(), Some(EBADF | EINVAL | ENOTSOCK))
+}
+
+// By which way a connection would have come.
+fn way(entrance: Entrance) -> &'static str {
+    match entrance {
+        Entrance::Telnet => "by Telnet",
+        Entrance::Web => "from a browser",
+    }
 }
 
 // Whether each call of the listener, if there is one, waits a moment only.
@@ -104,7 +112,10 @@ impl Arrivals {
                     Entrance::Web => Arrival::Web(stream, peer),
                 }
             }
-            Err(error) if is_for_good(&error) => Arrival::Never,
+            Err(error) if is_for_good(&error) => {
+                error!(rt; "no connection can be taken any more {}: {error}", way(entrance));
+                Arrival::Never
+            }
             Err(error) => {
                 self.pass_over(rt, &error);
                 Arrival::Nobody

@@ -5,7 +5,7 @@ ghost use Rattle.mud_ends.specs.Ends.{Writer};
 ghost use Rattle.mud_chron.specs.Entry.{Entry};
 ghost use Rattle.mud_world.specs.declared.limits.TheConstants.{MOST_ENTRIES};
 ghost use mathlib.Core.List.{IsPrefix};
-ghost use Rattle.mud_hall.specs.Settlement.{IsGathered};
+ghost use Rattle.mud_hall.specs.Settlement.{IsSettled};
 ghost use Rattle.mud_hall.specs.Steps.{AreLoadable};
 ghost use Rattle.mud_journal.specs.Disk.{Holds};
 ghost use Rattle.mud_house.specs.Listener.{MayEnd, IsListenFault};
@@ -32,7 +32,7 @@ pub fn settle<J: HallName, R: Wait>(
     requires few { length desks.items ≤ limits.sessions }
     requires capacity { limits.capacity ≤ MOST_ENTRIES }
     ensures ends { IfOk result (λ history. MayEnd limits J.loaded history) }
-    ensures gathered { IfOk result (λ history. IsGathered J.loaded desks.items history) }
+    ensures settled { IfOk result (λ history. IsSettled J.loaded desks.items history) }
     ensures fault { IfErr result (λ f. (capacity : ℕ) (loaded : List Entry) (old new : Writer)
         → IsListenFault capacity loaded old new f) }
 {

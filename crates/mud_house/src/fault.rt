@@ -1,7 +1,7 @@
 //! Why a server ended.
 
 use mud_hall::{CloseFault, LoadFault};
-use mud_journal::JournalFault;
+use mud_journal::{JournalFault, OpenFault};
 use std::alloc::AllocError;
 use thiserror::Error;
 
@@ -23,6 +23,9 @@ pub enum ListenFault {
     /// The hall does not go on from what was loaded.
     #[error("cannot load: {0}")]
     Load(LoadFault),
+    /// The journal can't be written anew: it is what it was, or has all that was loaded.
+    #[error("cannot open journal: {0}")]
+    Open(OpenFault),
     /// The journal takes no more, or is not what the desks made.
     #[error("journal fault: {0}")]
     Journal(JournalFault),
@@ -36,6 +39,17 @@ impl From<JournalFault> for ListenFault {
 
     fn from(f: JournalFault) -> ListenFault {
         ListenFault::Journal(f)
+    }
+}
+
+impl From<OpenFault> for ListenFault {
+    ghost use Rattle.std.specs.Prelude.{◌≡◌};
+    ghost use Rattle.mud_house.specs.declared.fault.ListenFault.TheVariants.{Open};
+
+    ghost from_gives = { λ f e. e ≡ Open f };
+
+    fn from(f: OpenFault) -> ListenFault {
+        ListenFault::Open(f)
     }
 }
 

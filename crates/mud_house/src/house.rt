@@ -37,8 +37,8 @@ pub struct Bells {
 }
 
 /// A hall, the places for its sessions, their bells, who has no session yet, what the server keeps to, how far the
-/// journal is synced, how many places are taken, how many sessions became a player's, whether all are to end, and
-/// whether the host was warned that the history is nearly full.
+/// journal is synced, who chooses a desk, how many places are taken, how many sessions became a player's, whether all
+/// are to end, and whether the host was warned that the history is nearly full.
 ///
 /// There is one kind, `HouseOf` of `mud_threads`. The hall, the places and the bells have parameters of their own,
 /// since the prover's search gives up within so deep a type: that threads may share a house is a lemma over its parts.
@@ -50,6 +50,8 @@ pub struct House<H, D, B> {
     pub lobby: Lobby,
     pub limits: Limits,
     pub gate: Gate,
+    // Who holds it chooses a desk; the locks of places come after it.
+    choosing: Mutex<()>,
     taken: AtomicU32,
     players: AtomicU32,
     stops: AtomicBool,
@@ -138,6 +140,7 @@ impl<J: HallName> House<Hall<J>, Places<J>, Bells> {
             lobby: Lobby::new(alloc, site)?,
             limits,
             gate,
+            choosing: Mutex::new(()),
             taken: AtomicU32::new(0),
             players: AtomicU32::new(0),
             stops: AtomicBool::new(false),
@@ -184,16 +187,46 @@ impl<J: HallName> House<Hall<J>, Places<J>, Bells> {
         count
     }
 
-    /// The desk of a place, or a new one where it has none.
+    /// The free desk of the lowest number for the session at a place, or a new one where none is free.
     pub fn desk<R: Wait>(&self, rt: &R, at: usize) -> Result<Desk<J>, Fault> {
-        let kept = match self.places.list.get(at) {
-            Some(place) => place.lock(rt).take_desk(),
-            None => None,
-        };
-        match kept {
+        let _choice = self.choosing.lock(rt);
+        match self.take_lowest(rt, at) {
             Some(desk) => Ok(desk),
             None => self.hall.desk(rt),
         }
+    }
+
+    // Takes the free desk of the lowest number, if there is one. A desk that this place keeps goes where that was: so
+    // a place whose session has a desk keeps none.
+    fn take_lowest<R: Wait>(&self, rt: &R, at: usize) -> Option<Desk<J>> {
+        let lowest = self.place_of_lowest(rt)?;
+        let desk = self.take_kept(rt, lowest);
+        if lowest != at
+            && let Some(own) = self.take_kept(rt, at)
+        {
+            self.keep(rt, lowest, own);
+        }
+        desk
+    }
+
+    // The place that keeps the free desk of the lowest number, if one is free.
+    fn place_of_lowest<R: Wait>(&self, rt: &R) -> Option<usize> {
+        let mut found = None;
+        let mut least = u32::MAX;
+        for (at, place) in self.places.list.iter().enumerate() {
+            if let Some(number) = place.lock(rt).desk_number()
+                && number < least
+            {
+                found = Some(at);
+                least = number;
+            }
+        }
+        found
+    }
+
+    // The desk that a place keeps, which keeps it no more.
+    fn take_kept<R: Wait>(&self, rt: &R, at: usize) -> Option<Desk<J>> {
+        self.places.list.get(at)?.lock(rt).take_desk()
     }
 
     /// Whether no place is taken.
@@ -253,7 +286,7 @@ impl<J: HallName> House<Hall<J>, Places<J>, Bells> {
         }
     }
 
-    /// Keeps the desk of a session that has ended: it serves the next at this place.
+    /// Keeps the desk of a session that has ended: it may serve another.
     pub fn keep<R: Wait>(&self, rt: &R, at: usize, desk: Desk<J>) {
         if let Some(place) = self.places.list.get(at) {
             place.lock(rt).keep(desk);
@@ -285,6 +318,7 @@ impl<J: HallName> House<Hall<J>, Places<J>, Bells> {
             lobby: _,
             limits: _,
             gate: _,
+            choosing: _,
             taken: _,
             players: _,
             stops: _,

@@ -4,42 +4,145 @@ use crate::doors::Site;
 use crate::limits::Limits;
 use mud_wire::Wire;
 use std::alloc::{AllocError, Global};
-use std::sync::atomic::{AtomicBool, AtomicU32, Ordering};
+use std::net::IpAddr;
+use std::sync::atomic::{AtomicBool, AtomicU32, AtomicU64, Ordering};
 use std::sync::{Arc, Mutex, Wait};
+use std::time::Duration;
 
-// How many browsers may be heard at once.
-const MOST_HEARD: u32 = 32;
+// How many browsers have a chair at once.
+const CHAIRS: u32 = 32;
+
+// How many browsers are heard at once, those that gave their chair to another and have not left yet among them.
+const MOST_HEARD: u32 = 64;
+
+// As many connections as a browser opens to one server at once: an address has no fewer chairs, whatever its limit.
+const CONNECTIONS: u32 = 6;
+
+/// A browser that is heard: its socket, its address, and how many came before it.
+#[derive(Drop)]
+struct Head {
+    wire: Arc<Wire>,
+    address: IpAddr,
+    number: u64,
+}
 
 /// The browsers that are heard, each in a chair of its own, and how many sessions have begun or are about to.
 #[derive(Drop)]
 pub struct Lobby {
     site: Option<Site>,
-    // Each has a lock of its own, under which nothing else is locked.
-    chairs: Vec<Mutex<Option<Arc<Wire>>>>,
+    // Under it nothing else is locked.
+    chairs: Mutex<Vec<Option<Head>>>,
+    came: AtomicU64,
+    heard: AtomicU32,
     started: AtomicU32,
     begun: AtomicU32,
     is_closed: AtomicBool,
+    // In which second it was told last that somebody sent a request by Telnet; 0: in none.
+    told: AtomicU64,
 }
 
 // This many free chairs.
-fn free_chairs(alloc: Global, count: u32) -> Result<Vec<Mutex<Option<Arc<Wire>>>>, AllocError> {
+fn free_chairs(alloc: Global, count: u32) -> Result<Vec<Option<Head>>, AllocError> {
     let mut chairs = Vec::new(alloc);
     for _ in 0..count {
-        chairs.push(Mutex::new(None))?;
+        chairs.push(None)?;
     }
     Ok(chairs)
+}
+
+// How many browsers came before the one at a chair, if there is one.
+fn number_of(seat: &Option<Head>) -> Option<u64> {
+    match seat {
+        Some(head) => Some(head.number),
+        None => None,
+    }
+}
+
+// How many of the chairs are of this address.
+fn count_of(chairs: &[Option<Head>], address: IpAddr) -> u32 {
+    let mut count = 0u32;
+    for chair in chairs {
+        if let Some(head) = chair
+            && head.address == address
+        {
+            count = count.saturating_add(1);
+        }
+    }
+    count
+}
+
+// The free chair of the lowest number.
+fn free_chair(chairs: &[Option<Head>]) -> Option<usize> {
+    chairs.iter().position(|chair| chair.is_none())
+}
+
+// The chair of this address whose browser has waited longest.
+fn longest_of(chairs: &[Option<Head>], address: IpAddr) -> Option<usize> {
+    let mut longest = None;
+    let mut least = u64::MAX;
+    for (at, chair) in chairs.iter().enumerate() {
+        if let Some(head) = chair
+            && head.address == address
+            && head.number < least
+        {
+            longest = Some(at);
+            least = head.number;
+        }
+    }
+    longest
+}
+
+// The address that has the most chairs; of several such that of the browser which has waited longest.
+fn most_seated(chairs: &[Option<Head>]) -> Option<IpAddr> {
+    let mut seated = None;
+    let mut most = 0u32;
+    let mut least = u64::MAX;
+    for chair in chairs {
+        if let Some(head) = chair {
+            let count = count_of(chairs, head.address);
+            if most < count || (most == count && head.number < least) {
+                seated = Some(head.address);
+                most = count;
+                least = head.number;
+            }
+        }
+    }
+    seated
+}
+
+// The chair for one more browser of an address that has this many at most: a free one, or that of the browser which
+// has waited longest of the same address where that has as many, and else of the address that has the most.
+fn chair_for(chairs: &[Option<Head>], address: IpAddr, most: u32) -> Option<usize> {
+    if most <= count_of(chairs, address) {
+        return longest_of(chairs, address);
+    }
+    match free_chair(chairs) {
+        Some(at) => Some(at),
+        None => longest_of(chairs, most_seated(chairs)?),
+    }
+}
+
+// How many chairs one address may have.
+fn most_chairs(limits: &Limits) -> u32 {
+    match limits.per_address {
+        0 => CHAIRS,
+        most => most.max(CONNECTIONS),
+    }
 }
 
 impl Lobby {
     /// An empty lobby, with chairs only where there is a door on the web.
     pub fn new(alloc: Global, site: Option<Site>) -> Result<Lobby, AllocError> {
-        let count = if site.is_some() { MOST_HEARD } else { 0 };
+        let count = if site.is_some() { CHAIRS } else { 0 };
         Ok(Lobby {
             site,
-            chairs: free_chairs(alloc, count)?,
+            chairs: Mutex::new(free_chairs(alloc, count)?),
+            came: AtomicU64::new(0),
+            heard: AtomicU32::new(0),
             started: AtomicU32::new(0),
             begun: AtomicU32::new(0),
             is_closed: AtomicBool::new(false),
+            told: AtomicU64::new(0),
         })
     }
 
@@ -59,44 +162,77 @@ impl Lobby {
         }
     }
 
-    /// Takes a free chair for a browser that is to be heard, if there is one and the lobby is open.
-    pub fn enter<R: Wait>(&self, rt: &R, wire: Arc<Wire>) -> Option<usize> {
+    /// Takes a chair for a browser of this address that is to be heard, if the lobby is open. Where none is free, or
+    /// the address has as many as it may have, a browser that has waited longer gives way, and its socket is shut. None
+    /// where those who gave way have not left yet. The chair is named by how many browsers came before.
+    pub fn enter<R: Wait>(
+        &self,
+        rt: &R,
+        wire: Arc<Wire>,
+        address: IpAddr,
+        limits: &Limits,
+    ) -> Option<u64> {
         if self.is_closed.load(Ordering::SeqCst) {
             return None;
         }
-        for (at, chair) in self.chairs.iter().enumerate() {
-            let mut chair = chair.lock(rt);
-            if chair.is_none() {
-                *chair = Some(wire);
-                return Some(at);
-            }
+        if self.heard.fetch_add(1, Ordering::SeqCst) >= MOST_HEARD {
+            self.heard.fetch_sub(1, Ordering::SeqCst);
+            return None;
         }
-        None
+        let chair = self.seat(rt, wire, address, limits);
+        if chair.is_none() {
+            self.heard.fetch_sub(1, Ordering::SeqCst);
+        }
+        chair
     }
 
-    /// The browser at this chair was heard: the chair is free.
-    pub fn leave<R: Wait>(&self, rt: &R, at: usize) {
-        if let Some(chair) = self.chairs.get(at) {
-            *chair.lock(rt) = None;
+    // Gives a browser the chair that is for it, and sends away who had it.
+    fn seat<R: Wait>(
+        &self,
+        rt: &R,
+        wire: Arc<Wire>,
+        address: IpAddr,
+        limits: &Limits,
+    ) -> Option<u64> {
+        let number = self.came.fetch_add(1, Ordering::SeqCst);
+        let head = Head {
+            wire,
+            address,
+            number,
+        };
+        let mut chairs = self.chairs.lock(rt);
+        let at = chair_for(chairs.as_slice(), address, most_chairs(limits))?;
+        let seat = chairs.get_mut(at)?;
+        if let Some(former) = seat.take() {
+            former.wire.shut();
         }
+        *seat = Some(head);
+        Some(number)
+    }
+
+    /// The browser of this number was heard: its chair is free, unless it was given to another.
+    pub fn leave<R: Wait>(&self, rt: &R, number: u64) {
+        let mut chairs = self.chairs.lock(rt);
+        for chair in chairs.iter_mut() {
+            if number_of(chair) == Some(number) {
+                *chair = None;
+            }
+        }
+        self.heard.fetch_sub(1, Ordering::SeqCst);
     }
 
     /// Whether nobody is heard.
-    pub fn is_empty<R: Wait>(&self, rt: &R) -> bool {
-        for chair in &self.chairs {
-            if chair.lock(rt).is_some() {
-                return false;
-            }
-        }
-        true
+    pub fn is_empty(&self) -> bool {
+        self.heard.load(Ordering::SeqCst) == 0
     }
 
     /// No session may begin any more but those that are about to, and who is heard is sent away.
     pub fn close<R: Wait>(&self, rt: &R) {
         self.is_closed.store(true, Ordering::SeqCst);
-        for chair in &self.chairs {
-            if let Some(wire) = &*chair.lock(rt) {
-                wire.shut();
+        let chairs = self.chairs.lock(rt);
+        for chair in chairs.iter() {
+            if let Some(head) = chair {
+                head.wire.shut();
             }
         }
     }
@@ -131,5 +267,11 @@ impl Lobby {
     /// How many sessions have begun, where they count for a total.
     pub fn begun_count(&self) -> u32 {
         self.begun.load(Ordering::SeqCst)
+    }
+
+    /// Whether the log is to say now that somebody sent a request by Telnet: once in each second of the clock.
+    pub fn is_to_tell(&self, now: Duration) -> bool {
+        let second = now.as_secs().saturating_add(1);
+        self.told.swap(second, Ordering::SeqCst) != second
     }
 }

@@ -1,7 +1,10 @@
 //! A place for one session at a time.
 
+ghost use Rattle.std.specs.Prelude.{◌≡◌};
+ghost use Rattle.mud_house.specs.Places.{no_place_line, no_place_close};
+
 use mud_hall::{Desk, HallName};
-use mud_web::Refusal;
+use mud_web::Ending as Close;
 use std::net::IpAddr;
 
 /// Why there is no place for a connection.
@@ -14,24 +17,28 @@ pub enum NoPlace {
 }
 
 impl NoPlace {
-    /// What the connection is told.
-    pub fn line(self) -> &'static str {
+    /// What the connection is told by Telnet.
+    pub fn line(self) -> &'static str
+        ensures { result.now ≡ no_place_line self }
+    {
         match self {
             NoPlace::Full => "(server full)\r\n",
             NoPlace::TooMany => "(too many sessions)\r\n",
         }
     }
 
-    /// What a browser is answered.
-    pub fn refusal(self) -> Refusal {
+    /// How the web socket of a browser is closed, which was let in only to be told so.
+    pub fn close(self) -> Close
+        ensures { result ≡ no_place_close self }
+    {
         match self {
-            NoPlace::Full => Refusal::Unavailable,
-            NoPlace::TooMany => Refusal::TooMany,
+            NoPlace::Full => Close::ServerFull,
+            NoPlace::TooMany => Close::TooManySessions,
         }
     }
 }
 
-/// A place for one session at a time: the address of the session that has it, and the desk of the last session.
+/// A place for one session at a time: the address of the session that has it, and a desk that no session has.
 #[derive(Drop)]
 pub struct Place<J: HallName> {
     address: Option<IpAddr>,
@@ -57,12 +64,17 @@ impl<J: HallName> Place<J> {
         self.address
     }
 
-    /// The desk that it keeps, for its session.
+    /// The number of the desk that it keeps.
+    pub fn desk_number(&self) -> Option<u32> {
+        self.desk.as_ref().map(|desk| desk.number())
+    }
+
+    /// The desk that it keeps, for a session.
     pub fn take_desk(&mut self) -> Option<Desk<J>> {
         self.desk.take()
     }
 
-    /// Keeps a desk for the next session.
+    /// Keeps a desk, which no session has.
     pub fn keep(&mut self, desk: Desk<J>) {
         self.desk = Some(desk);
     }

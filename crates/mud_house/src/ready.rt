@@ -1,5 +1,8 @@
 //! Which of two listeners has a connection.
 
+ghost use Rattle.std.specs.Prelude.{◌≡◌};
+ghost use Rattle.mud_house.specs.inner.Turns.{turn_of};
+
 use crate::options::ACCEPT_MILLISECONDS;
 use libc::net::{POLLIN, poll};
 use libc::types::pollfd;
@@ -10,13 +13,15 @@ use std::os::fd::AsRawFd;
 /// Which of the two listeners has a connection, or a fault.
 #[derive(Clone, Copy)]
 pub struct Readiness {
-    telnet: bool,
-    web: bool,
+    pub telnet: bool,
+    pub web: bool,
 }
 
 impl Readiness {
     /// Where a connection is to be taken, if there is one; of two on the web only if that is next.
-    pub fn turn(self, is_web_next: bool) -> Option<Entrance> {
+    pub fn turn(self, is_web_next: bool) -> Option<Entrance>
+        ensures { result ≡ turn_of self.telnet self.web is_web_next }
+    {
         match (self.telnet, self.web) {
             (false, false) => None,
             (true, false) => Some(Entrance::Telnet),

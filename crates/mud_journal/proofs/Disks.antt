@@ -6,7 +6,7 @@ use Rattle.std.proofs.lemmas.List.{length-append}
 use Rattle.mud_chron.specs.declared.format.Format.TheVariants.{Two}
 use Rattle.mud_chron.specs.Entry.{Entry}
 use Rattle.mud_chron.specs.Text.{entries_text, journal_text}
-use Rattle.mud_journal.specs.Disk.{Kept, Grows, Syncs, Stays, Holds, Adds, AddsInPart}
+use Rattle.mud_journal.specs.Disk.{Kept, Grows, Syncs, Stays, IsMade, Holds, Adds, AddsInPart}
 use Rattle.mud_journal.proofs.Grown.{journal_text-append}
 
 -- ---- more entries
@@ -24,6 +24,16 @@ grown : (k m : Kept) (es news : List Entry) (count : ℕ) (text : List ℕ) → 
     → m.appended ≡ journal_text Two (es ++ news)
 grown k m es news count text is n g h =
     g.0 ∙ ap (λ t. t ++ text) h.0 ∙ ap (λ t. journal_text Two es ++ t) is ∙ sym (counted es news count n)
+
+-- a new file of the text that was found and of more lines
+pub begun : (k : Option Kept) (had more : List Entry) (count : ℕ) (text bytes : List ℕ) → length had ≡ count
+    → text ≡ journal_text Two had → bytes ≡ text ++ entries_text (count + 1) more → IsMade k bytes
+    → Holds k (had ++ more)
+begun None had more count text bytes n is all m = tt
+begun (Some k) had more count text bytes n is all m =
+    let whole : bytes ≡ journal_text Two (had ++ more) =
+    all ∙ ap (λ t. t ++ entries_text (count + 1) more) is ∙ sym (counted had more count n) in
+    (m.0 ∙ whole, m.1 ∙ whole)
 
 -- an append and a sync
 pub added : (a b c : Option Kept) (count : ℕ) (news : List Entry) (text : List ℕ)

@@ -1,3 +1,5 @@
 mod Grown
 pub mod Disks
+mod Zeros
+mod Finding
 mod Crashes

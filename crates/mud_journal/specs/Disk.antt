@@ -1,10 +1,11 @@
 -- What a disk keeps of a file that grows, what a crash leaves of it, and which journal it holds.
-use Rattle.std.specs.Prelude.{◌≡◌, ◌≤◌, ◌⊎◌, ℕ, List, [], ◌++◌, length, take, Option, Some, None, IfSome}
+use Rattle.std.specs.Prelude.{◌≡◌, ◌≤◌, ◌⊎◌, ℕ, List, [], ◌∷◌, ◌++◌, length, take, Option, Some, None, IfSome}
+use mathlib.Core.List.{IsPrefix}
 use Rattle.mud_chron.specs.declared.format.Format.TheVariants.{Two}
 use Rattle.mud_chron.specs.Entry.{Entry}
 use Rattle.mud_chron.specs.Text.{journal_text}
 
--- what was appended to the file, and what of it is synced
+-- what this process wrote to the file, and what of it is synced
 pub record Kept : Type 0 where
   pub appended : List ℕ
   pub synced : List ℕ
@@ -25,34 +26,31 @@ abbrev pub Syncs : Option Kept → Option Kept → Type 0
 Syncs old new =
     Becomes (λ before after. (after.appended ≡ before.appended) × (after.synced ≡ before.appended)) old new
 
--- the first bytes, this many, are left, and synced
-abbrev pub Cuts : Option Kept → Option Kept → ℕ → Type 0
-Cuts old new keep =
-    Becomes (λ before after. (after.appended ≡ take keep before.appended) × (after.synced ≡ take keep before.appended))
-    old new
-
--- the first bytes, this many, are as they were
-abbrev pub KeepsFront : Option Kept → Option Kept → ℕ → Type 0
-KeepsFront old new keep = Becomes (λ before after. take keep after.appended ≡ take keep before.appended) old new
-
 -- nothing has changed
 abbrev pub Stays : Option Kept → Option Kept → Type 0
 Stays old new = Becomes (λ before after. (after.appended ≡ before.appended) × (after.synced ≡ before.synced)) old new
 
--- a crash leaves a front of what was appended, and at least what was synced
+-- a file of these bytes, all of them written by this process and synced
+abbrev pub made : List ℕ → Kept
+made bytes = record { appended = bytes; synced = bytes }
+
+-- the file is such a one
+abbrev pub IsMade : Option Kept → List ℕ → Type 0
+IsMade kept bytes = IfSome kept (λ disk. (disk.appended ≡ bytes) × (disk.synced ≡ bytes))
+
+-- each byte is there as it was written, or a zero is in its place; behind what was written stand zeros
+abbrev pub AreThere : List ℕ → List ℕ → Type 0
+AreThere written [] = Unit {0}
+AreThere [] (b ∷ bytes) = (b ≡ 0) × AreThere [] bytes
+AreThere (a ∷ written) (b ∷ bytes) = ((b ≡ a) ⊎ (b ≡ 0)) × AreThere written bytes
+
+-- a crash leaves what was synced; behind it, up to any length, each byte that was written, or a zero
 abbrev pub IsLeft : Option Kept → List ℕ → Type 0
-IsLeft kept bytes =
-    IfSome kept (λ disk. (n : ℕ) × (length disk.synced ≤ n) × (bytes ≡ take n disk.appended))
+IsLeft kept bytes = IfSome kept (λ disk. IsPrefix disk.synced bytes × AreThere disk.appended bytes)
 
 -- the file is the text of a journal of these entries, all of it synced
 abbrev pub Holds : Option Kept → List Entry → Type 0
-Holds kept entries =
-    IfSome kept (λ disk. (disk.appended ≡ journal_text Two entries) × (disk.synced ≡ journal_text Two entries))
-
--- the first bytes of the file, this many, are the text of a journal of these entries; or there are none of either
-abbrev pub Begins : Option Kept → ℕ → List Entry → Type 0
-Begins kept keep entries =
-    IfSome kept (λ disk. (take keep disk.appended ≡ journal_text Two entries) ⊎ (keep ≡ 0) × (entries ≡ []))
+Holds kept entries = IsMade kept (journal_text Two entries)
 
 -- the text of a journal of the first entries is synced, and a front of the text of all that were written is there
 abbrev pub HoldsFront : Option Kept → List Entry → List Entry → Type 0

@@ -1,3 +1,4 @@
 pub mod Disk
+pub mod Found
 pub mod OpenFaults
 pub mod Laws

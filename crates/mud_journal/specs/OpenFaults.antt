@@ -1,19 +1,40 @@
 -- Why there is no journal to go on from in the bytes of a file.
-use Rattle.std.specs.Prelude.{ℕ, List}
-use Rattle.mud_chron.specs.declared.fault.ChronFault.TheVariants as fault
+use Rattle.std.specs.Prelude.{ℕ, ◌<◌, List, Option, IfSome}
+use Rattle.mud_world.specs.declared.limits.TheConstants.{MOST_ENTRIES}
 use Rattle.mud_chron.specs.declared.format.Format.TheVariants.{One}
 use Rattle.mud_chron.specs.Entry.{Entry}
 use Rattle.mud_chron.specs.History.{SpellsHistory}
-use Rattle.mud_chron.specs.Fronts.{Recovers, HasFrontFault}
+use Rattle.mud_chron.specs.Faults.{IsNoHistory, IsTooLong, HasOtherLine}
+use Rattle.mud_chron.specs.Fronts.{Recovers}
+use Rattle.mud_journal.specs.Found.{up_to_zero, IsBlank}
 use Rattle.mud_journal.specs.declared.fault.OpenFault.{OpenFault}
 use Rattle.mud_journal.specs.declared.fault.OpenFault.TheVariants.{OutOfMemory, NotHistory, Whole, Old, Line, TooLong}
+use Rattle.mud_journal.specs.declared.fault.OpenFault.TheVariants.{File}
 
--- the fault of the bytes, unless memory ran out; a file has further faults, which are none of its bytes
+-- the fault of the bytes before the first zero, unless memory ran out; a file has further faults, none of its bytes
+abbrev pub IsRefusedIn : List ℕ → OpenFault → Type 0
+IsRefusedIn bytes OutOfMemory = Unit {0}
+IsRefusedIn bytes NotHistory = IsNoHistory bytes
+IsRefusedIn bytes Whole = (entries : List Entry) × SpellsHistory bytes entries
+IsRefusedIn bytes Old = (entries : List Entry) × (keep : ℕ) × Recovers bytes One entries keep
+IsRefusedIn bytes (Line n) = HasOtherLine bytes n
+IsRefusedIn bytes TooLong = IsTooLong bytes
+IsRefusedIn bytes other = ⊥
+
+-- the fault of bytes in which a journal was begun, or something else
 abbrev pub IsRefusedAs : List ℕ → OpenFault → Type 0
-IsRefusedAs bytes OutOfMemory = Unit {0}
-IsRefusedAs bytes NotHistory = HasFrontFault bytes fault.NotHistory
-IsRefusedAs bytes Whole = (entries : List Entry) × SpellsHistory bytes entries
-IsRefusedAs bytes Old = (entries : List Entry) × (keep : ℕ) × Recovers bytes One entries keep
-IsRefusedAs bytes (Line n) = HasFrontFault bytes (fault.BadLine n)
-IsRefusedAs bytes TooLong = HasFrontFault bytes fault.TooLong
-IsRefusedAs bytes other = ⊥
+IsRefusedAs bytes NotHistory = IsNoHistory bytes × (IsBlank bytes → ⊥)
+IsRefusedAs bytes fault = IsRefusedIn (up_to_zero bytes) fault
+
+-- the fault of the bytes of a reader, as far as they are known, or of a read
+abbrev pub IsUnfoundAs : Option (List ℕ) → OpenFault → Type 0
+IsUnfoundAs known OutOfMemory = Unit {0}
+IsUnfoundAs known (File why) = Unit {0}
+IsUnfoundAs known fault = IfSome known (λ bytes. IsRefusedAs bytes fault)
+
+-- why no journal of this many entries is begun
+abbrev pub IsBeginFault : ℕ → OpenFault → Type 0
+IsBeginFault count OutOfMemory = Unit {0}
+IsBeginFault count (File why) = Unit {0}
+IsBeginFault count TooLong = MOST_ENTRIES < count
+IsBeginFault count other = ⊥

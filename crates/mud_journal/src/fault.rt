@@ -1,5 +1,8 @@
 //! Why there is no journal, and why a journal takes no more.
 
+ghost use Rattle.std.specs.Prelude.{ℕ, List, Option};
+ghost use Rattle.mud_journal.specs.OpenFaults.{IsUnfoundAs};
+
 use crate::disk::DiskFault;
 use std::alloc::{AllocError, AllocFailed};
 use std::io::{self, ErrorKind};
@@ -11,13 +14,16 @@ pub enum OpenFault {
     /// Memory ran out.
     #[error("out of memory")]
     OutOfMemory,
-    /// The file can't be opened, locked or read, or its directory can't be synced.
-    #[error("file")]
-    File,
+    /// The file can't be opened, locked or read, or a new one can't take its place.
+    #[error("file: {0}")]
+    File(DiskFault),
+    /// The name is that of a folder, a device, a pipe or a socket.
+    #[error("not a plain file")]
+    NotPlain,
     /// Another program has the file.
     #[error("in use")]
     InUse,
-    /// The text does not begin as a history.
+    /// The bytes do not begin as a history, or are more than a journal can have.
     #[error("not a history")]
     NotHistory,
     /// It is the text of a whole history: a journal has no last line.
@@ -36,10 +42,12 @@ pub enum OpenFault {
 
 impl OpenFault {
     // The fault of a call of the system.
-    pub(crate) fn of_file(error: &io::Error) -> OpenFault {
+    pub(crate) fn of_file(error: &io::Error) -> OpenFault
+        ensures { (known : Option (List ℕ)) → IsUnfoundAs known result }
+    {
         match error.kind() {
             ErrorKind::OutOfMemory => OpenFault::OutOfMemory,
-            _ => OpenFault::File,
+            _ => OpenFault::File(DiskFault::of(error)),
         }
     }
 }
@@ -52,6 +60,17 @@ impl From<AllocError> for OpenFault {
 
     fn from(_e: AllocError) -> OpenFault {
         OpenFault::OutOfMemory
+    }
+}
+
+impl From<DiskFault> for OpenFault {
+    ghost use Rattle.std.specs.Prelude.{◌≡◌};
+    ghost use Rattle.mud_journal.specs.declared.fault.OpenFault.TheVariants.{File};
+
+    ghost from_gives = { λ f e. e ≡ File f };
+
+    fn from(f: DiskFault) -> OpenFault {
+        OpenFault::File(f)
     }
 }
 

@@ -2,21 +2,63 @@
 
 ghost use Rattle.std.specs.Prelude.{◌≡◌, ◌≤◌, IfOk, length};
 ghost use Rattle.mud_world.specs.declared.limits.TheConstants.{MOST_ENTRIES};
+ghost use Rattle.mud_chron.specs.declared.format.Format.TheVariants.{Two};
+ghost use Rattle.mud_chron.specs.Text.{journal_text};
 
+use crate::disk::{Disk, DiskFault};
 use crate::fault::OpenFault;
 use crate::journal::Found;
-use crate::recovery::recover;
+use crate::recovery::found_in;
 use mud_chron::Entry;
-use std::fs::{File, OpenOptions, TryLockError};
-use std::io::{self, Read};
+use std::fs::{self, File, Metadata, OpenOptions, TryLockError};
+use std::io::{self, ErrorKind, Read, Write};
+use std::os::unix::fs::{MetadataExt, OpenOptionsExt, fchown};
+use std::os::unix::io::AsFd;
 use std::rt::Files;
 
-// The directory of a file.
+// Who makes a new journal may read and write it, and nobody else.
+const NEW_MODE: u32 = 0o600;
+
+// More bytes than any journal has: 65,536 entries of some 1,000 each are half of it.
+const MOST_BYTES: u64 = 134_217_728;
+
+/// The file of a journal by its name, which this process alone has.
+#[derive(Drop)]
+pub struct JournalFile<'r, R: Files<File = File>> {
+    rt: &'r R,
+    file: File,
+    // No symbolic link.
+    name: String,
+    // Where a new text is written before it takes the name.
+    beside: String,
+}
+
+// The folder of a file.
 fn folder(name: &str) -> &str {
     match name.rsplit_once('/') {
         Some(("", _)) => "/",
         Some((folder, _)) => folder,
         None => ".",
+    }
+}
+
+// Whether a file can be a journal by its kind and length.
+fn check_kind(about: &Metadata) -> Result<(), OpenFault> {
+    if !about.is_file() {
+        return Err(OpenFault::NotPlain);
+    }
+    if about.len() > MOST_BYTES {
+        return Err(OpenFault::NotHistory);
+    }
+    Ok(())
+}
+
+// The same of what has a name, if there is something: to open it may wait without end.
+fn check_name(rt: &impl Files, name: &str) -> Result<(), OpenFault> {
+    match fs::metadata(rt, name) {
+        Ok(about) => check_kind(&about),
+        Err(error) if error.kind() == ErrorKind::NotFound => Ok(()),
+        Err(error) => Err(OpenFault::of_file(&error)),
     }
 }
 
@@ -26,47 +68,156 @@ fn open_file<R: Files<File = File>>(rt: &R, name: &str) -> io::Result<File> {
         .read(true)
         .append(true)
         .create(true)
+        .mode(NEW_MODE)
         .open(rt, name)
 }
 
-// Has the file for this program only.
+// Has the file for this process only.
 fn lock(file: &File) -> Result<(), OpenFault> {
     match file.try_lock() {
         Ok(()) => Ok(()),
         Err(TryLockError::WouldBlock) => Err(OpenFault::InUse),
-        Err(TryLockError::Error(error)) => Err(OpenFault::of_file(&error)),
+        Err(TryLockError::Error(_)) => Err(OpenFault::File(DiskFault::NoLocks)),
     }
 }
 
-// All bytes of the file. That there is such a file outlives a crash.
-fn read_file<R: Files<File = File> + AllocGlobal>(
-    rt: &R,
-    file: &mut File,
-    name: &str,
-) -> io::Result<Vec<u8>> {
-    let mut bytes = Vec::new(rt.alloc());
-    file.read_to_end(&mut bytes)?;
-    File::open(rt, folder(name))?.sync_all()?;
-    Ok(bytes)
+// The name of the file itself, where the last part of a name is a symbolic link.
+fn resolved<R: Files + AllocGlobal>(rt: &R, name: &str) -> io::Result<String> {
+    if fs::symlink_metadata(rt, name)?.is_symlink() {
+        let path = fs::canonicalize(rt, name)?;
+        return Ok(String::from_str(rt.alloc(), path.as_str())?);
+    }
+    Ok(String::from_str(rt.alloc(), name)?)
 }
 
-/// Opens the file of this name, which may be new, and has it for this program only. Answers what [`recover`] finds in
-/// its bytes: the journal, its entries, and how many bytes at its end are torn. No byte of the file changes.
-pub fn find_journal<R: Files<File = File> + AllocGlobal>(
-    rt: &R,
+// Whether the name is that of the open file: between the opening and the lock another process may have replaced it.
+fn is_named<R: Files<File = File>>(rt: &R, file: &File, name: &str) -> io::Result<bool> {
+    let (named, opened) = (fs::symlink_metadata(rt, name)?, file.metadata()?);
+    Ok(named.dev() == opened.dev() && named.ino() == opened.ino())
+}
+
+// Removes a file, if it is there.
+fn remove(rt: &impl Files, name: &str) -> io::Result<()> {
+    match fs::remove_file(rt, name) {
+        Err(error) if error.kind() != ErrorKind::NotFound => Err(error),
+        _ => Ok(()),
+    }
+}
+
+// Gives a new file the mode of an old one, and its owner where this process may.
+fn take_after(old: &File, new: &File) -> io::Result<()> {
+    let about = old.metadata()?;
+    let _ = fchown(new.as_fd(), Some(about.uid()), Some(about.gid()));
+    new.set_permissions(about.permissions())
+}
+
+impl<'r, R: Files<File = File> + AllocGlobal> JournalFile<'r, R> {
+    // The open file of this name.
+    fn new(rt: &'r R, file: File, name: &str) -> io::Result<JournalFile<'r, R>> {
+        let name = resolved(rt, name)?;
+        let beside = format!(in rt.alloc(); "{name}.start")?;
+        Ok(JournalFile {
+            rt,
+            file,
+            name,
+            beside,
+        })
+    }
+}
+
+impl<R: Files<File = File>> JournalFile<'_, R> {
+    // Writes these bytes to a new file beside the old one, and gives it the name once they are synced. It is locked
+    // before that, as the old one is.
+    fn write_beside(&self, bytes: &[u8]) -> io::Result<File> {
+        let (rt, beside) = (self.rt, self.beside.as_str());
+        remove(rt, beside)?;
+        let mut new = OpenOptions::new()
+            .append(true)
+            .create_new(true)
+            .mode(NEW_MODE)
+            .open(rt, beside)?;
+        take_after(&self.file, &new)?;
+        new.try_lock()?;
+        new.write_all(bytes)?;
+        new.sync_all()?;
+        fs::rename(rt, beside, self.name.as_str())?;
+        Ok(new)
+    }
+
+    // Waits until the name of the file outlives a crash.
+    fn sync_name(&self) -> io::Result<()> {
+        File::open(self.rt, folder(self.name.as_str()))?.sync_all()
+    }
+}
+
+impl<R: Files<File = File>> Read for JournalFile<'_, R> {
+    fn read(&mut self, buf: &mut [u8]) -> io::Result<usize> {
+        self.file.read(buf)
+    }
+}
+
+/// A file of the system, of which nothing is claimed.
+impl<R: Files<File = File>> Disk for JournalFile<'_, R> {
+    ghost use Rattle.std.specs.Prelude.{None};
+
+    ghost kept = { λ _. None };
+
+    ghost may_leave = { λ _ _. Unit {0} };
+
+    ghost left = { λ _ _ _. tt };
+
+    fn replace(&mut self, bytes: &[u8]) -> Result<(), DiskFault> {
+        match self.write_beside(bytes) {
+            Ok(new) => self.file = new,
+            Err(error) => {
+                let _ = remove(self.rt, self.beside.as_str());
+                return Err(DiskFault::of(&error));
+            }
+        }
+        self.sync_name().map_err(|error| DiskFault::of(&error))
+    }
+
+    fn append(&mut self, bytes: &[u8]) -> Result<(), DiskFault> {
+        self.file
+            .write_all(bytes)
+            .map_err(|error| DiskFault::of(&error))
+    }
+
+    fn sync(&mut self) -> Result<(), DiskFault> {
+        self.file.sync_data().map_err(|error| DiskFault::of(&error))
+    }
+}
+
+// The file of this name, which this process alone has from now on.
+fn take_file<'r, R: Files<File = File> + AllocGlobal>(
+    rt: &'r R,
     name: &str,
-) -> Result<(Found<File>, Vec<Entry>, usize), OpenFault>
+) -> Result<JournalFile<'r, R>, OpenFault> {
+    check_name(rt, name)?;
+    let taken = open_file(rt, name).map_err(|error| OpenFault::of_file(&error))?;
+    let about = taken
+        .metadata()
+        .map_err(|error| OpenFault::of_file(&error))?;
+    check_kind(&about)?;
+    lock(&taken)?;
+    let file = JournalFile::new(rt, taken, name).map_err(|error| OpenFault::of_file(&error))?;
+    match is_named(rt, &file.file, file.name.as_str()) {
+        Ok(true) => Ok(file),
+        Ok(false) => Err(OpenFault::InUse),
+        Err(error) => Err(OpenFault::of_file(&error)),
+    }
+}
+
+/// Opens the file of this name, which may be new, and has it for this process only. Answers what [`found_in`] finds in
+/// it: the journal, its entries, and how many bytes at its end are torn. No byte of the file changes. Through a
+/// symbolic link it is the file that the link leads to.
+pub fn find_journal<'r, R: Files<File = File> + AllocGlobal>(
+    rt: &'r R,
+    name: &str,
+) -> Result<(Found<JournalFile<'r, R>>, Vec<Entry>, usize), OpenFault>
+    ensures text { IfOk result (λ f. f.0.text.items ≡ journal_text Two f.1.items) }
     ensures count { IfOk result (λ f. f.0.count ≡ length f.1.items) }
     ensures few { IfOk result (λ f. length f.1.items ≤ MOST_ENTRIES) }
 {
-    let mut file = match open_file(rt, name) {
-        Ok(file) => file,
-        Err(error) => return Err(OpenFault::of_file(&error)),
-    };
-    lock(&file)?;
-    let bytes = match read_file(rt, &mut file, name) {
-        Ok(bytes) => bytes,
-        Err(error) => return Err(OpenFault::of_file(&error)),
-    };
-    recover(rt.alloc(), file, &bytes)
+    found_in(rt.alloc(), take_file(rt, name)?)
 }

@@ -2,13 +2,15 @@
 
 ghost use Rattle.std.specs.Prelude.{◌≡◌, ◌≤◌, ◌+◌, ◌++◌, ◌<◌, List, true, false, Err, IfOk, IfErr, OnOk, OnErr};
 ghost use Rattle.std.specs.Prelude.{length, string_bytes};
+ghost use Rattle.mud_chron.specs.declared.format.Format.TheVariants.{Two};
 ghost use Rattle.mud_chron.specs.Entry.{Entry};
-ghost use Rattle.mud_chron.specs.Text.{entries_text};
-ghost use Rattle.mud_journal.specs.Disk.{Holds, Begins, Adds, AddsInPart};
+ghost use Rattle.mud_chron.specs.Text.{entries_text, journal_text};
+ghost use Rattle.mud_journal.specs.Disk.{Holds, Adds, AddsInPart};
+ghost use Rattle.mud_journal.specs.OpenFaults.{IsBeginFault};
 
 use crate::disk::Disk;
-use crate::fault::JournalFault;
-use mud_chron::{Entry, Format, write_entry};
+use crate::fault::{JournalFault, OpenFault};
+use mud_chron::{Entry, write_entry};
 use mud_world::limits::MOST_ENTRIES;
 use std::alloc::{AllocError, Global};
 
@@ -60,15 +62,16 @@ impl Receipt {
     }
 }
 
-/// A disk on which the text of this many entries was found, in its first bytes. It was not written to.
+/// A disk on which this text of a journal was found, or was to be, and how many entries the text has. The disk was not
+/// written to.
 #[derive(Drop)]
 pub struct Found<D: Disk> {
     disk: D,
+    text: Vec<u8>,
     count: usize,
-    keep: usize,
 }
 
-/// A disk with the text of this many entries. After a fault it takes no more.
+/// A disk with the text of this many entries, all of it written by this process. After a fault it takes no more.
 #[derive(Drop)]
 pub struct Journal<D: Disk> {
     disk: D,
@@ -95,12 +98,27 @@ fn push_entries(
     Ok(())
 }
 
+// The text of more entries, the first of which makes the version after this one.
+fn append_entries(
+    alloc: Global,
+    count: usize,
+    more: &[Entry],
+    text: &mut Vec<u8>,
+) -> Result<(), AllocError>
+    requires { count + length more.now ≤ MOST_ENTRIES }
+    ensures { OnOk result (text.new.items ≡ text.old.items ++ entries_text (count + 1) more.now) }
+{
+    let mut lines = String::new(alloc);
+    push_entries(alloc, count + 1, more, &mut lines)?;
+    text.extend_from_slice(lines.as_bytes())
+}
+
 impl<D: Disk + Drop> Found<D> {
-    /// A disk whose first `keep` bytes are the text of a journal of `count` entries; or both are 0, and there is none.
-    pub fn new(disk: D, count: usize, keep: usize) -> Found<D>
-        ensures { result ≡ record { disk = disk; count = count; keep = keep } }
+    // A disk on which this text of so many entries was found.
+    pub(crate) fn new(disk: D, text: Vec<u8>, count: usize) -> Found<D>
+        ensures { result ≡ record { disk = disk; text = text; count = count } }
     {
-        Found { disk, count, keep }
+        Found { disk, text, count }
     }
 
     /// How many entries were found.
@@ -110,28 +128,29 @@ impl<D: Disk + Drop> Found<D> {
         self.count
     }
 
-    /// Cuts off what stands after the text that was found, writes the first line where there is none, and goes on. The
-    /// only error is that of the disk.
-    pub fn begin(self) -> Result<Journal<D>, JournalFault>
-        ensures count { IfOk result (λ j. j.count ≡ self.count) }
+    /// Makes the text that was found, and the lines of these entries more, the whole file, and goes on. That is done
+    /// whatever the disk held: what was read may be lost in a crash, and what is torn must go. With an error the disk
+    /// has what it had, or all of this.
+    pub fn begin(self, alloc: Global, more: &[Entry]) -> Result<Journal<D>, OpenFault>
+        ensures count { IfOk result (λ j. j.count ≡ self.count + length more.now) }
         ensures going { IfOk result (λ j. j.has_failed ≡ false) }
-        ensures holds { IfOk result (λ j. (entries : List Entry)
-            → Begins (D.kept self.disk) self.keep entries → Holds (D.kept j.disk) entries) }
-        ensures err { IfErr result (λ fault. fault ≡ JournalFault.Disk) }
+        ensures holds { IfOk result (λ j. (had : List Entry) → self.text.items ≡ journal_text Two had
+            → length had ≡ self.count → Holds (D.kept j.disk) (had ++ more.now)) }
+        ensures err { IfErr result (IsBeginFault (self.count + length more.now)) }
     {
         let Found {
             mut disk,
+            mut text,
             count,
-            keep,
         } = self;
-        disk.cut(keep)?;
-        if keep == 0 {
-            disk.append(Format::Two.first_line().as_bytes())?;
-            disk.sync()?;
+        if count > MOST_ENTRIES || more.len() > MOST_ENTRIES - count {
+            return Err(OpenFault::TooLong);
         }
+        append_entries(alloc, count, more, &mut text)?;
+        disk.replace(&text)?;
         Ok(Journal {
             disk,
-            count,
+            count: count + more.len(),
             has_failed: false,
         })
     }

@@ -1,20 +1,59 @@
-//! What is recovered from the bytes of a disk.
+//! What is found in the bytes of a disk.
 
-ghost use Rattle.std.specs.Prelude.{◌≡◌, ◌≢◌, ◌+◌, IfOk, IfErr, length};
+ghost use Rattle.std.specs.Prelude.{◌≡◌, ◌≢◌, ◌≤◌, ◌++◌, ℕ, List, Option, true, IfOk, IfErr, IfSome, MatchBool};
+ghost use Rattle.std.specs.Prelude.{length, take};
+ghost use Rattle.std.specs.Io.KnownBytes.{Consumes};
+ghost use Rattle.mud_world.specs.declared.limits.TheConstants.{MOST_ENTRIES};
 ghost use Rattle.mud_chron.specs.declared.format.Format.TheVariants.{Two};
+ghost use Rattle.mud_chron.specs.Text.{journal_text};
+ghost use Rattle.mud_chron.specs.Faults.{IsNoHistory};
 ghost use Rattle.mud_chron.specs.Fronts.{Recovers, HasFrontFault};
-ghost use Rattle.mud_journal.specs.OpenFaults.{IsRefusedAs};
+ghost use Rattle.mud_journal.specs.Found.{up_to_zero, IsBlank, Finds};
+ghost use Rattle.mud_journal.specs.OpenFaults.{IsRefusedIn, IsRefusedAs, IsUnfoundAs};
 
 use crate::disk::Disk;
 use crate::fault::OpenFault;
 use crate::journal::Found;
 use mud_chron::{ChronFault, Entry, Format, Front, read_front, read_history};
+use mud_key::codes::LF;
 use std::alloc::Global;
+use std::io::{ErrorKind, Read};
+
+// How many bytes a first line has, with its end.
+const FIRST_LINE_BYTES: usize = 14;
+
+// Whether the bytes are those of a file in which no journal was begun.
+fn is_blank(bytes: &[u8]) -> bool
+    ensures { MatchBool result (IsBlank bytes.now) (¬ IsBlank bytes.now) }
+{
+    for (i, b) in bytes.iter().enumerate() {
+        if i < FIRST_LINE_BYTES {
+            if *b == LF {
+                return false;
+            }
+        } else if *b != 0 {
+            return false;
+        }
+    }
+    true
+}
+
+// The bytes before the first zero.
+fn before_zero(bytes: &[u8]) -> &[u8]
+    ensures { result.now ≡ up_to_zero bytes.now }
+{
+    for (i, b) in bytes.iter().enumerate() {
+        if *b == 0 {
+            return &bytes[..i];
+        }
+    }
+    bytes
+}
 
 // The fault of bytes that are no journal cut at a byte.
 fn refusal(alloc: Global, bytes: &[u8], fault: ChronFault) -> OpenFault
     requires { fault ≢ ChronFault.OutOfMemory → HasFrontFault bytes.now fault }
-    ensures { IsRefusedAs bytes.now result }
+    ensures { IsRefusedIn bytes.now result }
 {
     match fault {
         ChronFault::BadLine(line) => match read_history(alloc, bytes) {
@@ -27,10 +66,11 @@ fn refusal(alloc: Global, bytes: &[u8], fault: ChronFault) -> OpenFault
     }
 }
 
-// What is found in the bytes, where a journal can go on from it.
+// What is found in the bytes, where a journal was begun and can go on from it.
 fn front_of(alloc: Global, bytes: &[u8]) -> Result<Front, OpenFault>
     ensures ok { IfOk result (λ f. Recovers bytes.now Two f.entries.items f.keep) }
-    ensures err { IfErr result (IsRefusedAs bytes.now) }
+    ensures begun { IfOk result (λ f. f.keep ≢ 0) }
+    ensures err { IfErr result (IsRefusedIn bytes.now) }
 {
     let front = match read_front(alloc, bytes) {
         Ok(front) => front,
@@ -38,25 +78,126 @@ fn front_of(alloc: Global, bytes: &[u8]) -> Result<Front, OpenFault>
     };
     match front.format {
         Format::One => Err(OpenFault::Old),
-        Format::Two => Ok(front),
+        Format::Two => {
+            if front.keep == 0 {
+                return Err(OpenFault::NotHistory);
+            }
+            Ok(front)
+        }
     }
 }
 
-/// The journal that is found on a disk whose bytes are these, whatever byte it was cut at; its entries; and how many
-/// bytes at its end are torn. The disk is not asked and not changed.
+/// The journal that is found on a disk whose bytes are these; its entries; and how many bytes at its end are torn,
+/// which are left out. Torn is a last line that has no line feed before the first zero byte, and all that stands behind
+/// it. Where no journal was begun, it is a new one. The disk is not asked and not changed.
 pub fn recover<D: Disk + Drop>(
     alloc: Global,
     disk: D,
-    bytes: &[u8],
+    bytes: Vec<u8>,
 ) -> Result<(Found<D>, Vec<Entry>, usize), OpenFault>
     ensures disk { IfOk result (λ f. f.0.disk ≡ disk) }
-    ensures found { IfOk result (λ f. Recovers bytes.now Two f.1.items f.0.keep) }
+    ensures found { IfOk result (λ f. Finds bytes.items f.1.items f.2) }
+    ensures text { IfOk result (λ f. f.0.text.items ≡ journal_text Two f.1.items) }
     ensures count { IfOk result (λ f. f.0.count ≡ length f.1.items) }
-    ensures torn { IfOk result (λ f. f.0.keep + f.2 ≡ length bytes.now) }
-    ensures err { IfErr result (IsRefusedAs bytes.now) }
+    ensures few { IfOk result (λ f. length f.1.items ≤ MOST_ENTRIES) }
+    ensures err { IfErr result (IsRefusedAs bytes.items) }
 {
-    let front = front_of(alloc, bytes)?;
-    let torn = bytes.len() - front.keep;
-    let found = Found::new(disk, front.entries.len(), front.keep);
-    Ok((found, front.entries, torn))
+    let mut text = bytes;
+    let len = text.len();
+    if is_blank(&text) {
+        text.clear();
+        text.extend_from_slice(Format::Two.first_line().as_bytes())?;
+        return Ok((Found::new(disk, text, 0), Vec::new(alloc), len));
+    }
+    let front = match front_of(alloc, before_zero(&text)) {
+        Ok(front) => front,
+        Err(fault) => return Err(fault),
+    };
+    text.truncate(front.keep);
+    let found = Found::new(disk, text, front.entries.len());
+    Ok((found, front.entries, len - front.keep))
+}
+
+// Whether as many bytes as a first line has can't be the beginning of a journal, or of a file in which none was begun.
+fn is_foreign(first: &[u8]) -> bool
+    ensures { result ≡ true → IsNoHistory first.now × (IsBlank first.now → ⊥) }
+{
+    if is_blank(first) || first.starts_with(Format::One.first_line().as_bytes()) {
+        return false;
+    }
+    !first.starts_with(Format::Two.first_line().as_bytes())
+}
+
+// Reads once; nothing where a signal came between.
+fn read_first<R: Read>(reader: &mut R, first: &mut [u8]) -> Result<usize, OpenFault>
+    ensures count { IfOk result (λ n. n ≤ length first.new) }
+    ensures bytes { IfOk result (λ n.
+        Consumes (R.remaining reader.old) (R.remaining reader.new) (take n first.new)) }
+    ensures err { IfErr result (λ fault. (known : Option (List ℕ)) → IsUnfoundAs known fault) }
+{
+    match reader.read(first) {
+        Ok(count) => Ok(count),
+        Err(error) => {
+            if error.kind() == ErrorKind::Interrupted {
+                return Ok(0);
+            }
+            Err(OpenFault::of_file(&error))
+        }
+    }
+}
+
+// The first bytes of a reader, and all that are left.
+fn read_rest<R: Read>(alloc: Global, reader: &mut R, first: &[u8]) -> Result<Vec<u8>, OpenFault>
+    ensures ok { IfOk result (λ v. IfSome (R.remaining reader.old) (λ bytes. v.items ≡ first.now ++ bytes)) }
+    ensures err { IfErr result (λ fault. (known : Option (List ℕ)) → IsUnfoundAs known fault) }
+{
+    let Ok(mut bytes) = Vec::from_slice(alloc, first) else {
+        return Err(OpenFault::OutOfMemory);
+    };
+    match reader.read_to_end(&mut bytes) {
+        Ok(_) => Ok(bytes),
+        Err(error) => Err(OpenFault::of_file(&error)),
+    }
+}
+
+// All bytes of a reader. Those that can be no journal's by their first line are not read on.
+fn read_all<R: Read>(alloc: Global, reader: &mut R) -> Result<Vec<u8>, OpenFault>
+    ensures ok { IfOk result (λ v. IfSome (R.remaining reader.old) (λ bytes. v.items ≡ bytes)) }
+    ensures err { IfErr result (IsUnfoundAs (R.remaining reader.old)) }
+{
+    let mut first = [0u8; FIRST_LINE_BYTES];
+    let count = match read_first(reader, &mut first) {
+        Ok(count) => count,
+        Err(fault) => return Err(fault),
+    };
+    if count == FIRST_LINE_BYTES && is_foreign(&first) {
+        return Err(OpenFault::NotHistory);
+    }
+    match read_rest(alloc, reader, &first[..count]) {
+        Ok(bytes) => Ok(bytes),
+        Err(fault) => Err(fault),
+    }
+}
+
+/// What [`recover`] finds in the bytes of a disk: all of them are read. Where its first line is none, the rest is not
+/// read.
+pub fn found_in<D: Disk + Read + Drop>(
+    alloc: Global,
+    disk: D,
+) -> Result<(Found<D>, Vec<Entry>, usize), OpenFault>
+    ensures found { IfOk result (λ f. IfSome (D.remaining disk) (λ bytes. Finds bytes f.1.items f.2)) }
+    ensures text { IfOk result (λ f. f.0.text.items ≡ journal_text Two f.1.items) }
+    ensures count { IfOk result (λ f. f.0.count ≡ length f.1.items) }
+    ensures few { IfOk result (λ f. length f.1.items ≤ MOST_ENTRIES) }
+    ensures err { IfErr result (IsUnfoundAs (D.remaining disk)) }
+{
+    let mut disk = disk;
+    let bytes = match read_all(alloc, &mut disk) {
+        Ok(bytes) => bytes,
+        Err(fault) => return Err(fault),
+    };
+    match recover(alloc, disk, bytes) {
+        Ok(found) => Ok(found),
+        Err(fault) => Err(fault),
+    }
 }

@@ -2,8 +2,9 @@
 //!
 //! `mud_keep recover JOURNAL` prints the history that a journal holds, `mud_keep shorten HISTORY` a shorter history of
 //! the same world, `mud_keep show HISTORY` the world as a table, and
-//! `mud_keep map HISTORY [PROOF]` its rooms and exits as a graph. What is told beside the text goes to standard
-//! error, and the status says whether the file could be read (0) or not (2). docs/KEEPING.md has the lines.
+//! `mud_keep map HISTORY [PROOF]` its rooms and exits as a graph. With `--journal` a journal is read in place of a
+//! history. What is told beside the text goes to standard error, and the status says whether the file could be read (0)
+//! or not (2). docs/KEEPING.md has the lines.
 #![tactic(auto)]
 
 mod input;
@@ -11,10 +12,11 @@ mod unkept;
 
 use crate::input::read_input;
 use crate::unkept::Unkept;
-use mud_chron::ChronFault;
-use mud_command::{CommandFault, Keeping, Wish, keeping_of, show, words_of};
+use mud_command::{CommandFault, Keeping, KeptFile, Wish, keeping_of, show, words_of};
 use mud_ends::Sink;
-use mud_keeping::{Answer, Note, recovered_text, shorter_text, world_table};
+use mud_keeping::{
+    Answer, KeptFault, Note, TextKind, front_text, recovered_text, shorter_text, world_table,
+};
 use mud_map::{map_of, mapped_with};
 use std::alloc::Global;
 use std::io;
@@ -36,53 +38,67 @@ fn run(rt: &HostRuntime, words: &[String]) -> ExitCode {
     }
 }
 
+// What the file is taken for.
+fn kind_of(file: KeptFile<'_>) -> TextKind {
+    if file.is_journal {
+        TextKind::Journal
+    } else {
+        TextKind::History
+    }
+}
+
 // What is answered to a wish.
-fn answer_to(alloc: Global, wish: Wish, bytes: &[u8]) -> Result<Answer, ChronFault> {
+fn answer_to(alloc: Global, wish: Wish, kind: TextKind, bytes: &[u8]) -> Result<Answer, KeptFault> {
     match wish {
         Wish::Recover => recovered_text(alloc, bytes),
-        Wish::Shorten => shorter_text(alloc, bytes),
-        Wish::Show => world_table(alloc, bytes),
+        Wish::Front => front_text(alloc, bytes),
+        Wish::Shorten => shorter_text(alloc, kind, bytes),
+        Wish::Show => world_table(alloc, kind, bytes),
     }
 }
 
 // Answers a wish.
-fn text(rt: &HostRuntime, wish: Wish, file: &str) -> ExitCode {
-    let bytes = match read_input(rt, file) {
+fn text(rt: &HostRuntime, wish: Wish, file: KeptFile<'_>) -> ExitCode {
+    let bytes = match read_input(rt, file.name) {
         Ok(bytes) => bytes,
         Err(unkept) => return tell_unreadable(rt, unkept),
     };
-    match answer_to(rt.alloc(), wish, &bytes) {
-        Ok(answer) => print_answer(rt, answer.text.as_bytes(), answer.note),
-        Err(fault) => tell_unreadable(rt, Unkept::of_text(fault)),
+    match answer_to(rt.alloc(), wish, kind_of(file), &bytes) {
+        Ok(answer) => print_answer(rt, answer.text.as_bytes(), answer.torn, answer.note),
+        Err(fault) => tell_unreadable(rt, Unkept::of_file(fault)),
     }
 }
 
 // Draws a map.
-fn map(rt: &HostRuntime, file: &str, proof: Option<&str>) -> ExitCode {
-    let bytes = match read_input(rt, file) {
+fn map(rt: &HostRuntime, file: KeptFile<'_>, proof: Option<&str>) -> ExitCode {
+    let bytes = match read_input(rt, file.name) {
         Ok(bytes) => bytes,
         Err(unkept) => return tell_unreadable(rt, unkept),
     };
     let Some(proof) = proof else {
-        return match map_of(rt.alloc(), &bytes) {
-            Ok(text) => print_answer(rt, &text, Note::Nothing),
-            Err(fault) => tell_unreadable(rt, Unkept::of_text(fault)),
+        return match map_of(rt.alloc(), kind_of(file), &bytes) {
+            Ok(map) => print_answer(rt, &map.text, map.torn, Note::Nothing),
+            Err(fault) => tell_unreadable(rt, Unkept::of_file(fault)),
         };
     };
     let proof = match read_input(rt, proof) {
         Ok(proof) => proof,
         Err(unkept) => return tell_unreadable(rt, unkept),
     };
-    match mapped_with(rt.alloc(), &bytes, &proof) {
-        Ok(text) => print_answer(rt, &text, Note::Nothing),
+    match mapped_with(rt.alloc(), kind_of(file), &bytes, &proof) {
+        Ok(map) => print_answer(rt, &map.text, map.torn, Note::Nothing),
         Err(fault) => tell_unreadable(rt, Unkept::of_map(fault)),
     }
 }
 
-// Says why the words ask for nothing, and answers the status.
+// Says why the words ask for nothing, or what they ask to be told, and answers the status.
 fn tell_fault(rt: &HostRuntime, fault: CommandFault) -> ExitCode {
     match fault {
         CommandFault::OutOfMemory => tell_unreadable(rt, Unkept::OutOfMemory),
+        CommandFault::Asked(text) => match print!(rt; "{text}") {
+            Ok(()) => ExitCode::SUCCESS,
+            Err(_) => tell_unreadable(rt, Unkept::Write),
+        },
         CommandFault::Told(text) => ExitCode::from(show(rt, text.as_str())),
     }
 }
@@ -94,10 +110,13 @@ fn tell_unreadable(rt: &HostRuntime, unkept: Unkept<'_>) -> ExitCode {
 }
 
 // Prints the text, tells what is told beside it, and answers the status.
-fn print_answer(rt: &HostRuntime, text: &[u8], note: Note) -> ExitCode {
+fn print_answer(rt: &HostRuntime, text: &[u8], torn: Option<usize>, note: Note) -> ExitCode {
     let mut sink = Sink::new(io::writer(rt));
     if !sink.write_all(text) {
         return tell_unreadable(rt, Unkept::Write);
+    }
+    if let Some(torn) = torn {
+        let _ = eprintln!(rt; "torn off: {torn} bytes");
     }
     if note != Note::Nothing {
         let _ = eprintln!(rt; "{note}");

@@ -2,6 +2,7 @@
 
 use mud_cert::CertFault;
 use mud_chron::ChronFault;
+use mud_keeping::KeptFault;
 use mud_map::NoMap;
 use thiserror::Error;
 
@@ -14,6 +15,9 @@ pub enum Unkept<'a> {
     /// The file of this name can't be read; `-` is standard input.
     #[error("file {0}")]
     File(&'a str),
+    /// The file has no byte.
+    #[error("empty file")]
+    Empty,
     /// The text does not begin as a history.
     #[error("not a history")]
     NotHistory,
@@ -32,17 +36,17 @@ pub enum Unkept<'a> {
     /// This line of the certificate's text, counted from 1, is bad.
     #[error("proof line {0}")]
     ProofLine(usize),
-    /// The certificate speaks of this version, and the history has fewer entries.
-    #[error("proof version {0}")]
-    Version(u32),
+    /// The certificate speaks of this version, and the history has so many changes, which are fewer.
+    #[error("proof version {0}, the history has {1} changes")]
+    Version(u32, usize),
     /// The answer can't be written.
     #[error("standard output")]
     Write,
 }
 
 impl Unkept<'_> {
-    /// Why a text is no history.
-    pub fn of_text(fault: ChronFault) -> Unkept<'static> {
+    // Why a text is no history.
+    fn of_text(fault: ChronFault) -> Unkept<'static> {
         match fault {
             ChronFault::OutOfMemory => Unkept::OutOfMemory,
             ChronFault::NotHistory => Unkept::NotHistory,
@@ -53,13 +57,21 @@ impl Unkept<'_> {
         }
     }
 
+    /// Why a file keeps no world.
+    pub fn of_file(fault: KeptFault) -> Unkept<'static> {
+        match fault {
+            KeptFault::Empty => Unkept::Empty,
+            KeptFault::Text(fault) => Unkept::of_text(fault),
+        }
+    }
+
     /// Why there is no map.
     pub fn of_map(fault: NoMap) -> Unkept<'static> {
         match fault {
-            NoMap::History(fault) => Unkept::of_text(fault),
+            NoMap::History(fault) => Unkept::of_file(fault),
             NoMap::Proof(CertFault::OutOfMemory) => Unkept::OutOfMemory,
             NoMap::Proof(CertFault::BadLine(line)) => Unkept::ProofLine(line),
-            NoMap::Version(version) => Unkept::Version(version),
+            NoMap::Version(version, changes) => Unkept::Version(version, changes),
         }
     }
 }

@@ -1,3 +1,5 @@
 mod Talking
 mod Sameness
 pub mod Rows
+mod Ends
+mod Longest

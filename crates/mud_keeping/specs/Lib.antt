@@ -1,4 +1,5 @@
 pub mod Recovery
+pub mod Front
 pub mod Shorter
 pub mod Rows
 pub mod Laws

@@ -1,1 +1,2 @@
 pub mod ShorterHistory
+pub mod Broken

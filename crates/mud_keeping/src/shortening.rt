@@ -8,7 +8,7 @@ ghost use Rattle.mud_keeping.specs.inner.ShorterHistory.{LeadsTo, IsShorter};
 use crate::comparing::same_worlds;
 use crate::talk::{has_talk, without_talk};
 use mud_chron::{ChronFault, Entry, replay};
-use mud_rebuild::build_again;
+use mud_rebuild::{Gone, build_again};
 use mud_world::World;
 use std::alloc::{AllocError, Global};
 
@@ -41,6 +41,22 @@ fn shorter_of(
     Ok(Some(found))
 }
 
+// A history of this world that is shorter than these entries, where one is found that is built anew without these of
+// the changes whose objects are gone.
+fn shorter_without(
+    alloc: Global,
+    gone: Gone,
+    entries: &[Entry],
+    world: &World,
+) -> Result<Option<Vec<Entry>>, AllocError>
+    ensures { IfOk result (λ found. IfSome found (λ s. IsShorter entries.now world.now s.items)) }
+{
+    match build_again(alloc, gone, entries, world)? {
+        Some(built) => shorter_of(alloc, built, entries, world),
+        None => Ok(None),
+    }
+}
+
 // A history of this world that is shorter than these entries, where one is found.
 fn shorter(
     alloc: Global,
@@ -49,10 +65,10 @@ fn shorter(
 ) -> Result<Option<Vec<Entry>>, AllocError>
     ensures { IfOk result (λ found. IfSome found (λ s. IsShorter entries.now world.now s.items)) }
 {
-    match build_again(alloc, entries, world)? {
-        Some(built) => shorter_of(alloc, built, entries, world),
-        None => Ok(None),
+    if let Some(found) = shorter_without(alloc, Gone::All, entries, world)? {
+        return Ok(Some(found));
     }
+    shorter_without(alloc, Gone::Things, entries, world)
 }
 
 /// A history of the same world that is no longer, and in which nobody talks (docs/KEEPING.md, "Shorten"). What can be

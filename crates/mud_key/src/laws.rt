@@ -1,6 +1,11 @@
 //! Facts about definitions only.
 
+ghost use Rattle.std.specs.Prelude.{◌≡◌};
 ghost use Rattle.mud_key.specs.Laws.{AreTheNames, IsTheName, IsTheKey};
+ghost use Rattle.mud_key.specs.declared.limits.TheConstants.{LAST_NUMBER, MOST_NAMES, MOST_NAME_BYTES, MOST_OBJECTS};
+ghost use Rattle.mud_key.specs.declared.limits.TheConstants.{MOST_NOTS, MOST_DIGITS, AMOUNTS};
+ghost use Rattle.mud_key.specs.declared.codes.TheConstants.{SPACE, TILDE, SHARP, COMMA, PARENTHESIS};
+ghost use Rattle.mud_key.specs.declared.codes.TheConstants.{ZERO, NINE, LF, CR};
 
 /// The names that are found in a text are its parts, where these are 1 to 4 names, and no others are.
 pub fn names()
@@ -15,4 +20,28 @@ pub fn name()
 /// The key that is found in a text is that of the key text, within the limits, and no other is.
 pub fn key()
     ensures { IsTheKey }
+{}
+
+/// The limits of names, keys and numbers.
+pub fn limits()
+    ensures last_number { LAST_NUMBER ≡ 8191 }
+    ensures most_names { MOST_NAMES ≡ 4 }
+    ensures most_name_bytes { MOST_NAME_BYTES ≡ 60 }
+    ensures most_objects { MOST_OBJECTS ≡ 16 }
+    ensures most_nots { MOST_NOTS ≡ 64 }
+    ensures most_digits { MOST_DIGITS ≡ 9 }
+    ensures amounts { AMOUNTS ≡ 1000000000 }
+{}
+
+/// The bytes that have a name are those of USASCII.
+pub fn codes()
+    ensures space { SPACE ≡ 32 }
+    ensures tilde { TILDE ≡ 126 }
+    ensures sharp { SHARP ≡ 35 }
+    ensures comma { COMMA ≡ 44 }
+    ensures parenthesis { PARENTHESIS ≡ 40 }
+    ensures zero { ZERO ≡ 48 }
+    ensures nine { NINE ≡ 57 }
+    ensures lf { LF ≡ 10 }
+    ensures cr { CR ≡ 13 }
 {}

@@ -7,7 +7,9 @@ ghost use Rattle.mud_ends.specs.Ends.{Writer};
 ghost use Rattle.mud_chron.specs.Entry.{Entry};
 ghost use Rattle.mud_world.specs.declared.limits.TheConstants.{MOST_ENTRIES};
 ghost use Rattle.mud_chron.specs.declared.limits.TheConstants.{MOST_DESKS};
-ghost use Rattle.mud_journal.specs.Disk.{Holds, Begins};
+ghost use Rattle.mud_chron.specs.declared.format.Format.TheVariants.{Two};
+ghost use Rattle.mud_chron.specs.Text.{journal_text};
+ghost use Rattle.mud_journal.specs.Disk.{Holds};
 ghost use Rattle.mud_house.specs.Listener.{MayEnd, Settles, SettlesInPart, IsListenFault};
 ghost use Rattle.mud_search.specs.declared.limits.TheConstants.{MOST_WORKERS};
 
@@ -247,29 +249,12 @@ fn copies(alloc: Global, entries: &[Entry]) -> Result<Vec<Entry>, AllocError>
     Ok(copies)
 }
 
-// Goes on from what was found, and adds these entries.
-fn begin_journal<D: Disk + Drop>(
-    alloc: Global,
-    found: Found<D>,
-    more: &[Entry],
-) -> Result<Journal<D>, JournalFault>
-    ensures holds { IfOk result (λ j. (had : List Entry) → length had ≡ found.count
-        → Begins (D.kept found.disk) found.keep had → Holds (D.kept j.disk) (had ++ more.now)) }
-    ensures count { IfOk result (λ j. j.count ≡ found.count + length more.now) }
-    ensures going { IfOk result (λ j. j.has_failed ≡ false) }
-{
-    let mut journal = found.begin()?;
-    if !more.is_empty() {
-        journal.commit(alloc, more)?;
-    }
-    Ok(journal)
-}
-
 /// Serves as [`crate::listen_on`], and keeps the history in a journal on a disk while it runs. The first of the loaded
-/// entries were found there; the others are written to it before the port is. What is sent names no version after the
-/// last that is synced. With Ok the journal has the whole history that is written.
+/// entries were found there; it is written anew with all of them before the port is. What names a version waits for its
+/// sync, by the type of what is held. With Ok the journal has the whole history that is written.
 ///
-/// `Load` comes before anything is written, also to the journal. After `Journal` all sessions have ended.
+/// `Load` comes before anything is written, also to the journal. With `Open` the journal is what it was, or has all
+/// that was loaded. After `Journal` all sessions have ended.
 pub fn listen_journaled<D: Disk + Drop, R: Threads + Wait + Log + Clock + Sync, W: Write>(
     rt: &R,
     alloc: Global,
@@ -284,7 +269,7 @@ pub fn listen_journaled<D: Disk + Drop, R: Threads + Wait + Log + Clock + Sync, 
     requires workers { limits.workers ≤ MOST_WORKERS }
     requires from { 1 ≤ limits.capacity }
     requires to { limits.capacity ≤ MOST_ENTRIES }
-    requires found { Begins (D.kept found.disk) found.keep (take found.count loaded.items) }
+    requires found { found.text.items ≡ journal_text Two (take found.count loaded.items) }
     requires within { found.count ≤ length loaded.items }
     ensures ok { IfOk result (λ j. (s : Settles limits (is_some doors.web) loaded.items out.old.holds out.new.holds)
         × Holds (D.kept j.disk) s.history) }
@@ -296,7 +281,7 @@ pub fn listen_journaled<D: Disk + Drop, R: Threads + Wait + Log + Clock + Sync, 
     let more = copies(alloc, &loaded[found.len()..])?;
     let hall = resume_hall(alloc, limits.capacity, loaded)?;
     let ports = doors.ports()?;
-    let journal = begin_journal(alloc, found, &more)?;
+    let journal = found.begin(alloc, &more)?;
     write_ports(alloc, out, ports)?;
     let (mut history, journal, is_well) = serve(rt, alloc, hall, doors, limits, stop, journal)?;
     write_entries(alloc, out, &mut history)?;

@@ -210,13 +210,13 @@ pub(crate) fn resume_hall(
 /// Serves those who come in by the doors, each by a session of its own at a desk of one hall, which goes on from the
 /// entries that were loaded. First it writes `listening on` and the port, and with a door on the web a line `web on`
 /// and its port. A connection for which there is no place is told `(server full)`, or `(too many sessions)` where its
-/// address has as many as it may have, and closed, a browser by the status 503 or 429; it counts for no session, nor
-/// does one for which memory or threads ran out before its session begins, nor a browser that only has the page. Where
-/// `limits.total` is over 0, the listeners are closed once that many sessions have begun, or became a player's where
-/// only those count, and the server ends once all sessions have ended. Once the sign is set, it ends, too: the
-/// listeners are closed, each session is told `(server stops)`, and its socket is shut, two seconds later at the
-/// latest. At its end the server settles the hall, tries the history as a load would, and writes it in format 2
-/// (docs/HISTORY.md).
+/// address has as many as it may have, and closed, the web socket of a browser with 1013; it counts for no session, nor
+/// does one for which memory or threads ran out before its session begins, nor a browser that only has the page, nor
+/// one that sends a request of HTTP by Telnet. Where `limits.total` is over 0, the listeners are closed once that many
+/// sessions have begun, or became a player's where only those count, and the server ends once all sessions have ended.
+/// Once the sign is set, it ends, too: the listeners are closed, each session is told `(server stops)`, and its socket
+/// is shut, five seconds later at the latest. At its end the server settles the hall, tries the history as a load
+/// would, and writes it in format 2 (docs/HISTORY.md).
 ///
 /// `Load` comes before anything is written. `Accept` comes before that, too, where a listener has no port, and else
 /// where one can never give a connection again: the sessions that run end in their own way, and the history is written

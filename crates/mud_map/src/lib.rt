@@ -4,7 +4,7 @@
 //! |---|---|
 //! | `map` | the text of the graph |
 //! | `map_with` | the same with the walks, labels and meeting of a certificate |
-//! | `map_of` | the text of the graph, for the bytes of a history |
+//! | `map_of` | the text of the graph, for the bytes of a history or a journal |
 //! | `mapped_with` | the same with a certificate that is read, in the world of its version |
 //!
 //! Proved is that the text is that of the definition: a node for each room and an edge for each exit, and no others.
@@ -18,4 +18,4 @@ mod mapping;
 mod quoted;
 
 pub use drawing::{map, map_with};
-pub use mapping::{NoMap, map_of, mapped_with};
+pub use mapping::{MapText, NoMap, map_of, mapped_with};

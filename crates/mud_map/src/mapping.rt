@@ -1,88 +1,122 @@
 //! The map of a world.
 
-ghost use Rattle.std.specs.Prelude.{◌≡◌, ◌≢◌, ◌⊎◌, IfOk, IfErr};
+ghost use Rattle.std.specs.Prelude.{◌≡◌, ℕ, IfOk, IfErr};
 ghost use Rattle.mud_chron.specs.Replay.{changes_of, AreLegal};
-ghost use Rattle.mud_keeping.specs.Recovery.{KeepsEntries, HasKeptFault};
-ghost use Rattle.mud_keeping.specs.Answer.{KeepsIllegal};
+ghost use Rattle.mud_cert.specs.Certificate.{IsCertificate};
+ghost use Rattle.mud_cert.specs.Text.{cert_text};
+ghost use Rattle.mud_cert.specs.Faults.{IsBadLine};
+ghost use Rattle.mud_verdict.specs.Finding.{without_returns};
+ghost use Rattle.mud_keeping.specs.Recovery.{KeepsEntries};
+ghost use Rattle.mud_keeping.specs.Answer.{KeepsNoWorld};
 ghost use Rattle.mud_map.specs.MapResult.{IsMap, IsMapWith, HasNoMap};
 
 use crate::drawing::{map, map_with};
-use mud_cert::{CertFault, read};
-use mud_chron::{ChronFault, Entry, replay};
-use mud_keeping::read_kept;
+use mud_cert::{Cert, CertFault, read};
+use mud_chron::{ChronFault, replay};
+use mud_keeping::{Kept, KeptFault, TextKind, read_kept};
+use mud_verdict::without_returns;
 use std::alloc::{AllocError, Global};
 
 /// Why there is no map.
 #[derive(Debug, Drop)]
 pub enum NoMap {
     /// The history's text has this fault, or memory ran out.
-    History(ChronFault),
+    History(KeptFault),
     /// The certificate's text has this fault, or memory ran out.
     Proof(CertFault),
-    /// The certificate speaks of this version, and the history has fewer entries.
-    Version(u32),
+    /// The certificate speaks of the first version, and the history has the second number of changes, which is less.
+    Version(u32, usize),
 }
 
 impl From<AllocError> for NoMap {
     ghost use Rattle.std.specs.Prelude.{◌≡◌};
     ghost use Rattle.mud_chron.specs.declared.fault.ChronFault.TheVariants.{OutOfMemory};
+    ghost use Rattle.mud_keeping.specs.declared.fault.KeptFault.TheVariants.{Text};
     ghost use Rattle.mud_map.specs.declared.mapping.NoMap.TheVariants.{History};
 
-    ghost from_gives = { λ _ e. e ≡ History OutOfMemory };
+    ghost from_gives = { λ _ e. e ≡ History (Text OutOfMemory) };
 
     fn from(_e: AllocError) -> NoMap {
-        NoMap::History(ChronFault::OutOfMemory)
+        NoMap::History(KeptFault::Text(ChronFault::OutOfMemory))
     }
 }
 
-// The entries that the bytes keep, all of which are legal.
-fn legal_entries(alloc: Global, bytes: &[u8]) -> Result<Vec<Entry>, ChronFault>
-    ensures kept { IfOk result (λ entries. KeepsEntries bytes.now entries.items) }
-    ensures legal { IfOk result (λ entries. AreLegal (changes_of entries.items)) }
-    ensures err { IfErr result (λ fault. fault ≢ ChronFault.OutOfMemory
-        → HasKeptFault bytes.now fault ⊎ KeepsIllegal bytes.now fault) }
+/// The map of a world.
+#[derive(Drop)]
+pub struct MapText {
+    /// The text of the graph, in DOT.
+    pub text: Vec<u8>,
+    /// How many bytes at the end of a journal were torn off; none of a history.
+    pub torn: Option<usize>,
+}
+
+// What the bytes keep, all of whose changes are legal.
+fn legal_entries(alloc: Global, kind: TextKind, bytes: &[u8]) -> Result<Kept, KeptFault>
+    ensures kept { IfOk result (λ kept. KeepsEntries kind bytes.now kept.entries.items kept.torn) }
+    ensures legal { IfOk result (λ kept. AreLegal (changes_of kept.entries.items)) }
+    ensures err { IfErr result (KeepsNoWorld kind bytes.now) }
 {
-    let entries = read_kept(alloc, bytes)?;
-    match replay(alloc, &entries) {
-        Ok(_world) => Ok(entries),
-        Err(fault) => Err(fault),
+    let kept = read_kept(alloc, kind, bytes)?;
+    match replay(alloc, &kept.entries) {
+        Ok(_world) => Ok(kept),
+        Err(fault) => Err(KeptFault::Text(fault)),
     }
 }
 
-/// The map of the world of a history (docs/KEEPING.md, "Map").
-pub fn map_of(alloc: Global, bytes: &[u8]) -> Result<Vec<u8>, ChronFault>
-    ensures ok { IfOk result (λ text. IsMap bytes.now text.items) }
-    ensures err { IfErr result (λ fault. fault ≢ ChronFault.OutOfMemory
-        → HasKeptFault bytes.now fault ⊎ KeepsIllegal bytes.now fault) }
+// The certificate of a text, CRs at the ends of its lines aside.
+fn certificate(alloc: Global, proof: &[u8]) -> Result<Cert, CertFault>
+    ensures ok { IfOk result (λ c. IsCertificate c × (without_returns proof.now ≡ cert_text c)) }
+    ensures err { IfErr result (λ fault. (n : ℕ) → fault ≡ CertFault.BadLine n
+        → IsBadLine (without_returns proof.now) n) }
 {
-    let entries = read_kept(alloc, bytes)?;
-    let world = replay(alloc, &entries)?;
+    let proof = without_returns(alloc, proof)?;
+    read(alloc, &proof)
+}
+
+/// The map of the world of a history or a journal, whichever is said (docs/KEEPING.md, "Map").
+pub fn map_of(alloc: Global, kind: TextKind, bytes: &[u8]) -> Result<MapText, KeptFault>
+    ensures ok { IfOk result (λ m. IsMap kind bytes.now m.text.items m.torn) }
+    ensures err { IfErr result (KeepsNoWorld kind bytes.now) }
+{
+    let kept = read_kept(alloc, kind, bytes)?;
+    let world = replay(alloc, &kept.entries)?;
     let text = map(alloc, &world)?;
-    Ok(text)
+    Ok(MapText {
+        text,
+        torn: kept.torn,
+    })
 }
 
 /// The map of the world of a certificate's version, with the certificate drawn in.
-pub fn mapped_with(alloc: Global, bytes: &[u8], proof: &[u8]) -> Result<Vec<u8>, NoMap>
-    ensures ok { IfOk result (λ text. IsMapWith bytes.now proof.now text.items) }
-    ensures err { IfErr result (HasNoMap bytes.now proof.now) }
+pub fn mapped_with(
+    alloc: Global,
+    kind: TextKind,
+    bytes: &[u8],
+    proof: &[u8],
+) -> Result<MapText, NoMap>
+    ensures ok { IfOk result (λ m. IsMapWith kind bytes.now proof.now m.text.items m.torn) }
+    ensures err { IfErr result (HasNoMap kind bytes.now proof.now) }
 {
-    let entries = match legal_entries(alloc, bytes) {
-        Ok(entries) => entries,
+    let kept = match legal_entries(alloc, kind, bytes) {
+        Ok(kept) => kept,
         Err(fault) => return Err(NoMap::History(fault)),
     };
-    let cert = match read(alloc, proof) {
+    let cert = match certificate(alloc, proof) {
         Ok(cert) => cert,
         Err(fault) => return Err(NoMap::Proof(fault)),
     };
     let version = cert.version();
-    if entries.len() < version as usize {
-        return Err(NoMap::Version(version));
+    if kept.entries.len() < version as usize {
+        return Err(NoMap::Version(version, kept.entries.len()));
     }
-    match replay(alloc, &entries[..version as usize]) {
+    match replay(alloc, &kept.entries[..version as usize]) {
         Ok(world) => {
             let text = map_with(alloc, &world, &cert)?;
-            Ok(text)
+            Ok(MapText {
+                text,
+                torn: kept.torn,
+            })
         }
-        Err(_) => Err(NoMap::History(ChronFault::OutOfMemory)),
+        Err(_) => Err(NoMap::History(KeptFault::Text(ChronFault::OutOfMemory))),
     }
 }

@@ -5,11 +5,12 @@ ghost use Rattle.std.specs.Prelude.{◌≤◌};
 ghost use Rattle.mud_chron.specs.declared.limits.TheConstants.{MOST_DESKS};
 
 use crate::delivering::{Delivery, steps_of};
+use crate::gone::{FIRST, Gone, Spares, count_made, spares_of};
 use crate::routing::way;
 use crate::stop::Stop;
 use crate::survey::{Survey, survey_of};
 use mud_chron::Entry;
-use mud_key::{Name, Names};
+use mud_key::{Name, Names, NamesFault};
 use mud_world::{Change, Deed, Doors, Record, Target, World};
 use std::alloc::{AllocError, Global};
 
@@ -18,6 +19,12 @@ const DESK: u32 = 1;
 
 // The player who may change and recycle all objects.
 const WIZARD: u32 = 1;
+
+// What an object is called that only takes a number.
+const SPARE: &str = "gone";
+
+// How many numbers a dig takes at most: a room, an exit and an exit back.
+const MOST_DUG: u32 = 3;
 
 // Whether the names are the same.
 fn same_names(names: &Names, others: &Names) -> bool {
@@ -29,6 +36,7 @@ fn same_names(names: &Names, others: &Names) -> bool {
 struct Site<'a> {
     alloc: Global,
     goal: &'a World,
+    spares: Spares,
     world: World,
     entries: Vec<Entry>,
 }
@@ -124,6 +132,66 @@ impl Site<'_> {
         Ok(Some(Doors { out, back }))
     }
 
+    // The names of an object that only takes a number.
+    fn spare_names(&self) -> Result<Names, Stop> {
+        match Names::read(self.alloc, SPARE) {
+            Ok(names) => Ok(names),
+            Err(NamesFault::OutOfMemory) => Err(Stop::OutOfMemory),
+            Err(NamesFault::BadName) => Err(Stop::GivenUp),
+        }
+    }
+
+    // So many exits that only take numbers, up to two.
+    fn spare_doors(&self, count: u32) -> Result<Option<Doors>, Stop> {
+        if count == 0 {
+            return Ok(None);
+        }
+        let out = self.spare_names()?;
+        let back = match count {
+            1 => None,
+            _ => Some(self.spare_names()?),
+        };
+        Ok(Some(Doors { out, back }))
+    }
+
+    // The exits of a dig, and those that it can have besides, if the numbers from this one on only have to be taken.
+    fn with_spares(&self, doors: Option<Doors>, behind: u32) -> Result<Option<Doors>, Stop> {
+        match doors {
+            None => self.spare_doors(self.spares.run(behind, 2)),
+            Some(Doors { out, back: None }) if self.spares.has(behind) => {
+                let back = Some(self.spare_names()?);
+                Ok(Some(Doors { out, back }))
+            }
+            Some(doors) => Ok(Some(doors)),
+        }
+    }
+
+    // Takes the numbers that come next and only have to be taken.
+    fn take_spares(&mut self) -> Result<(), Stop> {
+        for _ in 0..self.goal.next_number() {
+            let count = self.spares.run(self.world.next_number(), MOST_DUG);
+            if count == 0 {
+                break;
+            }
+            let doors = self.spare_doors(count - 1)?;
+            let target = Target::New(self.spare_names()?);
+            self.act(DESK, WIZARD, Deed::Dig(target, doors))?;
+        }
+        Ok(())
+    }
+
+    // Whether it bears on the goal from which room these exits lead, of which the first gets this number.
+    fn is_bound(&self, number: u32, doors: &Option<Doors>) -> bool {
+        match doors {
+            None => false,
+            Some(_) if self.spares.gone == Gone::Things => true,
+            Some(doors) => {
+                let back = number.saturating_add(1);
+                self.goal.exists(number) || (doors.back.is_some() && self.goal.exists(back))
+            }
+        }
+    }
+
     // Digs what the entry digs, the actor in this room.
     fn dig(
         &mut self,
@@ -133,17 +201,28 @@ impl Site<'_> {
         doors: &Option<Doors>,
     ) -> Result<(), Stop> {
         let actor = entry.change().actor;
-        if doors.is_some() {
-            self.walk_to(actor, here)?;
-        }
         let next = self.world.next_number();
         let first = match target {
             Target::New(_) => next.saturating_add(1),
             Target::Old(_) => next,
         };
-        let doors = self.doors(first, doors)?;
+        if self.is_bound(first, doors) {
+            self.walk_to(actor, here)?;
+        }
+        let behind = next.saturating_add(count_made(&entry.change().deed));
+        let doors = self.with_spares(self.doors(first, doors)?, behind)?;
         let target = self.target(target)?;
         self.act(entry.desk(), actor, Deed::Dig(target, doors))
+    }
+
+    // Makes what the entry makes, the first object of this number, the actor in this room. Nothing is made of what is
+    // gone and only takes numbers.
+    fn make_from(&mut self, entry: &Entry, number: u32, here: u32) -> Result<(), Stop> {
+        if count_made(&entry.change().deed) == 0 || self.spares.has(number) {
+            return Ok(());
+        }
+        self.take_spares()?;
+        self.make(entry, here)
     }
 
     // Makes what the entry makes, if it makes objects, the actor in this room.
@@ -255,11 +334,14 @@ impl Site<'_> {
         steps: &[Delivery],
     ) -> Result<(), Stop> {
         let mut next = 0;
+        let mut number = FIRST;
         for (time, entry) in entries.iter().enumerate() {
             next = self.deliver_at(steps, next, time)?;
             let here = places.get(time).copied().unwrap_or(0);
-            self.make(entry, here)?;
+            self.make_from(entry, number, here)?;
+            number = number.saturating_add(count_made(&entry.change().deed));
         }
+        self.take_spares()?;
         self.deliver_at(steps, next, entries.len())?;
         Ok(())
     }
@@ -272,7 +354,10 @@ impl Site<'_> {
 
     // Makes what the entries make, and brings each thing to where it is in the end.
     fn furnish(&mut self, entries: &[Entry]) -> Result<(), Stop> {
-        let survey = survey_of(self.alloc, entries)?;
+        let mut survey = survey_of(self.alloc, entries)?;
+        if self.spares.gone == Gone::All {
+            survey.meet_in_rooms_of(self.goal);
+        }
         self.furnish_by(entries, &survey)
     }
 
@@ -289,10 +374,16 @@ impl Site<'_> {
 }
 
 // Builds the world of the entries, which are legal, again.
-fn build_entries(alloc: Global, entries: &[Entry], goal: &World) -> Result<Vec<Entry>, Stop> {
+fn build_entries(
+    alloc: Global,
+    gone: Gone,
+    entries: &[Entry],
+    goal: &World,
+) -> Result<Vec<Entry>, Stop> {
     let mut site = Site {
         alloc,
         goal,
+        spares: spares_of(alloc, gone, entries, goal)?,
         world: World::opening(alloc)?,
         entries: Vec::new(alloc),
     };
@@ -301,14 +392,16 @@ fn build_entries(alloc: Global, entries: &[Entry], goal: &World) -> Result<Vec<E
     Ok(entries)
 }
 
-/// A history of the world of the entries that builds it again; none, where that leads nowhere. Nothing is promised of
-/// it: its caller compares the worlds. The only error is out of memory.
+/// A history of the world of the entries that builds it again, without these of the changes whose objects are all gone
+/// in the end; none, where that leads nowhere. Nothing is promised of it: its caller compares the worlds. The only
+/// error is out of memory.
 pub fn build_again(
     alloc: Global,
+    gone: Gone,
     entries: &[Entry],
     goal: &World,
 ) -> Result<Option<Vec<Entry>>, AllocError> {
-    match build_entries(alloc, entries, goal) {
+    match build_entries(alloc, gone, entries, goal) {
         Ok(entries) => Ok(Some(entries)),
         Err(Stop::OutOfMemory) => Err(AllocError),
         Err(Stop::GivenUp) => Ok(None),

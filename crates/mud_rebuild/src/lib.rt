@@ -6,6 +6,7 @@
 
 mod building;
 mod delivering;
+mod gone;
 mod paths;
 mod routing;
 mod stays;
@@ -13,3 +14,4 @@ mod stop;
 mod survey;
 
 pub use building::build_again;
+pub use gone::Gone;

@@ -129,6 +129,11 @@ impl Survey {
         Ok(())
     }
 
+    /// Things are left and handed over only in rooms of this world.
+    pub(crate) fn meet_in_rooms_of(&mut self, world: &World) {
+        self.rooms.retain(|room| world.is_room(*room));
+    }
+
     // Each player is where he is in the last world.
     fn end(&mut self, world: &World, time: usize) {
         for number in 0..world.next_number() {

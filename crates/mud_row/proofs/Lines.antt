@@ -1,9 +1,11 @@
 -- The text of a history, one line further.
-use Rattle.std.proofs.Common.{◌≡◌, ◌≤◌, ℕ, ◌+◌, List, [], ◌∷◌, ◌++◌, length, drop, Some, slice_get, codes, refl, sym}
-use Rattle.std.proofs.Common.{ap}
-use Rattle.std.proofs.Common.{◌∙◌, append_assoc, add-one}
-use Rattle.std.proofs.lemmas.List.{drop_more, drop_all, append-nil}
+use Rattle.std.proofs.Common.{◌≡◌, ◌≤◌, ℕ, ◌+◌, List, [], ◌∷◌, ◌++◌, length, take, drop, Some}
+use Rattle.std.proofs.Common.{slice_get, codes, refl, sym, ap, ◌∙◌, append_assoc, add-one, subst, arith}
+use Rattle.std.specs.Str.{IsUtf8, IsCharBoundary}
+use Rattle.std.proofs.lemmas.List.{drop_more, drop_all, append-nil, length-append, take_at}
+use Rattle.std.proofs.lemmas.Str.{IsCharBoundary-from_take}
 use Rattle.std.proofs.lemmas.Option.{slice_get_within, get_or_from_slice_get}
+use mathlib.Core.List.{IsPrefix}
 use Rattle.mud_chron.specs.declared.format.Format.TheVariants.{Two}
 use Rattle.mud_chron.specs.Entry.{Entry}
 use Rattle.mud_chron.specs.Text.{entry_line, entries_text, end_line, history_text, line_feed}
@@ -33,6 +35,10 @@ line_written es n e old new at is =
     ap (λ (t : List ℕ). t ++ rest) (is ∙ append_assoc old line line_feed) ∙ append_assoc old (line ++ line_feed) rest
     ∙ ap (λ (t : List ℕ). old ++ t) (sym (lines_after-next es n e here))
 
+-- a text to which a line was added begins with the text
+pub line_longer : (old new line end : List ℕ) → new ≡ old ++ line ++ end → IsPrefix old new
+line_longer old new line end is = (line ++ end, sym (is ∙ append_assoc old line end))
+
 -- after all lines the last one was written
 pub text_written : (es : List Entry) (n count : ℕ) (old mid new : List ℕ)
     → mid ++ lines_after n es ≡ (old ++ codes "mud history 2\n") ++ lines_after 0 es → length es ≤ n → count ≡ length es
@@ -47,3 +53,19 @@ text_written es n count old mid new so past same is =
     is ∙ append_assoc mid (end_line count) line_feed ∙ ap (λ (k : ℕ). mid ++ (end_line k ++ line_feed)) same
     ∙ ap (λ (t : List ℕ). t ++ end) all
     ∙ append_assoc (old ++ head) lines end ∙ append_assoc old head (lines ++ end)
+
+-- what begins with a text that begins with another begins with that
+pub further : (old mid new : List ℕ) → IsPrefix old mid → IsPrefix mid new → IsPrefix old new
+further old mid new one two =
+    (one.0 ++ two.0, sym (append_assoc old one.0 two.0) ∙ ap (λ (t : List ℕ). t ++ two.0) one.1 ∙ two.1)
+
+-- a text is what it was, once it is cut there again
+pub cut_back : (old new : List ℕ) (n : ℕ) → IsPrefix old new → n ≡ length old → take n new ≡ old
+cut_back old new n longer at = ap (take n) (sym longer.1) ∙ take_at old longer.0 n (sym at)
+
+-- a text can be cut where it ended before
+pub cuts_there : (old new : List ℕ) (n : ℕ) → IsUtf8 old → IsUtf8 new → IsPrefix old new → n ≡ length old
+    → IsCharBoundary new n
+cuts_there old new n was is longer at =
+    IsCharBoundary-from_take new n is (omega (arith, at, ap length longer.1, length-append old longer.0))
+    (subst IsUtf8 (sym (cut_back old new n longer at)) was)

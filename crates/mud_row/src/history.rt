@@ -71,10 +71,11 @@ impl History {
     }
 
     /// Appends the text of the history in format 2. The history stays as it was. The only error is out of memory, and
-    /// then a part of the text may have been appended.
+    /// then the text is as it was.
     pub fn write_text(&mut self, alloc: Global, out: &mut String) -> Result<(), AllocError>
         ensures same { self.new ≡ self.old }
         ensures ok { OnOk result (string_bytes out.new ≡ string_bytes out.old ++ history_text Two self.old) }
+        ensures err { OnErr result (string_bytes out.new ≡ string_bytes out.old) }
     {
         write_text(alloc, &self.row, &mut self.pass, out)
     }

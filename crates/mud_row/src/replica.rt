@@ -206,7 +206,7 @@ impl Replica {
     }
 
     /// Appends the text of the history of the known entries, in format 2. The replica stays as it
-    /// was. The only error is out of memory, and then a part of the text may have been appended.
+    /// was. The only error is out of memory, and then the text is as it was.
     pub fn write_text(
         &mut self,
         alloc: Global,
@@ -217,6 +217,7 @@ impl Replica {
         ensures same { self.new ≡ self.old }
         ensures limit { length self.old.list ≤ MOST_ENTRIES }
         ensures ok { OnOk result (string_bytes out.new ≡ string_bytes out.old ++ history_text Two self.old.list) }
+        ensures err { OnErr result (string_bytes out.new ≡ string_bytes out.old) }
     {
         // for the prover: `known` says that they are at most 65,536
         let _ = self.pass.known();

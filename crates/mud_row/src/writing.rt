@@ -1,6 +1,7 @@
 //! The text of the entries that a pass knows, written from the cells where they stand.
 
 ghost use Rattle.std.specs.Prelude.{◌≡◌, ◌<◌, ◌+◌, ◌++◌, length, OnOk, OnErr, string_bytes};
+ghost use mathlib.Core.List.{IsPrefix};
 ghost use Rattle.mud_chron.specs.declared.format.Format.TheVariants.{Two};
 ghost use Rattle.mud_chron.specs.Text.{history_text, end_line, line_feed};
 ghost use Rattle.mud_row.specs.Known.{lines_after};
@@ -24,6 +25,7 @@ pub(crate) fn write_line(
     ensures same { pass.new ≡ pass.old }
     ensures ok { OnOk result (string_bytes out.new ++ lines_after (n + 1) pass.old.list
         ≡ string_bytes out.old ++ lines_after n pass.old.list) }
+    ensures longer { OnOk result (IsPrefix (string_bytes out.old) (string_bytes out.new)) }
     ensures err { OnErr result (string_bytes out.new ≡ string_bytes out.old) }
 {
     // for the prover: `known` says that they are at most 65,536, so that `n + 1` fits
@@ -35,7 +37,7 @@ pub(crate) fn write_line(
 }
 
 /// Appends the text of the history of the known entries in format 2. The pass stays as it was. The only error is out of
-/// memory, and then a part of the text may have been appended.
+/// memory, and then the text is as it was.
 pub(crate) fn write_text(
     alloc: Global,
     row: &Row,
@@ -45,6 +47,24 @@ pub(crate) fn write_text(
     requires { pass.old.row ≡ row.now }
     ensures same { pass.new ≡ pass.old }
     ensures ok { OnOk result (string_bytes out.new ≡ string_bytes out.old ++ history_text Two pass.old.list) }
+    ensures err { OnErr result (string_bytes out.new ≡ string_bytes out.old) }
+{
+    let len = out.len();
+    match push_text(alloc, row, pass, out) {
+        Ok(()) => Ok(()),
+        Err(AllocError) => {
+            out.truncate(len);
+            Err(AllocError)
+        }
+    }
+}
+
+// As `write_text`, but that out of memory may leave a part of the text.
+fn push_text(alloc: Global, row: &Row, pass: &mut Pass, out: &mut String) -> Result<(), AllocError>
+    requires { pass.old.row ≡ row.now }
+    ensures same { pass.new ≡ pass.old }
+    ensures ok { OnOk result (string_bytes out.new ≡ string_bytes out.old ++ history_text Two pass.old.list) }
+    ensures err { OnErr result (IsPrefix (string_bytes out.old) (string_bytes out.new)) }
 {
     out.push_str(Format::Two.first_line())?;
     for n in 0..pass.known() {

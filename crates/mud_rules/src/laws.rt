@@ -3,6 +3,7 @@
 ghost use Rattle.mud_rules.specs.Laws.{IsAlikeWhateverIsRead, AreQuestions, IsMade};
 ghost use Rattle.std.specs.Prelude.{ℕ, Option, ◌≡◌};
 ghost use Rattle.mud_world.specs.State.{State};
+ghost use Rattle.mud_rules.specs.declared.digging.TheConstants.{BAR};
 ghost use Rattle.mud_rules.specs.declared.verdict.Verdict.TheVariants.{Change as Changes};
 ghost use Rattle.mud_world.specs.declared.change.Change.{Change};
 ghost use Rattle.mud_words.specs.Line.{Line};
@@ -24,4 +25,9 @@ pub fn decisions()
 /// What a line asks is asked by the verb of a question, in every world and whoever typed it.
 pub fn questions()
     ensures { AreQuestions }
+{}
+
+/// The byte that has a name is that of USASCII.
+pub fn codes()
+    ensures bar { BAR ≡ 124 }
 {}

@@ -35,6 +35,7 @@ mod found;
 mod frontier;
 mod gate;
 mod job;
+pub mod laws;
 pub mod limits;
 mod part;
 mod pool;

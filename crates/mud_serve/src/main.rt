@@ -15,7 +15,7 @@ use crate::logbook::Logbook;
 use crate::serving::{answer, listen};
 use crate::stop::Stop;
 use log::{Level, Logged};
-use mud_command::{CommandFault, KIT, Listening, Service, service_of, show, words_of};
+use mud_command::{CommandFault, Listening, Service, service_of, show, words_of};
 use mud_listen::StopSign;
 use std::alloc::Global;
 use std::io::{Eprint, Print};
@@ -37,7 +37,6 @@ fn main(rt: HostRuntime) -> ExitCode {
     };
     keep_freed(rt.alloc());
     let listening = match service {
-        Service::Version => return status_of(&rt, tell_version(&rt)),
         Service::Script(limits) => return status_of(&rt, answer(&rt, limits)),
         Service::Listen(listening) => listening,
     };
@@ -107,18 +106,14 @@ fn keep_freed(alloc: Global) {
     let _ = Vec::<u8>::with_capacity(alloc, FREED_BYTES);
 }
 
-// Names the program, and the toolchain with which it was proved.
-fn tell_version<R: Print>(rt: &R) -> Result<(), Stop> {
-    match println!(rt; "mud_serve, proved with {KIT}") {
-        Ok(()) => Ok(()),
-        Err(_) => Err(Stop::Write),
-    }
-}
-
-// Says why the words ask for nothing, and answers the status.
-fn tell_fault<R: Eprint>(rt: &R, fault: CommandFault) -> ExitCode {
+// Says why the words ask for nothing, or what they ask to be told, and answers the status.
+fn tell_fault<R: Print + Eprint>(rt: &R, fault: CommandFault) -> ExitCode {
     match fault {
         CommandFault::OutOfMemory => tell_stop(rt, Stop::OutOfMemory),
+        CommandFault::Asked(text) => match print!(rt; "{text}") {
+            Ok(()) => ExitCode::SUCCESS,
+            Err(_) => tell_stop(rt, Stop::Write),
+        },
         CommandFault::Told(text) => ExitCode::from(show(rt, text.as_str())),
     }
 }

@@ -1,17 +1,19 @@
 //! The services of the program.
 
-ghost use Rattle.std.specs.Prelude.{◌≤◌};
+ghost use Rattle.std.specs.Prelude.{◌≡◌, ◌≤◌, IfOk, length, take};
 ghost use Rattle.mud_world.specs.declared.limits.TheConstants.{MOST_ENTRIES};
+ghost use Rattle.mud_chron.specs.declared.format.Format.TheVariants.{Two};
+ghost use Rattle.mud_chron.specs.Text.{journal_text};
 ghost use Rattle.mud_command.specs.Service.{AreWithin};
 ghost use Rattle.mud_search.specs.declared.limits.TheConstants.{MOST_WORKERS};
 
-use crate::stop::Stop;
+use crate::stop::{NoPort, Stop};
 use log::Log;
 use mud_chron::Entry;
 use mud_chron::limits::MOST_DESKS;
 use mud_command::{ChosenLimits, Listening, WebListening};
 use mud_ends::{Sink, Source};
-use mud_journal::find_journal;
+use mud_journal::{Disk, Found, find_journal};
 use mud_listen::{Doors, Site, StopSign, WebDoor, listen_journaled, listen_on};
 use mud_load::load;
 use mud_page::PAGE;
@@ -19,7 +21,7 @@ use mud_session::script;
 use std::fs::File;
 use std::io;
 use std::io::Eprint;
-use std::net::{Net, TcpListener, TcpStream};
+use std::net::{IpAddr, Net, TcpListener, TcpStream};
 use std::rt::{Files, Runtime};
 use std::sync::Wait;
 use std::thread::Threads;
@@ -58,6 +60,25 @@ fn load_entries<R: Runtime + AllocGlobal>(rt: &R, file: Option<&str>) -> Result<
     }
 }
 
+// The entries that a world with a journal goes on from: those that the journal has, or those of the file where it has
+// none.
+fn go_on_from<R: Runtime + AllocGlobal>(
+    rt: &R,
+    file: Option<&str>,
+    had: Vec<Entry>,
+) -> Result<Vec<Entry>, Stop>
+    ensures front { IfOk result (λ v. take (length had.items) v.items ≡ had.items) }
+    ensures within { IfOk result (λ v. length had.items ≤ length v.items) }
+{
+    if file.is_none() {
+        return Ok(had);
+    }
+    if !had.is_empty() {
+        return Err(Stop::NotEmpty);
+    }
+    load_entries(rt, file)
+}
+
 // Says how much of the journal's end is no whole line.
 fn tell_torn<R: Eprint>(rt: &R, torn: usize) {
     let _ = match torn {
@@ -73,9 +94,12 @@ fn bind<R: Net<Listener = TcpListener, Stream = TcpStream>>(
     address: &str,
     port: u16,
 ) -> Result<TcpListener, Stop> {
+    let Ok(address) = address.parse::<IpAddr>() else {
+        return Err(Stop::Port(port, NoPort::NotIp));
+    };
     match TcpListener::bind(rt, (address, port)) {
         Ok(listener) => Ok(listener),
-        Err(_) => Err(Stop::Listen),
+        Err(error) => Err(Stop::Port(port, NoPort::of(error.kind()))),
     }
 }
 
@@ -195,11 +219,37 @@ fn keep_journal<
         Err(fault) => return Err(Stop::of_opening(fault)),
     };
     tell_torn(rt, torn);
-    let entries = match listening.load {
-        None => had,
-        Some(_) if !had.is_empty() => return Err(Stop::NotEmpty),
-        Some(_) => load_entries(rt, listening.load)?,
-    };
+    let entries = go_on_from(rt, listening.load, had)?;
+    keep_entries(rt, listening, limits, sign, entries, found)
+}
+
+// Serves connections from these entries on, and keeps the world in the journal that was found. The disk is any: the
+// borrow checker of the prover does not take the journal's own file beside what lives for ever, as the page does.
+fn keep_entries<
+    D: Disk + Drop,
+    R: Runtime
+        + AllocGlobal
+        + Threads
+        + Wait
+        + Log
+        + Clock
+        + Sync
+        + Net<Listener = TcpListener, Stream = TcpStream>,
+>(
+    rt: &R,
+    listening: Listening<'_>,
+    limits: mud_listen::Limits,
+    sign: Option<&StopSign>,
+    entries: Vec<Entry>,
+    found: Found<D>,
+) -> Result<(), Stop>
+    requires sessions { limits.sessions ≤ MOST_DESKS }
+    requires workers { limits.workers ≤ MOST_WORKERS }
+    requires from { 1 ≤ limits.capacity }
+    requires to { limits.capacity ≤ MOST_ENTRIES }
+    requires found { found.text.items ≡ journal_text Two (take found.count entries.items) }
+    requires within { found.count ≤ length entries.items }
+{
     let doors = doors(rt, listening)?;
     let mut sink = Sink::new(io::writer(rt));
     match listen_journaled(

@@ -4,7 +4,40 @@ use mud_journal::OpenFault;
 use mud_listen::ListenFault;
 use mud_load::Unloaded;
 use mud_session::ScriptFault;
+use std::io::ErrorKind;
 use thiserror::Error;
+
+/// Why a port can't be had.
+#[derive(Clone, Copy, Debug, Error)]
+pub(crate) enum NoPort {
+    /// Another program has it.
+    #[error("in use")]
+    InUse,
+    /// This user may not have it.
+    #[error("permission denied")]
+    Denied,
+    /// This machine does not have the address.
+    #[error("no such address")]
+    NoSuchAddress,
+    /// The address is none of IPv4 or IPv6: names are not looked up.
+    #[error("not an IP address")]
+    NotIp,
+    /// The system says so.
+    #[error("{0}")]
+    Other(ErrorKind),
+}
+
+impl NoPort {
+    /// Why the system did not give a port.
+    pub(crate) fn of(kind: ErrorKind) -> NoPort {
+        match kind {
+            ErrorKind::AddrInUse => NoPort::InUse,
+            ErrorKind::PermissionDenied => NoPort::Denied,
+            ErrorKind::AddrNotAvailable => NoPort::NoSuchAddress,
+            kind => NoPort::Other(kind),
+        }
+    }
+}
 
 /// Why the program stopped.
 #[derive(Clone, Copy, Debug, Error)]
@@ -21,7 +54,10 @@ pub(crate) enum Stop {
     /// Standard input came in too many pieces.
     #[error("too many reads")]
     TooManyReads,
-    /// The port can't be had, or no connection can be taken.
+    /// A port can't be had, for this reason.
+    #[error("cannot listen on port {0}: {1}")]
+    Port(u16, NoPort),
+    /// No connection can be taken any more.
     #[error("cannot listen")]
     Listen,
     /// The desks of the sessions did not make one history.
@@ -76,6 +112,7 @@ impl Stop {
             ListenFault::Accept => Stop::Listen,
             ListenFault::Settle(_) => Stop::Settle,
             ListenFault::Load(fault) => Stop::of_load(Unloaded::of_entries(fault)),
+            ListenFault::Open(fault) => Stop::of_opening(*fault),
             ListenFault::Journal(_) => Stop::Journal,
         }
     }

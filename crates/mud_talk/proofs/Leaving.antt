@@ -3,6 +3,7 @@ use Rattle.std.proofs.Common.{◌≡◌, ℕ, true, false, List, [], ◌++◌, l
 use Rattle.std.proofs.Common.{append-nil, ◌⊎◌, inl, inr}
 use Rattle.std.proofs.Math.Logic.{∥∥₁_map}
 use Rattle.websocket.specs.declared.error.Error.{Error}
+use Rattle.websocket.specs.Stream.{read_all}
 use Rattle.mud_nvt.specs.History as Nvt
 use Rattle.mud_hall.specs.Desk.{DeskState, TakesIn as TakesInEntries}
 use Rattle.mud_session.specs.State.{SessionState, DoorState}
@@ -10,7 +11,9 @@ use Rattle.mud_session.specs.inner.Wire.{greeting}
 use Rattle.mud_session.specs.Laws.{NamesSeen}
 use Rattle.mud_talk.proofs.Naming.{NothingBeyond}
 use Rattle.mud_session.proofs.Naming.{begins_so, taken_so, names-nil}
-use Rattle.mud_web.specs.Channel.{StandsAfter, TakesIn, EndsWith, replies as replies_to, frame_of}
+use Rattle.mud_web.specs.Channel.{StandsAfter, TakesIn, EndsWith, Finishes, new_connection, replies as replies_to}
+use Rattle.mud_web.specs.Sending.{frames_of}
+use Rattle.mud_web.proofs.Sending.{frames_none}
 use Rattle.mud_web.specs.Close.{ending_of, closes_for}
 use Rattle.mud_web_session.specs.Web.{WebState, has_ended, with_output, AnswersTyped, NudgesWeb}
 use Rattle.mud_web_session.specs.Web as Web
@@ -35,13 +38,17 @@ begun web desk stands out told =
 emptied : (s : SessionState) → s.out ≡ [] → s ≡ record s { out = [] }
 emptied s is = ap (λ (o : List ℕ). record s { out = o }) is
 
+-- where no bytes came no frame is finished
+none_finished : Finishes [] [] []
+none_finished = sym (append-nil (read_all new_connection []).effects)
+
 -- a step that was done
 abbrev pub Done : WebState → DeskState → List ℕ → Type 0
 Done web desk out = ∥ SitsOnWeb web desk × LeavesUpTo (length desk.seen) out ∥₁
 
 said : (old new : WebState) (desk : DeskState) (text none out : List ℕ) (old_desk : DeskState)
     → SitsOnWeb old old_desk → NamesSeen (with_output new.session text) desk → new.session.out ≡ []
-    → new.channel ≡ old.channel → none ≡ [] → out ≡ none ++ frame_of text
+    → new.channel ≡ old.channel → none ≡ [] → out ≡ none ++ frames_of text
     → SitsOnWeb new desk × LeavesUpTo (length desk.seen) out
 said old new desk text none out old_desk sits seen taken channel nothing is = (
   record {
@@ -50,12 +57,15 @@ said old new desk text none out old_desk sits seen taken channel nothing is = (
     stands = subst (λ c. StandsAfter c sits.earlier) (sym channel) sits.stands;
   },
   record {
+    earlier = [];
+    came = [];
     answered = [];
+    finishes = none_finished;
     said = text;
     ending = None;
     names = seen.out;
-    is = is ∙ ap (λ (l : List ℕ). l ++ frame_of text) nothing
-        ∙ sym (append-nil (frame_of text));
+    is = is ∙ ap (λ (l : List ℕ). l ++ frames_of text) nothing
+        ∙ sym (append-nil (frames_of text));
   },
 )
 
@@ -88,11 +98,14 @@ ended_sits web desk is = ∣ (λ e. absurd (cc)) ∣₁
 
 pub none_leaves : (most : ℕ) (out : List ℕ) → out ≡ [] → ∥ LeavesUpTo most out ∥₁
 none_leaves most out is = ∣ record {
+  earlier = [];
+  came = [];
   answered = [];
+  finishes = none_finished;
   said = [];
   ending = None;
   names = names-nil most;
-  is = is;
+  is = is ∙ ap (λ (l : List ℕ). l ++ []) (sym frames_none);
 } ∣₁
 
 -- bytes were taken in
@@ -109,9 +122,11 @@ taken_sits old new desk bytes typed_old typed_new none replies sits going same t
     }))
 
 -- replies, no message, and an end
-replied : (none answers end out : List ℕ) → none ≡ [] → out ≡ none ++ answers ++ end → out ≡ answers ++ [] ++ end
+replied : (none answers end out : List ℕ) → none ≡ [] → out ≡ none ++ answers ++ end
+    → out ≡ answers ++ frames_of [] ++ end
 replied none answers end out nothing is =
     is ∙ ap (λ (l : List ℕ). l ++ answers ++ end) nothing ∙ ap (λ (l : List ℕ). l ++ end) (sym (append-nil answers))
+    ∙ ap (λ (l : List ℕ). answers ++ l ++ end) (sym frames_none)
 
 pub taken_leaves : (old new : WebState) (desk : DeskState) (bytes typed_old typed_new none out : List ℕ)
     → Sits old desk → has_ended old ≡ false → none ≡ []
@@ -121,7 +136,10 @@ taken_leaves old new desk bytes typed_old typed_new none out sits going nothing 
     let s = sat going in
     let grows = takes.grows s.earlier s.stands in
     record {
+      earlier = s.earlier;
+      came = bytes;
       answered = grows.fresh;
+      finishes = grows.finishes;
       said = [];
       ending = None;
       names = names-nil 0;
@@ -137,7 +155,10 @@ ended_leaves old new desk bytes typed_old typed_new none out e sits going nothin
     let s = sat going in
     let grows = ends.grows s.earlier s.stands in
     record {
+      earlier = s.earlier;
+      came = bytes;
       answered = grows.fresh;
+      finishes = grows.finishes;
       said = [];
       ending = ending_of e;
       names = names-nil 0;

@@ -10,7 +10,7 @@ use Rattle.mud_session.specs.Feeds.{Feeds, Nudges}
 use Rattle.mud_session.specs.inner.Wire.{greeting}
 use Rattle.mud_session.specs.Notices.{NamesUpTo}
 use Rattle.mud_session.specs.Laws.{NamesSeen}
-use Rattle.mud_session.proofs.Naming.{begins_so, taken_so}
+use Rattle.mud_session.proofs.Naming.{begins_so, taken_so, names-nil}
 use Rattle.mud_talk.specs.Sayings.{SaysUpTo}
 
 -- what `mud_session::laws::nothing_beyond` says
@@ -48,6 +48,10 @@ pub out_named : (session : SessionState) (desk : DeskState) (text : List ℕ) (v
 out_named session desk text version names is long =
     ∥∥₁_map names (λ named.
     inl (subst (λ n. NamesUpTo n text) (sym long) (subst (NamesUpTo (length desk.seen)) (sym is) named.out)))
+
+-- nothing is to be sent
+pub none_said : (most : ℕ) (out : List ℕ) → out ≡ [] → ∥ SaysUpTo most out ∥₁
+none_said most out is = ∣ inl (subst (NamesUpTo most) (sym is) (names-nil most)) ∣₁
 
 -- what was to be sent was taken out
 pub taken : (old new : SessionState) (desk : DeskState) → ∥ NamesSeen old desk ∥₁ → new ≡ record old { out = [] }

@@ -70,6 +70,7 @@ impl<J: HallName> TelnetTalk<J> {
     }
 
     // After a step that was not done: nothing is sent, since nobody promises what it names.
+    #[tactic(auto, using(crate::proofs::Naming::none_said))]
     fn step_refused(
         session: Session,
         seat: Seat<'_, J>,

@@ -147,6 +147,7 @@ impl<J: HallName> WebTalk<J> {
     }
 
     // After a step that was done: what it says is to be sent.
+    #[tactic(auto, using(crate::proofs::Leaving::says))]
     fn step_done(
         alloc: Global,
         web: WebSession,
@@ -166,6 +167,7 @@ impl<J: HallName> WebTalk<J> {
     }
 
     // After a step that was not done: nothing is sent, since nobody promises what it names.
+    #[tactic(auto, using(crate::proofs::Naming::none_said))]
     fn step_refused(
         alloc: Global,
         web: WebSession,

@@ -48,7 +48,7 @@ impl Store {
     fn call(&mut self) -> Result<(), DiskFault> {
         self.calls = self.calls.saturating_add(1);
         if self.calls == self.fails_at {
-            Err(DiskFault)
+            Err(DiskFault::Failed)
         } else {
             Ok(())
         }
@@ -71,23 +71,27 @@ impl Disk for MemoryDisk<'_> {
 
     ghost left = { λ _ _ _. tt };
 
+    fn replace(&mut self, bytes: &[u8]) -> Result<(), DiskFault> {
+        self.store.call()?;
+        self.store.bytes.clear();
+        self.store
+            .bytes
+            .extend_from_slice(bytes)
+            .map_err(|_| DiskFault::Failed)?;
+        self.store.synced = self.store.bytes.len();
+        Ok(())
+    }
+
     fn append(&mut self, bytes: &[u8]) -> Result<(), DiskFault> {
         self.store
             .bytes
             .extend_from_slice(bytes)
-            .map_err(|_| DiskFault)?;
+            .map_err(|_| DiskFault::Failed)?;
         self.store.call()
     }
 
     fn sync(&mut self) -> Result<(), DiskFault> {
         self.store.call()?;
-        self.store.synced = self.store.bytes.len();
-        Ok(())
-    }
-
-    fn cut(&mut self, keep: usize) -> Result<(), DiskFault> {
-        self.store.call()?;
-        self.store.bytes.truncate(keep);
         self.store.synced = self.store.bytes.len();
         Ok(())
     }
@@ -116,7 +120,7 @@ fn add_entries(
     entries: &[Entry],
 ) -> usize {
     let had = found.len();
-    match found.begin() {
+    match found.begin(alloc, &[]) {
         Ok(mut journal) => {
             commit(rt, alloc, &mut journal, entries.get(had..).unwrap_or(&[]));
             journal.receipt().up_to()
@@ -131,7 +135,7 @@ fn found_on<'s>(
     store: &'s mut Store,
     bytes: &[u8],
 ) -> Result<Found<MemoryDisk<'s>>, OpenFault> {
-    let (found, _, _) = recover(alloc, MemoryDisk { store }, bytes)?;
+    let (found, _, _) = recover(alloc, MemoryDisk { store }, Vec::from_slice(alloc, bytes)?)?;
     Ok(found)
 }
 
@@ -184,12 +188,13 @@ fn check_fronts(
     Ok(())
 }
 
-// The entries of a journal's text.
-fn entries_of(alloc: Global, text: &str) -> Result<Vec<Entry>, ChronFault> {
+/// The entries of a journal's text.
+pub(crate) fn entries_of(alloc: Global, text: &str) -> Result<Vec<Entry>, ChronFault> {
     Ok(read_front(alloc, text.as_bytes())?.entries)
 }
 
-const TEXT: &str = "mud history 2
+/// The text of a journal of five entries.
+pub(crate) const TEXT: &str = "mud history 2
 1 1 dig #1 new \"A\" out \"a\"
 2 1 walk #1 #3
 3 2 player #4 \"Bob\"
@@ -197,8 +202,8 @@ const TEXT: &str = "mud history 2
 5 1 emote #1 waves
 ";
 
-// How many calls it takes to write it: a cut, the first line and its sync, and two calls for each two entries.
-const CALLS: u32 = 9;
+/// How many calls it takes to write it: one for the first line, and two calls for each two entries.
+pub(crate) const CALLS: u32 = 7;
 
 // Sees what is left where this call fails.
 fn check_fault(
@@ -254,7 +259,7 @@ fn serve<
     W: Write,
 >(rt: &R, telnet: TcpListener, store: &mut Store, out: &mut Sink<W>) -> Result<(), ListenFault> {
     let alloc = rt.alloc();
-    let Ok((found, had, _)) = recover(alloc, MemoryDisk { store }, &[]) else {
+    let Ok((found, had, _)) = recover(alloc, MemoryDisk { store }, Vec::new(alloc)) else {
         return Err(ListenFault::OutOfMemory);
     };
     let doors = Doors { telnet, web: None };
@@ -269,6 +274,7 @@ fn end_word(served: &Result<(), ListenFault>) -> &'static str {
     match served {
         Ok(()) => "done",
         Err(ListenFault::Journal(JournalFault::Disk)) => "journal fault: disk",
+        Err(ListenFault::Open(OpenFault::File(DiskFault::Failed))) => "cannot open journal",
         Err(_) => "another fault",
     }
 }
@@ -400,10 +406,10 @@ const OF_HEARD: &str =
 // After the two calls for each change are two of the server's end.
 #[test]
 fn each_call_of_a_disk_fails_under_a_server(rt: HostRuntime) -> Result<(), Fail> {
-    check_faults(&rt, 1, 3, "", "journal fault: disk", 0)?;
-    check_faults(&rt, 4, 5, UNKNOWN, OF_UNKNOWN, 0)?;
-    check_faults(&rt, 6, 7, UNHEARD, OF_UNHEARD, 1)?;
-    check_faults(&rt, 8, 9, HEARD, OF_HEARD, 2)
+    check_faults(&rt, 1, 1, "", "cannot open journal", 0)?;
+    check_faults(&rt, 2, 3, UNKNOWN, OF_UNKNOWN, 0)?;
+    check_faults(&rt, 4, 5, UNHEARD, OF_UNHEARD, 1)?;
+    check_faults(&rt, 6, 7, HEARD, OF_HEARD, 2)
 }
 
 const OF_DONE: &str = "Welcome. Type: connect NAME;[1] welcome #2;[2] said;[2] bye;done";

@@ -42,6 +42,10 @@ end 10
 struct Barrier {
     passed: AtomicU64,
     late: AtomicU64,
+    // How often each worker passed, in a byte each, and how often one did that the search hasn't, or for a member that
+    // it hasn't.
+    by_worker: AtomicU64,
+    strays: AtomicU64,
 }
 
 impl Barrier {
@@ -49,17 +53,42 @@ impl Barrier {
         Barrier {
             passed: AtomicU64::new(0),
             late: AtomicU64::new(0),
+            by_worker: AtomicU64::new(0),
+            strays: AtomicU64::new(0),
         }
     }
 
-    // Whether at least two rooms passed, and none before the turns had run out.
+    // How many workers passed.
+    fn workers(&self) -> usize {
+        let by_worker = self.by_worker.load(Ordering::SeqCst);
+        [0, 8, 16, 24, 32, 40, 48, 56]
+            .iter()
+            .filter(|at| (by_worker >> **at) & 255 != 0)
+            .count()
+    }
+
+    // Whether at least two rooms passed, by two workers, none of them late and none for another member than the one.
     fn is_met(&self) -> bool {
-        self.passed.load(Ordering::SeqCst) >= 2 && self.late.load(Ordering::SeqCst) == 0
+        self.passed.load(Ordering::SeqCst) >= 2
+            && self.late.load(Ordering::SeqCst) == 0
+            && self.strays.load(Ordering::SeqCst) == 0
+            && self.workers() >= 2
+    }
+
+    // Whether nobody passed.
+    fn is_untouched(&self) -> bool {
+        self.workers() == 0 && self.strays.load(Ordering::SeqCst) == 0
     }
 }
 
 impl Gate for Barrier {
-    fn between(&self, _worker: usize, _member: usize, room: u32) {
+    fn between(&self, worker: usize, member: usize, room: u32) {
+        if worker < 8 && member == 0 {
+            self.by_worker
+                .fetch_add(1 << (8 * worker as u32), Ordering::SeqCst);
+        } else {
+            self.strays.fetch_add(1, Ordering::SeqCst);
+        }
         if room == 0 || self.passed.fetch_add(1, Ordering::SeqCst) > 0 {
             return;
         }
@@ -123,6 +152,7 @@ fn check_labels<R: Threads + Wait + Sync + Abort>(
         wanted,
     );
     assert!(rt; gate.is_met() == (workers > 1));
+    assert!(rt; gate.is_untouched() == (workers == 0));
     Ok(())
 }
 
@@ -238,6 +268,7 @@ fn check_desk<R: Threads + Wait + Sync + Abort>(
     let found = asked_in::<Brand, R>(rt, hall, room, workers, &gate)?;
     same(rt, question(room), found.as_str(), wanted);
     assert!(rt; gate.is_met() == (workers > 1));
+    assert!(rt; gate.is_untouched() == (workers == 0));
     Ok(())
 }
 

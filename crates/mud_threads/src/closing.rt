@@ -10,11 +10,11 @@ use std::time::Duration;
 // How long the server waits between two looks at its sessions.
 const LOOK_MILLISECONDS: u64 = 50;
 
-// How many times it looks, two seconds long, before it shuts the sockets of sessions that are to end.
-const LAST_LOOKS: u32 = 40;
+// How many times it looks, five seconds long, before it shuts the sockets of sessions that are to end.
+const LAST_LOOKS: u32 = 100;
 
 /// Waits until no session is left. Once the server is to end or the journal takes no more, the sessions are to end,
-/// too: a socket that is not shut two seconds later is shut then.
+/// too: a socket that is not shut five seconds later is shut then.
 pub fn see_out<J: HallName, R: Wait>(rt: &R, house: &HouseOf<J>, stop: Option<&StopSign>) {
     if stop.is_none() && house.gate.is_open() {
         return;
@@ -26,7 +26,7 @@ pub fn see_out<J: HallName, R: Wait>(rt: &R, house: &HouseOf<J>, stop: Option<&S
 
 // Whether no session is left, and none can come of a browser that is heard: it takes its place before it leaves.
 fn is_empty<J: HallName, R: Wait>(rt: &R, house: &HouseOf<J>) -> bool {
-    house.lobby.is_empty(rt) && house.is_empty(rt)
+    house.lobby.is_empty() && house.is_empty(rt)
 }
 
 // Waits until no session is left, or those that are left are to end; why they are, if so.

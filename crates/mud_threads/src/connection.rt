@@ -6,7 +6,7 @@ use mud_house::{Bells, House, Places, rest};
 use mud_talk::Talk;
 use mud_wire::{Ending, Entrance, Parting, Wire};
 use std::alloc::Global;
-use std::sync::atomic::{AtomicU64, Ordering};
+use std::sync::atomic::{AtomicBool, AtomicU64, Ordering};
 use std::sync::{Arc, Mutex, Wait};
 use std::time::{Clock, Duration};
 
@@ -21,10 +21,12 @@ pub(crate) struct Connection<J: HallName> {
     talk: Mutex<Option<Talk<J>>>,
     // When a line was answered last, in microseconds; 0 where none was since the notice thread asked last.
     answered: AtomicU64,
+    // Whether the reader thread brings the session down: the socket is its own then.
+    hangs_up: AtomicBool,
 }
 
-// How often it is tried, a second long, to say the last to a session that is busy, and how long between two tries.
-const CLOSE_TRIES: u32 = 20;
+// How often it is tried, four seconds long, to say the last to a session that is busy, and how long between two tries.
+const CLOSE_TRIES: u32 = 80;
 
 const CLOSE_MILLISECONDS: u64 = 50;
 
@@ -40,6 +42,7 @@ impl<J: HallName> Connection<J> {
             wire,
             talk: Mutex::new(None),
             answered: AtomicU64::new(0),
+            hangs_up: AtomicBool::new(false),
         }
     }
 
@@ -67,6 +70,16 @@ impl<J: HallName> Connection<J> {
         }
     }
 
+    /// The reader thread brings the session down from now on.
+    pub(crate) fn hang_up(&self) {
+        self.hangs_up.store(true, Ordering::SeqCst);
+    }
+
+    /// Whether the reader thread brings the session down.
+    pub(crate) fn is_hanging_up(&self) -> bool {
+        self.hangs_up.load(Ordering::SeqCst)
+    }
+
     /// Lets a browser in by this answer to its head; whether it was taken.
     pub(crate) fn let_in<R: Wait + Clock>(&self, rt: &R, answer: &[u8]) -> bool {
         self.wire.wait_for_ever() && self.wire.let_in(rt, rt, answer)
@@ -89,6 +102,11 @@ impl<J: HallName> Connection<J> {
     /// a write that the other thread waits for under the lock.
     pub(crate) fn leave<R: Wait>(&self, rt: &R, house: &HouseOf<J>, at: usize) {
         self.wire.shut();
+        self.give_back(rt, house, at);
+    }
+
+    /// The same, but the socket stays open: for a web socket that was closed, and to which nobody writes any more.
+    pub(crate) fn give_back<R: Wait>(&self, rt: &R, house: &HouseOf<J>, at: usize) {
         let talk = self.talk.lock(rt).take();
         if let Some(talk) = talk {
             house.keep(rt, at, talk.into_desk());
@@ -111,7 +129,7 @@ impl<J: HallName> Connection<J> {
         match parting {
             None => true,
             Some(Parting::JournalFault) => {
-                self.tell_fault(rt, talk);
+                self.end_with_all(rt, talk, Ending::JournalFault);
                 false
             }
             Some(parting) => {
@@ -121,11 +139,11 @@ impl<J: HallName> Connection<J> {
         }
     }
 
-    // Under the session's lock, says that the journal takes no more.
-    fn tell_fault<R: Wait>(&self, rt: &R, talk: &mut Option<Talk<J>>) {
+    /// Under the session's lock, says why all sessions end.
+    pub(crate) fn end_with_all<R: Wait>(&self, rt: &R, talk: &mut Option<Talk<J>>, ending: Ending) {
         match self.wire.entrance() {
-            Entrance::Telnet => self.wire.tell_ending(rt, Ending::JournalFault),
-            Entrance::Web => self.close(rt, talk, Parting::JournalFault),
+            Entrance::Telnet => self.wire.tell_ending(rt, ending),
+            Entrance::Web => self.close(rt, talk, Parting::of_all(ending)),
         }
     }
 
@@ -137,19 +155,20 @@ impl<J: HallName> Connection<J> {
     }
 
     /// The session ends for this reason, unless it has ended for another. A web socket is closed if the session's lock
-    /// is free within a second: who holds it for longer waits for the other side.
-    pub(crate) fn part<R: Wait>(&self, rt: &R, parting: Parting) {
+    /// is free within four seconds: who holds it for longer waits for the other side. Whether it was closed.
+    pub(crate) fn part<R: Wait>(&self, rt: &R, parting: Parting) -> bool {
         self.wire.part(rt, parting);
         if self.wire.entrance() == Entrance::Telnet {
-            return;
+            return false;
         }
         for _ in 0..CLOSE_TRIES {
             if let Some(mut guard) = self.talk.try_lock() {
                 self.close(rt, &mut guard, parting);
-                return;
+                return true;
             }
             rest(rt, Duration::from_millis(CLOSE_MILLISECONDS));
         }
+        false
     }
 
     /// Says why all sessions end. By Telnet the socket is shut then; the other side of a web socket closes it.
@@ -159,11 +178,13 @@ impl<J: HallName> Connection<J> {
                 self.say_ending(rt, ending);
                 self.wire.shut();
             }
-            Entrance::Web => self.part(rt, Parting::of_all(ending)),
+            Entrance::Web => {
+                self.part(rt, Parting::of_all(ending));
+            }
         }
     }
 
-    // By Telnet says why all sessions end, if the session's lock is free within a second: else it would stand within a
+    // By Telnet says why all sessions end, if the session's lock is free within four seconds: else it would stand in a
     // text that is being sent.
     fn say_ending<R: Wait>(&self, rt: &R, ending: Ending) {
         for _ in 0..CLOSE_TRIES {

@@ -5,8 +5,8 @@
 //! thread, which serves what comes, and the notice thread, which tells what others did. [`see_out`] waits until all
 //! have ended. docs/SERVER.md says what they lock and who wakes whom.
 //!
-//! No contract says what a thread does: tests show it. Proved is that none can come to a fault, and, by the contracts
-//! of `mud_talk`, what a session makes of the bytes that it is given.
+//! No contract says what a thread does, nor that what a session has to send is what leaves: tests show it. Proved is
+//! that none can come to a fault, and by their types that a text which names a version waits for its sync.
 #![tactic(auto)]
 
 mod browsers;

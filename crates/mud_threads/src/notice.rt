@@ -47,7 +47,7 @@ fn leave_to_reader<J: HallName, R: Wait + Clock>(
 }
 
 /// The notice thread of a session: each time it is woken, the session looks for what others did. Where it fails, the
-/// shut socket ends the reader thread.
+/// shut socket ends the reader thread, unless that is at the end already.
 ///
 /// Whether all sessions end is looked for before the first sleep, too: who is woken for that is known by then. While it
 /// rests, a wake-up is kept and costs whoever wakes it no call: so what is done in a busy world is told together.
@@ -72,5 +72,7 @@ pub(crate) fn tell_all<J: HallName, R: Wait + Clock>(
         }
         rest(rt, pause(house));
     }
-    connection.wire().shut();
+    if !connection.is_hanging_up() {
+        connection.wire().shut();
+    }
 }

@@ -1,25 +1,33 @@
 //! The reader thread of a session.
 
+ghost use Rattle.std.specs.Prelude.{◌≤◌, length, IfOk};
+
 use crate::connection::{Connection, HouseOf};
 use crate::steps::{Said, feed, take_in};
-use log::{Log, info};
+use log::{Log, info, warn};
 use mud_hall::HallName;
 use mud_talk::Talk;
+use mud_web::{FirstLine, Verdict};
 use mud_wire::{Entrance, Parting, Patience, now};
 use std::alloc::Global;
+use std::net::SocketAddr;
 use std::sync::Wait;
 use std::thread::Threads;
 use std::time::Clock;
 
 const BUFFER_LEN: usize = 4096;
 
+// After how many seconds the log names a session by Telnet that has said nothing which tells it from a browser.
+const SILENT_SECONDS: u32 = 1;
+
 // Whether a byte ends a line.
 fn ends_line(byte: &u8) -> bool {
     matches!(*byte, b'\r' | b'\n')
 }
 
-// What a reader thread works with: the connection, the place of its session, and how long that waits for the other
-// side.
+// What a reader thread works with: the connection, the place of its session and the number of its desk, for how long
+// the log waits to name it, and for how long it waits for the other side; what is known of its first line, whether it
+// has begun, was named in the log, and is counted as a player's.
 #[derive(Drop)]
 struct Reading<'a, J: HallName, R> {
     rt: &'a R,
@@ -27,7 +35,13 @@ struct Reading<'a, J: HallName, R> {
     house: &'a HouseOf<J>,
     connection: &'a Connection<J>,
     at: usize,
+    number: u32,
+    peer: SocketAddr,
+    moment: Patience,
     patience: Patience,
+    first_line: FirstLine,
+    has_begun: bool,
+    is_named: bool,
     is_counted: bool,
 }
 
@@ -39,16 +53,59 @@ impl<'a, J: HallName, R: Threads + Wait + Log + Clock + Sync> Reading<'a, J, R> 
         house: &'a HouseOf<J>,
         connection: &'a Connection<J>,
         at: usize,
+        number: u32,
     ) -> Reading<'a, J, R> {
-        let patience = Patience::new(house.limits.idle, house.limits.unnamed, now(rt));
+        let (wire, start) = (connection.wire(), now(rt));
         Reading {
             rt,
             alloc,
             house,
             connection,
             at,
-            patience,
+            number,
+            peer: wire.peer(),
+            moment: Patience::new(0, SILENT_SECONDS, start),
+            patience: Patience::new(house.limits.idle, house.limits.unnamed, start),
+            first_line: FirstLine::new(),
+            has_begun: wire.entrance() == Entrance::Web,
+            is_named: false,
             is_counted: false,
+        }
+    }
+
+    // The log names the session, if it has not yet. From now on a read waits as long as the patience is.
+    fn name(&mut self) {
+        if !self.is_named {
+            self.is_named = true;
+            self.connection.wire().wait_for_ever();
+            let (number, peer) = (self.number, self.peer);
+            info!(self.rt; "desk {number}: a session of {peer} begins");
+        }
+    }
+
+    // The session has begun: it counts for the total, and the log names it.
+    fn begin(&mut self) {
+        if !self.has_begun {
+            self.has_begun = true;
+            self.house.lobby.settle(&self.house.limits, true);
+        }
+        self.name();
+    }
+
+    // Whether what came first by Telnet is a browser's request, this piece being the next. Once it is known to be none,
+    // the session has begun. As long as it may become one, no line of it has ended but blank ones, so the session may
+    // have it (the law `undecided_ends_no_line` of `mud_web`).
+    fn is_request(&mut self, bytes: &[u8]) -> bool {
+        if self.has_begun {
+            return false;
+        }
+        match self.first_line.feed(bytes) {
+            Verdict::Request => true,
+            Verdict::Undecided => false,
+            Verdict::NoRequest => {
+                self.begin();
+                false
+            }
         }
     }
 
@@ -82,8 +139,13 @@ impl<'a, J: HallName, R: Threads + Wait + Log + Clock + Sync> Reading<'a, J, R> 
 
     // Under the session's lock, gives it what was typed, asks for the sync of a change that was accepted, and sends
     // what the session says once what it may name is synced; whether the session goes on. It asks first: to send may
-    // wait for the other side.
+    // wait for the other side. Once all sessions are to end, it says so in place of an answer: one who types without a
+    // pause leaves the notice thread no moment in which the lock is free.
     fn answer(&mut self, talk: &mut Option<Talk<J>>, typed: &[u8]) -> bool {
+        if let Some(ending) = self.house.ending(self.rt) {
+            self.connection.end_with_all(self.rt, talk, ending);
+            return false;
+        }
         let Some(said) = feed(talk, self.rt, self.house, typed) else {
             return false;
         };
@@ -158,40 +220,99 @@ impl<'a, J: HallName, R: Threads + Wait + Log + Clock + Sync> Reading<'a, J, R> 
         self.answer_frames(&mut guard, bytes)
     }
 
+    // Gives the session a piece of what comes by Telnet, unless a browser sends it; whether the session goes on.
+    fn serve_by_telnet(&mut self, bytes: &[u8]) -> bool {
+        if self.is_request(bytes) {
+            self.connection.wire().part(self.rt, Parting::Request);
+            return false;
+        }
+        self.serve_lines(bytes)
+    }
+
     // Gives the session a piece of what comes; whether it goes on.
     fn serve_piece(&mut self, bytes: &[u8]) -> bool {
         match self.connection.wire().entrance() {
-            Entrance::Telnet => self.serve_lines(bytes),
+            Entrance::Telnet => self.serve_by_telnet(bytes),
             Entrance::Web => self.serve_frames(bytes),
         }
     }
 
-    // Gives the session what came already and all that comes, up to the end of either; what ends it.
-    fn converse(&mut self, first: &[u8]) -> Parting {
-        let mut buffer = [0u8; BUFFER_LEN];
-        if !self.serve_piece(first) {
+    // Sends the greeting, and gives the session what came already and all that comes; what ends it.
+    fn greet_and_converse(&mut self, first: &[u8]) -> Parting {
+        if self.has_begun {
+            self.name();
+        }
+        if !self.connection.look(self.rt, self.house) {
             return Parting::Left;
         }
+        match self.converse(first) {
+            Ok(()) => Parting::Left,
+            Err(parting) => parting,
+        }
+    }
+
+    // Gives the session what came already and all that comes, up to the end of either; what ends it, if that is not in
+    // what came.
+    fn converse(&mut self, first: &[u8]) -> Result<(), Parting> {
+        let mut buffer = [0u8; BUFFER_LEN];
+        let mut goes_on = self.serve_piece(first);
         for _ in self.rt.forever() {
-            let wire = self.connection.wire();
-            let count = match wire.read(self.rt, &self.patience, &mut buffer) {
-                Ok(count) => count,
-                Err(parting) => return parting,
-            };
-            if !self.serve_piece(&buffer[..count]) {
-                return Parting::Left;
+            if !goes_on {
+                return Ok(());
             }
+            let count = self.next_piece(&mut buffer)?;
+            goes_on = self.serve_piece(&buffer[..count]);
         }
         unreachable!()
     }
 
-    // The session ends for this reason, unless it has ended for another. What the other side of a web socket still
-    // sends is let go then.
-    fn hang_up(&self, parting: Parting) {
-        self.connection.part(self.rt, parting);
-        let wire = self.connection.wire();
-        if wire.entrance() == Entrance::Web {
-            wire.drain(self.rt);
+    // Reads what comes next, and waits a moment only until the log names the session; how many bytes came.
+    fn next_piece(&mut self, buffer: &mut [u8]) -> Result<usize, Parting>
+        ensures { IfOk result (λ count. count ≤ length buffer.old) }
+    {
+        let connection = self.connection;
+        if self.is_named {
+            return connection.wire().read(self.rt, &self.patience, buffer);
+        }
+        match connection.wire().read(self.rt, &self.moment, buffer) {
+            Err(Parting::Unnamed) => {
+                self.name();
+                Ok(0)
+            }
+            other => other,
+        }
+    }
+
+    // The session ends for this reason, unless it has ended for another, and gives its place back. What the other side
+    // of a web socket that was closed still sends is let go then.
+    fn hang_up(&mut self, parting: Parting) {
+        let (rt, connection) = (self.rt, self.connection);
+        connection.hang_up();
+        if connection.part(rt, parting) {
+            connection.give_back(rt, self.house, self.at);
+            self.tell_end();
+            connection.wire().drain(rt, rt);
+            connection.wire().shut();
+        } else {
+            connection.leave(rt, self.house, self.at);
+            self.tell_end();
+        }
+    }
+
+    // The log names what ended the session. A browser's request was none, and is told once a second at most.
+    fn tell_end(&mut self) {
+        let (rt, house) = (self.rt, self.house);
+        let parting = self.connection.wire().part(rt, Parting::Left);
+        if parting == Parting::Request {
+            house.lobby.settle(&house.limits, false);
+        } else {
+            self.begin();
+        }
+        let (number, peer) = (self.number, self.peer);
+        if self.is_named {
+            info!(rt; "desk {number}: the session of {peer} ends: {parting}");
+        } else if house.lobby.is_to_tell(now(rt)) {
+            warn!(rt; "{peer} sent a browser's request by Telnet");
         }
     }
 }
@@ -207,14 +328,7 @@ pub(crate) fn read_all<'a, J: HallName, R: Threads + Wait + Log + Clock + Sync>(
     number: u32,
     first: &[u8],
 ) {
-    let peer = connection.wire().peer();
-    info!(rt; "desk {number}: a session of {peer} begins");
-    if connection.look(rt, house) {
-        let mut reading = Reading::new(rt, alloc, house, connection, at);
-        let parting = reading.converse(first);
-        reading.hang_up(parting);
-    }
-    connection.leave(rt, house, at);
-    let parting = connection.wire().part(rt, Parting::Left);
-    info!(rt; "desk {number}: the session of {peer} ends: {parting}");
+    let mut reading = Reading::new(rt, alloc, house, connection, at, number);
+    let parting = reading.greet_and_converse(first);
+    reading.hang_up(parting);
 }

@@ -48,15 +48,17 @@ where
         has_begun
     }
 
-    /// Serves a connection by Telnet, or refuses it where there is no place for it.
+    /// Serves a connection by Telnet, or refuses it where there is no place for it. Once what comes shows that it is no
+    /// browser's request, its reader thread says that its session has begun.
     pub fn welcome(&self, stream: TcpStream, peer: SocketAddr) {
         if !set_up(&stream) {
             return;
         }
         match self.admit(peer.ip()) {
             Ok(at) => {
-                let has_begun = self.begin(at, stream);
-                self.house.lobby.settle(&self.house.limits, has_begun);
+                if !self.begin(at, stream) {
+                    self.house.lobby.settle(&self.house.limits, false);
+                }
             }
             Err(no_place) => refuse(stream, no_place),
         }

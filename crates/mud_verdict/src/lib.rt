@@ -4,6 +4,7 @@
 //! |---|---|
 //! | [`verdict`] | the line of the finding, without its end, and how a checker ends |
 //! | [`Finding`], [`Status`] | what a checker finds of a history's text and a proof's, and how it ends |
+//! | [`without_returns`] | the bytes of a text without each CR that stands directly before LF |
 //!
 //! ```text
 //! let outcome = verdict(alloc, history, proof)?; // accepted, or what is refused, or what can't be read
@@ -20,4 +21,5 @@ mod line_ends;
 mod outcome;
 
 pub use finding::{Finding, Status};
+pub use line_ends::without_returns;
 pub use outcome::{Outcome, verdict};

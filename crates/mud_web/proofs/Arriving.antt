@@ -1,14 +1,9 @@
--- What one side writes is what the other reads.
-use Rattle.std.proofs.Common.{[], ◌∷◌, None, Some, refl, ap, arith}
+-- What the other side writes is what a message types.
+use Rattle.std.proofs.Common.{Some, refl, ap, arith}
 use Rattle.websocket.specs.Content.{text}
 use Rattle.websocket.proofs.RoundTripLemmas.{read_step_written}
 use Rattle.mud_web.specs.Channel.{new_connection, typed_by}
-use Rattle.mud_web.specs.Laws.{client, TextsArrive, MessagesType}
-
-pub texts_arrive : TextsArrive
-texts_arrive [] rest valid some small = absurd (some refl)
-texts_arrive (b ∷ bs) rest valid some small =
-    read_step_written client (text (b ∷ bs)) None rest refl refl refl tt valid tt tt tt small
+use Rattle.mud_web.specs.Laws.{MessagesType}
 
 pub messages_type : MessagesType
 messages_type bs key rest valid fits mask =

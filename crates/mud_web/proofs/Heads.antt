@@ -1,69 +1,74 @@
 -- A head that was parsed, and what it asks for.
-use Rattle.std.proofs.Common.{◌≡◌, ℕ, ◌+◌, ◌<◌, ◌≤◌, Bool, true, false, if◌then◌else◌, List, [], ◌∷◌, ◌++◌, length}
-use Rattle.std.proofs.Common.{take, get_or, map, Result, Ok, Err, refl, sym, ap, ◌∙◌, subst, arith, append-nil}
+use Rattle.std.proofs.Common.{◌≡◌, ℕ, ◌≤◌, List, length, take, map, sym, ap, ◌∙◌, subst, arith, codes}
+use Rattle.std.proofs.Common.{inr}
 use Rattle.std.specs.Prelude.{◌↔◌, IsTrue}
-use Rattle.std.proofs.lemmas.List.{take_more, take_all, map-append, length-map, length-take}
+use Rattle.std.proofs.lemmas.List.{length-map, length-take}
 use Rattle.httparse.specs.declared.spans.HeaderSpan.{HeaderSpan}
 use Rattle.httparse.specs.declared.spans.RequestSpans.{RequestSpans}
-use Rattle.httparse.specs.Grammar.{RequestHead, ReadsRequest}
-use Rattle.httparse.specs.Spans.{IsRequestWithin, IsRequestAt, IsRequestOf, header_bytes, name_and_value}
+use Rattle.httparse.specs.Grammar.{RequestHead, print_request, ReadsRequest}
+use Rattle.httparse.specs.Spans.{span_bytes, IsRequestWithin, IsRequestAt, IsRequestOf, header_bytes, name_and_value}
 use Rattle.httparse.proofs.GrammarLemmas.{request_unique}
-use Rattle.websocket.specs.declared.handshake.failure.HandshakeError.{HandshakeError}
-use Rattle.websocket.specs.Headers.{Fields, fields_of, eq_ignore_case, is_graphic_text}
-use Rattle.websocket.specs.Handshake as Handshake
-use Rattle.websocket.proofs.AcceptKey.{accept_key_is_graphic}
+use Rattle.websocket.specs.Headers.{fields_of as fields_at}
 use Rattle.mud_web.specs.declared.asking.TheConstants.{MOST_HEAD, MOST_FIELDS}
 use Rattle.mud_web.specs.declared.asking.Asked.{Asked}
-use Rattle.mud_web.specs.declared.asking.Seen.{Seen}
-use Rattle.mud_web.specs.declared.asking.Seen.TheVariants.{Nothing, Own, Foreign}
-use Rattle.mud_web.specs.inner.Origins.{IsSeen, is_own}
-use Rattle.mud_web.specs.Request.{values, IsSmall, Answers, AnswersWhole}
+use Rattle.mud_web.specs.declared.asking.Asked.TheVariants.{More, Page, Play, Refused}
+use Rattle.mud_web.specs.declared.asking.Besides.{Besides}
+use Rattle.mud_web.specs.declared.refusal.Refusal.TheVariants as Status
+use Rattle.mud_web.specs.inner.Playing.{AnswersPlay, IsUpgrade}
+use Rattle.mud_web.specs.Request.{fields_of, IsSmall, IsRead, HasHost, IsFit, IsPlay, AsksToPlay, Upgrades, Answers}
+use Rattle.mud_web.specs.Request.{AnswersWhole}
 
--- ---- the fields named Origin
+-- ---- its host and its method
 
-values_if : (t : Bool) (value : List ℕ) (one more : List (List ℕ))
-    → (if t then value ∷ (one ++ more) else (one ++ more)) ≡ (if t then value ∷ one else one) ++ more
-values_if true value one more = refl
-values_if false value one more = refl
+pub fit_at : (buf : List ℕ) (spans : List HeaderSpan) (r : RequestSpans) (h : RequestHead) → IsRequestAt buf spans r h
+    → HasHost r.version (fields_at buf (take r.headers spans)) → IsRead (span_bytes buf r.method) → IsFit h
+fit_at buf spans r h at host read = (rw (at.version, at.fields) at host, rw at.method at read)
 
-values-append : (some more : Fields) (name : List ℕ) → values (some ++ more) name ≡ values some name ++ values more name
-values-append [] more name = refl
-values-append (field ∷ some) more name =
-    rw (values-append some more name)
-    (values_if (eq_ignore_case field.0 name) field.1 (values some name) (values more name))
+-- ---- what a request to play is answered
 
-pub values_more : (buf : List ℕ) (spans : List HeaderSpan) (name : List ℕ) (i : ℕ) (d : HeaderSpan) → i < length spans
-    → values (fields_of buf (take (i + 1) spans)) name
-    ≡ values (fields_of buf (take i spans)) name ++ values (header_bytes buf (get_or spans i d) ∷ []) name
-values_more buf spans name i d inside =
-    rw (take_more spans i d inside, map-append (header_bytes buf) (take i spans) (get_or spans i d ∷ []))
-    (values-append (fields_of buf (take i spans)) (fields_of buf (get_or spans i d ∷ [])) name)
+-- what the head has besides its fields is told rightly
+record IsTold (h : RequestHead) (besides : Besides) : Type 0 where
+  get : IsTrue besides.is_get ↔ (h.method ≡ codes "GET")
+  version : besides.version ≡ h.minor
+  len : besides.len ≡ length (print_request h)
 
-pub seen_more : (buf : List ℕ) (spans : List HeaderSpan) (name : List ℕ) (i : ℕ) (d : HeaderSpan) (seen : Seen)
-    (origin : List ℕ) → i < length spans
-    → IsSeen seen
-    (values (fields_of buf (take i spans)) name ++ values (header_bytes buf (get_or spans i d) ∷ []) name) origin
-    → IsSeen seen (values (fields_of buf (take (i + 1) spans)) name) origin
-seen_more buf spans name i d seen origin inside is = rw (values_more buf spans name i d inside) is
+upgrades : (h : RequestHead) (besides : Besides) (key : List ℕ) → IsTold h besides
+    → IsUpgrade (fields_of h) besides key → Upgrades h key
+upgrades h besides key told (is_get, version, asks) =
+    record { get = told.get.0 is_get; version = λ zero. version (told.version ∙ zero); asks = asks }
 
-pub seen_all : (buf : List ℕ) (spans : List HeaderSpan) (name : List ℕ) (i : ℕ) (seen : Seen) (origin : List ℕ)
-    → length spans ≤ i
-    → IsSeen seen (values (fields_of buf (take i spans)) name) origin
-    → IsSeen seen (values (fields_of buf spans) name) origin
-seen_all buf spans name i seen origin all is = rw (take_all i spans all) at is
+no_upgrade : (h : RequestHead) (besides : Besides) (key : List ℕ) → IsTold h besides → Upgrades h key
+    → IsUpgrade (fields_of h) besides key
+no_upgrade h besides key told up =
+    (told.get.1 up.get, λ zero. up.version (sym told.version ∙ zero), up.asks)
 
-pub own_decides : (seen : Seen) (found : List (List ℕ)) (origin : List ℕ) → IsSeen seen found origin
-    → IsTrue (is_own seen) ↔ (found ≡ origin ∷ [])
-own_decides Own found origin is = (λ t. is, λ e. refl)
-own_decides Nothing found origin is = (λ t. absurd (cc t), λ e. absurd (cc (sym is ∙ e)))
-own_decides Foreign found origin is = (λ t. absurd (cc t), λ e. absurd (is [] (rw append-nil e)))
+played : (h : RequestHead) (origin : List ℕ) (besides : Besides) (asked : Asked) → IsTold h besides → AsksToPlay h
+    → AnswersPlay (fields_of h) origin besides asked → Answers h origin asked
+played h origin besides More told fit answers = absurd answers
+played h origin besides Page told fit answers = absurd answers
+played h origin besides (Play accept len) told fit (from, has13, (key, up, is), len_is) =
+    (fit, from, has13, (key, upgrades h besides key told up, is), len_is ∙ told.len)
+played h origin besides (Refused Status.Forbidden) told fit foreign = (fit, foreign)
+played h origin besides (Refused Status.UpgradeRequired) told fit (from, other) = (fit, from, other)
+played h origin besides (Refused Status.BadRequest) told fit (from, has13, none) =
+    inr (fit, from, has13, λ some. none (some.0, no_upgrade h besides some.0 told some.1))
+played h origin besides (Refused Status.MethodNotAllowed) told fit answers = absurd answers
+played h origin besides (Refused Status.NotFound) told fit answers = absurd answers
+played h origin besides (Refused Status.RequestTimeout) told fit answers = absurd answers
+played h origin besides (Refused Status.TooLarge) told fit answers = absurd answers
 
--- ---- the key that is answered
-
-pub graphic_answer : (accept : List ℕ) (r : Result (List ℕ) HandshakeError) → Handshake.Answers (Ok accept) r
-    → is_graphic_text accept ≡ true
-graphic_answer accept (Ok key) (valid, is) = rw is (accept_key_is_graphic key)
-graphic_answer accept (Err e) is = absurd (cc is)
+pub played_at : (buf : List ℕ) (spans : List HeaderSpan) (r : RequestSpans) (h : RequestHead) (origin : List ℕ)
+    (besides : Besides) (asked : Asked) → IsRequestAt buf spans r h
+    → HasHost r.version (fields_at buf (take r.headers spans)) → IsRead (span_bytes buf r.method)
+    → IsPlay (span_bytes buf r.path)
+    → IsTrue besides.is_get ↔ (span_bytes buf r.method ≡ codes "GET") → besides.version ≡ r.version
+    → besides.len ≡ r.len → AnswersPlay (fields_at buf (take r.headers spans)) origin besides asked
+    → Answers h origin asked
+played_at buf spans r h origin besides asked at host read play get version len answers =
+    let told : IsTold h besides =
+    record { get = rw at.method at get; version = version ∙ at.version; len = len ∙ at.len } in
+    let plays : IsPlay h.target = rw at.path at play in
+    played h origin besides asked told (fit_at buf spans r h at host read, plays) (rw at.fields at answers)
 
 -- ---- a whole head
 

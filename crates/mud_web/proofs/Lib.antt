@@ -1,5 +1,13 @@
 pub mod Arriving
+pub mod Bodies
+pub mod Ends
+pub mod FieldLists
+pub mod FirstLines
 pub mod Heads
+pub mod Hosts
+pub mod Keys
 pub mod Quiet
 pub mod Roles
 pub mod Runs
+pub mod Sending
+pub mod Written

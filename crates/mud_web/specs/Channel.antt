@@ -1,12 +1,10 @@
 -- The server's side of a web socket after its handshake (RFC 6455, sections 5 and 7): what the messages of the client
--- type, what is replied by itself, and how a text leaves.
+-- type, and what is replied by itself.
 use Rattle.std.specs.Prelude.{◌≡◌, ℕ, Bool, false, List, [], ◌∷◌, ◌++◌, Option, None, Some, Ok, Err}
 use Rattle.std.specs.List.{flat_map}
 use Rattle.websocket.specs.declared.error.Error.{Error}
 use Rattle.websocket.specs.declared.protocol.config.Role.TheVariants.{Server}
 use Rattle.websocket.specs.declared.protocol.state.WebSocketState.TheVariants.{Active}
-use Rattle.websocket.specs.declared.protocol.frame.coding.OpCode.TheVariants as Op
-use Rattle.websocket.specs.declared.protocol.frame.coding.Data.TheVariants.{Text}
 use Rattle.websocket.specs.Content.{Content, text}
 use Rattle.websocket.specs.Frame.{encode_frame}
 use Rattle.websocket.specs.Connection.{Connection, Effect, Outgoing, whole_header}
@@ -58,11 +56,6 @@ reply_by (Some frame) = encode_frame (whole_header frame.opcode None) frame.payl
 -- what is replied to all these frames, in order: to a ping its pong, to a close its close
 abbrev pub replies : List Effect → List ℕ
 replies effects = flat_map (λ e. reply_by e.reply) effects
-
--- a text leaves as one text message of one frame, without a mask; no text, no frame
-abbrev pub frame_of : List ℕ → List ℕ
-frame_of [] = []
-frame_of (b ∷ bs) = encode_frame (whole_header (Op.Data Text) None) (b ∷ bs)
 
 -- the channel stands where these bytes, and no others, came to it: all frames of them were read, in whatever pieces
 -- they came, and neither side closed

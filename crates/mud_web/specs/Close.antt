@@ -1,5 +1,5 @@
--- How a channel is closed: the codes of RFC 6455, section 7.4.1, and their frames.
-use Rattle.std.specs.Prelude.{ℕ, List, [], Option, None, Some, is_some, if◌then◌else◌}
+-- How a channel is closed: the codes of RFC 6455, section 7.4.1, with their reasons, and their frames.
+use Rattle.std.specs.Prelude.{ℕ, List, [], Option, None, Some, is_some, if◌then◌else◌, codes}
 use Rattle.websocket.specs.declared.error.Error.{Error}
 use Rattle.websocket.specs.declared.error.Error.TheVariants as Cause
 use Rattle.websocket.specs.declared.protocol.state.WebSocketState.{WebSocketState}
@@ -12,9 +12,9 @@ use Rattle.websocket.specs.Frame.{encode_frame}
 use Rattle.websocket.specs.Connection.{whole_header, closing_state}
 use Rattle.mud_web.specs.declared.closing.Ending.{Ending}
 use Rattle.mud_web.specs.declared.closing.Ending.TheVariants.{Normal, GoingAway, ProtocolError, InvalidData, TooBig}
-use Rattle.mud_web.specs.declared.closing.Ending.TheVariants.{InternalError}
+use Rattle.mud_web.specs.declared.closing.Ending.TheVariants.{InternalError, ServerFull, TooManySessions}
 
--- the code of an ending: 1000, 1001, 1002, 1007, 1009, 1011
+-- the code of an ending: 1000, 1001, 1002, 1007, 1009, 1011, 1013
 abbrev pub code_of : Ending → CloseCode
 code_of Normal = Code.Normal
 code_of GoingAway = Code.Away
@@ -22,10 +22,19 @@ code_of ProtocolError = Code.Protocol
 code_of InvalidData = Code.Invalid
 code_of TooBig = Code.Size
 code_of InternalError = Code.Error
+code_of ServerFull = Code.Again
+code_of TooManySessions = Code.Again
 
--- the close frame with this code and no reason, without a mask
-abbrev pub close_frame : CloseCode → List ℕ
-close_frame code = encode_frame (whole_header (Op.Control Close) None) (close_payload (Some (code, [])))
+-- the reason that is sent with the code
+abbrev pub reason_of : Ending → List ℕ
+reason_of ServerFull = codes "server full"
+reason_of TooManySessions = codes "too many sessions"
+reason_of other = []
+
+-- the close frame of an ending: its code and its reason, without a mask
+abbrev pub close_frame : Ending → List ℕ
+close_frame ending =
+    encode_frame (whole_header (Op.Control Close) None) (close_payload (Some (code_of ending, reason_of ending)))
 
 -- the ending that an error of the protocol asks for: a broken rule 1002, a text that is not UTF-8 1007, a message or a
 -- frame over the limit 1009; after the close of the other side none is due
@@ -40,7 +49,7 @@ ending_of Cause.AlreadyClosed = None
 -- the close frame of an ending, if there is one
 abbrev pub closes : Option Ending → List ℕ
 closes None = []
-closes (Some ending) = close_frame (code_of ending)
+closes (Some ending) = close_frame ending
 
 -- what is sent where reading ends with this error
 abbrev pub closes_for : Error → List ℕ
@@ -48,4 +57,4 @@ closes_for e = closes (ending_of e)
 
 -- a close is sent once: where one was sent already, or the connection has failed after one, nothing is
 abbrev pub closes_once : WebSocketState → Ending → List ℕ
-closes_once state ending = if is_some (closing_state state) then close_frame (code_of ending) else []
+closes_once state ending = if is_some (closing_state state) then close_frame ending else []

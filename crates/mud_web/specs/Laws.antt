@@ -1,6 +1,8 @@
 -- Laws of the definitions: what they say together.
-use Rattle.std.specs.Prelude.{◌≡◌, ◌≢◌, ◌≤◌, ◌<◌, ◌^◌, ℕ, false, List, [], ◌∷◌, ◌++◌, length, All, IsUtf8}
-use Rattle.std.specs.Prelude.{None, Some, Ok}
+use Rattle.std.specs.Prelude.{◌≡◌, ◌≢◌, ◌⊎◌, ◌≤◌, ◌<◌, ◌+◌, ◌-◌, ℕ, false, List, [], ◌∷◌, ◌++◌, length, take, map, All}
+use Rattle.std.specs.Prelude.{IsUtf8, None, Some, Ok, slice_index}
+use Rattle.std.specs.List.{flat_map}
+use Rattle.std.specs.Str.{IsAscii}
 use Rattle.websocket.specs.declared.protocol.config.Role.TheVariants.{Client}
 use Rattle.websocket.specs.declared.protocol.state.WebSocketState.TheVariants.{Active}
 use Rattle.websocket.specs.declared.protocol.frame.codec.FrameStatus.TheVariants.{Complete}
@@ -13,8 +15,14 @@ use Rattle.websocket.specs.Connection.{Connection, Effect, whole_header, read_st
 use Rattle.mud_nvt.specs.declared.codes.TheConstants.{IAC, LF}
 use Rattle.mud_nvt.specs.Units.{Given, units}
 use Rattle.mud_nvt.specs.Units as Unit
+use Rattle.websocket.specs.Stream.{prepend, read_all}
 use Rattle.mud_web.specs.declared.channel.TheConstants.{MOST_MESSAGE}
-use Rattle.mud_web.specs.Channel.{new_connection, typed_by, typed_of, frame_of}
+use Rattle.mud_web.specs.declared.messages.TheConstants.{MOST_SENT}
+use Rattle.httparse.specs.Grammar.{AllPass}
+use Rattle.mud_web.specs.declared.first_line.Verdict.TheVariants.{Undecided}
+use Rattle.mud_web.specs.FirstLine.{Decides, is_line_end}
+use Rattle.mud_web.specs.Channel.{new_connection, typed_by, typed_of}
+use Rattle.mud_web.specs.Sending.{messages_of, frames_of}
 
 -- the other side of a web socket, without limits of its own, to which no frame came yet
 abbrev pub client : Connection
@@ -25,12 +33,33 @@ client = record {
   config = record { max_message_size = None; max_frame_size = None; accept_unmasked_frames = false };
 }
 
--- the text that leaves as one frame is read by the other side as one message, and it is that text
+-- a message of so many bytes at most is cut off a text of which this is left, behind the last line end that it can
+-- hold; where it can hold none, it is as long as it may be
+pub record IsCut (most : ℕ) (message rest : List ℕ) : Type 0 where
+  pub over : most < length message + length rest
+  pub at : (slice_index message (length message - 1) ≡ LF) ⊎ ((length message ≡ most) × All (λ b. b ≢ LF) message)
+  pub last : All (λ b. b ≢ LF) (take (most - length message) rest)
+
+-- each message but the last is cut so
+abbrev pub AreCut : List (List ℕ) → Type 0
+AreCut [] = Unit {0}
+AreCut (message ∷ more) =
+    let rest = flat_map (λ m. m) more in (rest ≢ [] → IsCut MOST_SENT message rest) × AreCut more
+
+-- a text leaves as messages that are the text one behind the other, none of them empty or over the limit, and cut at
+-- its line ends
+abbrev pub Messages : Type 0
+Messages =
+    (text : List ℕ) → let messages = messages_of text in
+    (flat_map (λ m. m) messages ≡ text) × All (λ m. (0 < length m) × (length m ≤ MOST_SENT)) messages
+    × AreCut messages
+
+-- the text that leaves is read by the other side as its messages, and those are the text
 abbrev pub TextsArrive : Type 0
 TextsArrive =
-    (bs rest : List ℕ) → IsUtf8 bs → bs ≢ [] → length bs < 2 ^ 63
-    → (effect : Effect) × (read_step client (frame_of bs ++ rest) ≡ Ok (Complete (length (frame_of bs), effect)))
-    × (effect.message ≡ Some (text bs))
+    (bs rest : List ℕ) → IsAscii bs
+    → (effects : List Effect) × (map (λ e. e.message) effects ≡ map (λ m. Some (text m)) (messages_of bs))
+    × (read_all client (frames_of bs ++ rest) ≡ prepend effects (read_all client rest))
 
 -- a text message that the other side writes as one frame, under any mask, types that text and LF
 abbrev pub MessagesType : Type 0
@@ -54,3 +83,11 @@ IsLine (Unit.Answer bytes) = ⊥
 -- so all that it gives a session are lines, and nothing that the session says to it is an answer of Telnet
 abbrev pub OnlyLinesAreTyped : Type 0
 OnlyLinesAreTyped = (bytes : List ℕ) → All IsLine (units (typed_of bytes))
+
+-- where it is undecided whether a connection begins with a request, line ends came and then no line end any more: so
+-- nothing that came is a line with something in it
+abbrev pub UndecidedEndsNoLine : Type 0
+UndecidedEndsNoLine =
+    (bytes : List ℕ) → Decides Undecided bytes
+    → (blank line : List ℕ) × AllPass is_line_end blank
+    × All (λ b. is_line_end b ≡ false) line × (bytes ≡ blank ++ line)

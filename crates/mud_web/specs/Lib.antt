@@ -1,6 +1,12 @@
 pub mod Request
 pub mod Channel
 pub mod Close
+pub mod Fields
+pub mod FirstLine
 pub mod Laws
+pub mod Parts
 pub mod Responses
+pub mod Sending
+pub mod Targets
+pub mod Upgrade
 pub mod inner

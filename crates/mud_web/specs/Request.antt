@@ -1,9 +1,12 @@
 -- What the head of a request asks for (RFC 6455, section 4.2, and RFC 9110).
-use Rattle.std.specs.Prelude.{◌≡◌, ◌≢◌, ◌⊎◌, ◌≤◌, ◌<◌, ℕ, List, [], ◌∷◌, length, drop, map, codes, if◌then◌else◌, Ok}
+use Rattle.std.specs.Prelude.{◌≡◌, ◌≢◌, ◌⊎◌, ◌≤◌, ◌<◌, ℕ, List, [], ◌∷◌, length, drop, map, codes}
 use Rattle.httparse.specs.Grammar.{RequestHead, print_request, ReadsRequest, NeverHasRequest, MayBecomeRequest}
 use Rattle.httparse.specs.Spans.{name_and_value, RequestExceeds}
-use Rattle.websocket.specs.Headers.{Fields, eq_ignore_case}
-use Rattle.websocket.specs.Handshake.{requested_key, IsValidKey, accept_key_of}
+use Rattle.websocket.specs.Headers.{Fields}
+use Rattle.websocket.specs.Handshake.{accept_key_of}
+use Rattle.mud_web.specs.Fields.{values}
+use Rattle.mud_web.specs.Targets.{IsHost, IsSite, Names}
+use Rattle.mud_web.specs.Upgrade.{Has13, AsksKey}
 use Rattle.mud_web.specs.declared.asking.TheConstants.{MOST_HEAD, MOST_FIELDS}
 use Rattle.mud_web.specs.declared.asking.Asked.{Asked}
 use Rattle.mud_web.specs.declared.asking.Asked.TheVariants.{More, Page, Play, Refused}
@@ -13,45 +16,63 @@ use Rattle.mud_web.specs.declared.refusal.Refusal.TheVariants as Status
 abbrev pub fields_of : RequestHead → Fields
 fields_of head = map name_and_value head.fields
 
--- the values of all fields with this name, whatever the case of its letters
-abbrev pub values : Fields → List ℕ → List (List ℕ)
-values [] name = []
-values (field ∷ fields) name =
-    if eq_ignore_case field.0 name then field.1 ∷ values fields name else values fields name
-
 -- exactly one field is named Origin, and its value is this origin
 abbrev pub ComesFrom : RequestHead → (origin : List ℕ) → Type 0
 ComesFrom head origin = values (fields_of head) (codes "Origin") ≡ origin ∷ []
 
--- it upgrades to a web socket with this key: by its version of HTTP, and its fields Connection, Upgrade,
--- Sec-WebSocket-Version and Sec-WebSocket-Key
-abbrev pub Upgrades : RequestHead → (key : List ℕ) → Type 0
-Upgrades head key = (requested_key head.method head.minor (fields_of head) ≡ Ok key) × IsValidKey key
+-- it upgrades to a web socket with this key
+pub record Upgrades (head : RequestHead) (key : List ℕ) : Type 0 where
+  pub get : head.method ≡ codes "GET"
+  pub version : head.minor ≢ 0
+  pub asks : AsksKey (fields_of head) key
 
 -- it is not longer than a head may be, and has no more fields than one may have
 abbrev pub IsSmall : RequestHead → Type 0
 IsSmall head = (length (print_request head) ≤ MOST_HEAD) × (length head.fields ≤ MOST_FIELDS)
 
-abbrev pub IsGet : RequestHead → Type 0
-IsGet head = head.method ≡ codes "GET"
+-- the method asks to read: GET, or HEAD, which is answered as GET but without a body (RFC 9110, section 9.3.2)
+abbrev pub IsRead : (method : List ℕ) → Type 0
+IsRead method = (method ≡ codes "GET") ⊎ (method ≡ codes "HEAD")
+
+-- exactly one field is named Host, and has the form of a host; before HTTP/1.1 it may be left out (RFC 9112, 3.2)
+abbrev pub HasHost : (minor : ℕ) → Fields → Type 0
+HasHost minor fields =
+    let hosts = values fields (codes "Host") in
+    ((hosts ≡ []) × (minor ≡ 0)) ⊎ ((host : List ℕ) × IsHost host × (hosts ≡ host ∷ []))
+
+-- the target is the page, or where to play; an absolute form may leave the path `/` out
+abbrev pub IsPage : (target : List ℕ) → Type 0
+IsPage target = Names target (codes "/") ⊎ IsSite target
+
+abbrev pub IsPlay : (target : List ℕ) → Type 0
+IsPlay target = Names target (codes "/play")
+
+-- it asks to read what there is, by its host and its method
+abbrev pub IsFit : RequestHead → Type 0
+IsFit head = HasHost head.minor (fields_of head) × IsRead head.method
+
+-- it asks to play
+abbrev pub AsksToPlay : RequestHead → Type 0
+AsksToPlay head = IsFit head × IsPlay head.target
 
 -- a whole head is answered so, at a server whose page has this origin
 abbrev pub Answers : RequestHead → (origin : List ℕ) → Asked → Type 0
 Answers head origin More = ⊥
-Answers head origin Page = IsGet head × (head.target ≡ codes "/")
+Answers head origin Page = IsFit head × IsPage head.target
 Answers head origin (Play accept len) =
-    (head.target ≡ codes "/play") × ComesFrom head origin
+    AsksToPlay head × ComesFrom head origin × Has13 (fields_of head)
     × ((key : List ℕ) × Upgrades head key × (accept ≡ accept_key_of key)) × (len ≡ length (print_request head))
-Answers head origin (Refused Status.MethodNotAllowed) = ¬ (IsGet head)
-Answers head origin (Refused Status.NotFound) =
-    IsGet head × (head.target ≢ codes "/") × (head.target ≢ codes "/play")
-Answers head origin (Refused Status.Forbidden) = IsGet head × (head.target ≡ codes "/play") × ¬ (ComesFrom head origin)
+Answers head origin (Refused Status.MethodNotAllowed) =
+    HasHost head.minor (fields_of head) × ¬ (IsRead head.method)
+Answers head origin (Refused Status.NotFound) = IsFit head × ¬ (IsPage head.target) × ¬ (IsPlay head.target)
+Answers head origin (Refused Status.Forbidden) = AsksToPlay head × ¬ (ComesFrom head origin)
+Answers head origin (Refused Status.UpgradeRequired) =
+    AsksToPlay head × ComesFrom head origin × ¬ (Has13 (fields_of head))
 Answers head origin (Refused Status.BadRequest) =
-    IsGet head × (head.target ≡ codes "/play") × ComesFrom head origin × ¬ ((key : List ℕ) × Upgrades head key)
+    ¬ (HasHost head.minor (fields_of head))
+    ⊎ (AsksToPlay head × ComesFrom head origin × Has13 (fields_of head) × ¬ ((key : List ℕ) × Upgrades head key))
 Answers head origin (Refused Status.RequestTimeout) = ⊥
-Answers head origin (Refused Status.TooMany) = ⊥
 Answers head origin (Refused Status.TooLarge) = ⊥
-Answers head origin (Refused Status.Unavailable) = ⊥
 
 -- bytes at whose front there is no whole head are answered so: more are waited for while they are few and a head can
 -- come of them; they are refused where none can, or where they or their fields are too many
@@ -65,8 +86,7 @@ Waits bytes (Refused Status.MethodNotAllowed) = ⊥
 Waits bytes (Refused Status.NotFound) = ⊥
 Waits bytes (Refused Status.Forbidden) = ⊥
 Waits bytes (Refused Status.RequestTimeout) = ⊥
-Waits bytes (Refused Status.TooMany) = ⊥
-Waits bytes (Refused Status.Unavailable) = ⊥
+Waits bytes (Refused Status.UpgradeRequired) = ⊥
 
 -- a whole head is answered, or refused where it is too large
 abbrev pub AnswersWhole : RequestHead → (origin : List ℕ) → Asked → Type 0

@@ -1,19 +1,21 @@
 //! What a browser asks for: the page, or to play.
 
-ghost use Rattle.std.specs.Prelude.{◌≡◌, ◌↔◌, ◌≤◌, ◌++◌, ℕ, List, [], ◌∷◌, length, All, OnOk, IsTrue, true, codes};
+ghost use Rattle.std.specs.Prelude.{◌≡◌, ◌↔◌, ◌≤◌, ◌++◌, ℕ, List, [], length, All, OnOk, IsTrue, true};
 ghost use Rattle.httparse.specs.Grammar.{RequestHead, ReadsRequest, HasNoRequest};
-ghost use Rattle.httparse.specs.Spans.{IsRequestWithin, IsRequestAt, IsHeaderWithin, header_bytes};
-ghost use Rattle.websocket.specs.Headers.{fields_of, eq_ignore_case, is_graphic_text};
+ghost use Rattle.httparse.specs.Spans.{IsRequestWithin, IsRequestAt, IsHeaderWithin};
+ghost use Rattle.websocket.specs.Headers.{fields_of, is_graphic_text};
 ghost use Rattle.websocket.specs.Handshake.{response_bytes};
-ghost use Rattle.mud_web.specs.Request.{Answers, AnswersWhole, Waits, values, LetsIn};
-ghost use Rattle.mud_web.specs.Request.{IfPlay};
-ghost use Rattle.mud_web.specs.inner.Origins.{IsSeen, is_own};
+ghost use Rattle.mud_web.specs.Request.{Answers, AnswersWhole, Waits, LetsIn, IfPlay, IsRead, IsPage, HasHost};
+ghost use Rattle.mud_web.specs.inner.Playing.{AnswersPlay};
 
+use crate::fields::{Found, find, is_one};
+use crate::host::{is_host, is_site, names};
 use crate::refusal::Refusal;
+use crate::upgrade::{answer_key, has_version};
 use httparse::Status;
 use httparse::spans::{EMPTY_HEADER_SPAN, HeaderSpan, RequestSpans, parse_request};
 use std::alloc::AllocError;
-use websocket::handshake::server::{check_request, write_response};
+use websocket::handshake::server::write_response;
 
 /// The most bytes that the head of a request may have.
 pub const MOST_HEAD: usize = 8192;
@@ -39,20 +41,9 @@ pub enum Asked {
     Refused(Refusal),
 }
 
-// What was seen of the fields named Origin.
-#[derive(Clone, Copy)]
-enum Seen {
-    // None.
-    Nothing,
-    // One, and it is the server's own.
-    Own,
-    // Another, or more than one.
-    Foreign,
-}
-
 /// What the bytes that came ask for, at a server whose page has this origin (RFC 6454, section 6.2), as
-/// `http://localhost:8000`. A head is let in to play exactly where its method, target, version, key and single Origin
-/// are right (RFC 6455, section 4.2.1).
+/// `http://localhost:8000`. A head is let in to play exactly where its method, target, versions, host, key and single
+/// Origin are right (RFC 6455, section 4.2.1). [`Body::of`](crate::Body::of) says whether the answer has a body.
 pub fn asks(head: &[u8], origin: &[u8]) -> Asked
     ensures whole { (h : RequestHead) (rest : List ℕ) → ReadsRequest head.now h rest
         → AnswersWhole h origin.now result }
@@ -103,79 +94,85 @@ fn route(head: &[u8], request: &RequestSpans, spans: &[HeaderSpan], origin: &[u8
         → Answers h origin.now result }
     ensures graphic { IfPlay result (λ accept. is_graphic_text accept ≡ true) }
 {
-    if request.method.of(head) != b"GET".as_slice() {
+    let fields = &spans[..request.headers];
+    if !has_host(head, fields, request.version) {
+        return Asked::Refused(Refusal::BadRequest);
+    }
+    let method = request.method.of(head);
+    if !is_read(method) {
         return Asked::Refused(Refusal::MethodNotAllowed);
     }
     let target = request.path.of(head);
-    if target == b"/".as_slice() {
+    if is_page(target) {
         return Asked::Page;
     }
-    if target != b"/play".as_slice() {
+    if !names(target, b"/play") {
         return Asked::Refused(Refusal::NotFound);
     }
-    if !comes_from(head, &spans[..request.headers], origin) {
+    let asks = Besides {
+        is_get: method == b"GET".as_slice(),
+        version: request.version,
+        len: request.len,
+    };
+    play(head, fields, origin, asks)
+}
+
+// What the head of a request to play has besides its fields.
+#[derive(Clone, Copy)]
+struct Besides {
+    // Whether its method is GET.
+    is_get: bool,
+    // The minor version of HTTP.
+    version: u8,
+    // Its length.
+    len: usize,
+}
+
+// Whether such a request is let in to play.
+fn play(head: &[u8], fields: &[HeaderSpan], origin: &[u8], asks: Besides) -> Asked
+    requires { All (IsHeaderWithin (length head.now)) fields.now }
+    ensures answers { AnswersPlay (fields_of head.now fields.now) origin.now asks result }
+    ensures graphic { IfPlay result (λ accept. is_graphic_text accept ≡ true) }
+{
+    if !is_one(find(head, fields, b"Origin"), origin) {
         return Asked::Refused(Refusal::Forbidden);
     }
-    match check_request(head, request, spans) {
-        Ok(accept) => {
+    if !has_version(head, fields) {
+        return Asked::Refused(Refusal::UpgradeRequired);
+    }
+    match answer_key(head, fields) {
+        Some(accept) if asks.is_get && asks.version > 0 => {
             Asked::Play {
                 accept,
-                len: request.len,
+                len: asks.len,
             }
         }
-        Err(_) => Asked::Refused(Refusal::BadRequest),
+        _ => Asked::Refused(Refusal::BadRequest),
     }
 }
 
-// Whether exactly one field is named Origin, and its value is this one.
-fn comes_from(head: &[u8], spans: &[HeaderSpan], origin: &[u8]) -> bool
-    requires { All (IsHeaderWithin (length head.now)) spans.now }
-    ensures { IsTrue result ↔ (values (fields_of head.now spans.now) (codes "Origin") ≡ origin.now ∷ []) }
+// Whether a method asks to read: GET or HEAD.
+fn is_read(method: &[u8]) -> bool
+    ensures { IsTrue result ↔ IsRead method.now }
 {
-    let mut seen = Seen::Nothing;
-    for header in spans {
-        seen = see(seen, head, header, origin);
-    }
-    is_own(seen)
+    method == b"GET".as_slice() || method == b"HEAD".as_slice()
 }
 
-// Whether exactly one was seen, and it is the server's own.
-fn is_own(seen: Seen) -> bool
-    ensures { result ≡ is_own seen }
+// Whether a target is the page.
+fn is_page(target: &[u8]) -> bool
+    ensures { IsTrue result ↔ IsPage target.now }
 {
-    match seen {
-        Seen::Own => true,
-        Seen::Nothing | Seen::Foreign => false,
-    }
+    names(target, b"/") || is_site(target)
 }
 
-// What is seen after one more field.
-fn see(seen: Seen, head: &[u8], header: &HeaderSpan, origin: &[u8]) -> Seen
-    requires { IsHeaderWithin (length head.now) header.now }
-    ensures { (found : List (List ℕ)) → IsSeen seen found origin.now
-        → IsSeen result (found ++ values (header_bytes head.now header.now ∷ []) (codes "Origin")) origin.now }
+// Whether exactly one field is named Host, and has the form of a host; before HTTP/1.1 there may be none.
+fn has_host(head: &[u8], fields: &[HeaderSpan], version: u8) -> bool
+    requires { All (IsHeaderWithin (length head.now)) fields.now }
+    ensures { IsTrue result ↔ HasHost version (fields_of head.now fields.now) }
 {
-    if is_named(header.name.of(head), b"Origin") {
-        after(seen, header.value.of(head), origin)
-    } else {
-        seen
+    match find(head, fields, b"Host") {
+        Found::Nothing => version == 0,
+        Found::One(host) => is_host(host),
+        Found::Several => false,
     }
-}
-
-// What is seen after one more field named Origin.
-fn after(seen: Seen, value: &[u8], origin: &[u8]) -> Seen
-    ensures { (found : List (List ℕ)) → IsSeen seen found origin.now
-        → IsSeen result (found ++ value.now ∷ []) origin.now }
-{
-    match seen {
-        Seen::Nothing if value == origin => Seen::Own,
-        _ => Seen::Foreign,
-    }
-}
-
-// Whether the two are equal but for the case of letters.
-fn is_named(name: &[u8], wanted: &[u8]) -> bool
-    ensures { result ≡ eq_ignore_case name.now wanted.now }
-{
-    name.eq_ignore_ascii_case(wanted)
 }

@@ -1,11 +1,13 @@
 //! A channel: the server's side of a web socket after its handshake.
 
-ghost use Rattle.std.specs.Prelude.{◌≡◌, ◌≤◌, ◌++◌, ◌∷◌, [], length, drop, true, false, Err};
-ghost use Rattle.std.specs.Prelude.{IsUtf8, IfOk, IfErr, OnOk, OnErr, IfSome, option_map};
+ghost use Rattle.std.specs.Prelude.{◌≡◌, ◌≢◌, ◌≤◌, ◌<◌, ◌++◌, ◌∷◌, ℕ, List, [], length, drop, true, false, Err};
+ghost use Rattle.std.specs.Prelude.{IsErr, IfOk, IfErr, OnOk, OnErr, IfSome, option_map};
+ghost use Rattle.std.specs.Str.{IsAscii};
 ghost use Rattle.websocket.specs.Content.{IsReceivedInside, HasValidText, received_content};
 ghost use Rattle.websocket.specs.Connection.{IsDoneSending, can_write};
 ghost use Rattle.mud_nvt.specs.declared.codes.TheConstants.{LF};
-ghost use Rattle.mud_web.specs.Channel.{StandsAfter, TakesIn, EndsWith, typed_by, frame_of};
+ghost use Rattle.mud_web.specs.Channel.{StandsAfter, TakesIn, EndsWith, typed_by, new_connection};
+ghost use Rattle.mud_web.specs.Sending.{frame_of, frames_of};
 ghost use Rattle.mud_web.specs.declared.fault.Fault.TheVariants.{Over};
 ghost use Rattle.mud_web.specs.Close.{ending_of, closes_once};
 ghost use Rattle.mud_web.specs.Channel.{IfOver};
@@ -13,6 +15,7 @@ ghost use Rattle.mud_web.specs.inner.Steps.{Steps, Refuses, IsNoEnd, IsTyped, cl
 
 use crate::closing::Ending;
 use crate::fault::{Fault, SendFault};
+use crate::messages::message_len;
 use std::alloc::{AllocError, Global};
 use std::marker::Model;
 use std::str;
@@ -49,7 +52,8 @@ impl Model for Channel {
 impl Channel {
     /// A channel to which nothing came.
     pub fn new(alloc: Global) -> Channel
-        ensures { StandsAfter result [] }
+        ensures stands { StandsAfter result [] }
+        ensures conn { result.conn ≡ new_connection }
     {
         let config = WebSocketConfig {
             max_message_size: Some(MOST_MESSAGE),
@@ -176,17 +180,64 @@ impl Channel {
         }
     }
 
-    /// Adds a text to `out`, as a text message of one frame; no text, no frame. After an error nothing has changed.
+    /// Adds a text to `out`, as text messages of one frame each; no text, no frame. A message has at most [`MOST_SENT`]
+    /// bytes: a longer text is cut behind the last LF that it can hold, or at the limit where it holds none. The text
+    /// is to be ASCII. Where a close was sent or received, nothing is sent. After an error nothing has changed.
     pub fn send(&mut self, text: &[u8], out: &mut Vec<u8>) -> Result<(), SendFault>
-        ensures ok { OnOk result (out.new.items ≡ out.old.items ++ frame_of text.now) }
+        ensures ok { OnOk result (out.new.items ≡ out.old.items ++ frames_of text.now) }
         ensures same { self.new ≡ self.old }
         ensures err { OnErr result (out.new.items ≡ out.old.items) }
-        ensures not_text { result ≡ Err SendFault.NotText → ¬ (IsUtf8 text.now) }
+        ensures not_text { result ≡ Err SendFault.NotText → ¬ (IsAscii text.now) }
         ensures closed { result ≡ Err SendFault.Closed → can_write self.old.conn.state ≡ false }
+        ensures silent { can_write self.old.conn.state ≡ false → text.now ≢ [] → IsErr result }
     {
         if text.is_empty() {
             return Ok(());
         }
+        if !self.context.can_write() {
+            return Err(SendFault::Closed);
+        }
+        if !text.is_ascii() {
+            return Err(SendFault::NotText);
+        }
+        let sent = out.len();
+        match self.send_messages(text, out) {
+            Ok(()) => Ok(()),
+            Err(fault) => {
+                out.truncate(sent);
+                Err(fault)
+            }
+        }
+    }
+
+    // Adds the messages of a text. After an error some of them may stand there.
+    fn send_messages(&mut self, text: &[u8], out: &mut Vec<u8>) -> Result<(), SendFault>
+        requires { IsAscii text.now }
+        ensures ok { OnOk result (out.new.items ≡ out.old.items ++ frames_of text.now) }
+        ensures same { self.new ≡ self.old }
+        ensures err { OnErr result ((more : List ℕ) × (out.new.items ≡ out.old.items ++ more)) }
+        ensures text { result ≢ Err SendFault.NotText }
+        ensures closed { result ≡ Err SendFault.Closed → can_write self.old.conn.state ≡ false }
+    {
+        let mut rest = text;
+        while !rest.is_empty() {
+            let (message, behind) = rest.split_at(message_len(rest));
+            self.send_message(message, out)?;
+            rest = behind;
+        }
+        Ok(())
+    }
+
+    // Adds one message.
+    fn send_message(&mut self, text: &[u8], out: &mut Vec<u8>) -> Result<(), SendFault>
+        requires ascii { IsAscii text.now }
+        requires some { 0 < length text.now }
+        ensures ok { OnOk result (out.new.items ≡ out.old.items ++ frame_of text.now) }
+        ensures same { self.new ≡ self.old }
+        ensures err { OnErr result (out.new.items ≡ out.old.items) }
+        ensures text { result ≢ Err SendFault.NotText }
+        ensures closed { result ≡ Err SendFault.Closed → can_write self.old.conn.state ≡ false }
+    {
         let Ok(text) = str::from_utf8(text) else {
             return Err(SendFault::NotText);
         };
@@ -219,7 +270,7 @@ impl Channel {
     {
         let frame = CloseFrame {
             code: ending.code(),
-            reason: "",
+            reason: ending.reason(),
         };
         match self.context.close(Some(frame), out, &mut NoMask) {
             Ok(()) => Ok(()),

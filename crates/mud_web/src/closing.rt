@@ -1,12 +1,18 @@
 //! How the server closes a web socket.
 
-ghost use Rattle.std.specs.Prelude.{◌≡◌, Some};
-ghost use Rattle.mud_web.specs.Close.{code_of, ending_of};
+ghost use Rattle.std.specs.Prelude.{◌≡◌, ◌++◌, [], true, Some, OnOk};
+ghost use Rattle.websocket.specs.Handshake.{response_bytes};
+ghost use Rattle.websocket.specs.Headers.{is_graphic_text};
+ghost use Rattle.mud_web.specs.Close.{code_of, reason_of, ending_of, close_frame};
 
+use crate::asking::write_accept;
+use crate::channel::Channel;
+use std::alloc::AllocError;
 use websocket::error::Error;
 use websocket::protocol::CloseCode;
 
-/// Why the server closes a web socket: the codes of RFC 6455, section 7.4.1, that it sends.
+/// Why the server closes a web socket: the codes of RFC 6455, section 7.4.1, that it sends, and 1013 ("try again
+/// later") of the registry that section 11.7 sets up.
 #[derive(Clone, Copy, Debug, PartialEq, Eq)]
 pub enum Ending {
     /// 1000: the session was ended by `quit`.
@@ -21,6 +27,10 @@ pub enum Ending {
     TooBig,
     /// 1011: memory ran out, or the server can't go on for another reason of its own.
     InternalError,
+    /// 1013, `server full`: no place is free.
+    ServerFull,
+    /// 1013, `too many sessions`: the address has as many sessions as it may have.
+    TooManySessions,
 }
 
 impl Ending {
@@ -35,6 +45,18 @@ impl Ending {
             Ending::InvalidData => CloseCode::Invalid,
             Ending::TooBig => CloseCode::Size,
             Ending::InternalError => CloseCode::Error,
+            Ending::ServerFull | Ending::TooManySessions => CloseCode::Again,
+        }
+    }
+
+    /// The reason that is sent with the code, for people to read; empty where the code says all.
+    pub fn reason(self) -> &'static str
+        ensures { result.now ≡ reason_of self }
+    {
+        match self {
+            Ending::ServerFull => "server full",
+            Ending::TooManySessions => "too many sessions",
+            _ => "",
         }
     }
 
@@ -50,4 +72,19 @@ impl Ending {
             Error::ConnectionClosed | Error::AlreadyClosed => None,
         }
     }
+}
+
+/// Adds the answer to a head that asks to play, and at once the close frame of an ending: so the page learns why nobody
+/// plays by it, which a script can't read from another status than 101. The only error is out of memory.
+pub fn write_turned_away(
+    accept: &[u8; 28],
+    ending: Ending,
+    out: &mut Vec<u8>,
+) -> Result<(), AllocError>
+    requires { is_graphic_text accept.now ≡ true }
+    ensures { OnOk result (out.new.items ≡ out.old.items ++ response_bytes accept.now [] ++ close_frame ending) }
+{
+    write_accept(accept, out)?;
+    let mut channel = Channel::new(*out.allocator());
+    channel.close(ending, out)
 }

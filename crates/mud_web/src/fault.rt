@@ -35,8 +35,8 @@ pub enum SendFault {
     /// Memory ran out.
     #[error("out of memory")]
     OutOfMemory,
-    /// The text is not UTF-8, so it may not be a text message (RFC 6455, section 5.6).
-    #[error("not UTF-8")]
+    /// The text is not ASCII. A text message is UTF-8 (RFC 6455, section 5.6), and ASCII may be cut anywhere.
+    #[error("not ASCII")]
     NotText,
     /// A close was sent or received: no message may follow it (RFC 6455, section 5.5.1).
     #[error("closed")]

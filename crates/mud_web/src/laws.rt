@@ -1,8 +1,16 @@
 //! Laws of the definitions: each contract is a law, and its function does nothing.
 
-ghost use Rattle.mud_web.specs.Laws.{TextsArrive, MessagesType, NothingCommands, OnlyLinesAreTyped};
+ghost use Rattle.mud_web.specs.Laws.{Messages, TextsArrive, MessagesType, NothingCommands};
+ghost use Rattle.mud_web.specs.Laws.{OnlyLinesAreTyped};
+ghost use Rattle.mud_web.specs.Laws.{UndecidedEndsNoLine};
 
-/// A text that leaves as one frame is read by the other side as one text message, and it is that text.
+/// The messages as which a text leaves are the text, one behind the other. None is empty, none has more than
+/// [`MOST_SENT`](crate::MOST_SENT) bytes, and each is cut behind the last line end that it can hold.
+pub fn messages()
+    ensures { Messages }
+{}
+
+/// A text that leaves is read by the other side as those messages, one text message each, and nothing else.
 pub fn texts_arrive()
     ensures { TextsArrive }
 {}
@@ -22,4 +30,10 @@ pub fn nothing_commands()
 /// there, and never sends an answer of Telnet.
 pub fn only_lines_are_typed()
     ensures { OnlyLinesAreTyped }
+{}
+
+/// While it is undecided whether a connection begins with a request, no line with something in it has come whole: so
+/// who takes the bytes in as they come plays nothing of a request.
+pub fn undecided_ends_no_line()
+    ensures { UndecidedEndsNoLine }
 {}

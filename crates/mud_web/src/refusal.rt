@@ -1,30 +1,29 @@
 //! The requests that are refused, and how.
 
 ghost use Rattle.std.specs.Prelude.{◌≡◌, ◌++◌, OnOk};
-ghost use Rattle.mud_web.specs.Responses.{status_of, field_of, body_of, status_line, fields_of};
-ghost use Rattle.mud_web.specs.Responses.{head_of, refusal_bytes};
+ghost use Rattle.mud_web.specs.Responses.{status_of, connection_of, field_of, body_of, status_line};
+ghost use Rattle.mud_web.specs.Responses.{shown_of, fields_of, head_of, body_bytes, refusal_bytes};
 
+use crate::body::Body;
 use std::alloc::AllocError;
 
-/// Why a request is refused: the statuses of RFC 9110, section 15, and of RFC 6585 that the server answers.
+/// Why a request is refused: the statuses of RFC 9110, section 15, and of RFC 6585, section 5, that the server answers.
 #[derive(Clone, Copy, Debug, PartialEq, Eq)]
 pub enum Refusal {
-    /// 400: no request, or no upgrade to a web socket.
+    /// 400: no request, no host or two, or no upgrade to a web socket.
     BadRequest,
     /// 403: the page that asks to play is not the server's own.
     Forbidden,
     /// 404: neither the page nor where to play.
     NotFound,
-    /// 405: another method than GET.
+    /// 405: another method than GET and HEAD.
     MethodNotAllowed,
     /// 408: the head did not come in time.
     RequestTimeout,
-    /// 429: the address has as many sessions as it may have.
-    TooMany,
+    /// 426: no upgrade to the one version of web sockets that there is.
+    UpgradeRequired,
     /// 431: the head is too long, or has too many fields.
     TooLarge,
-    /// 503: no place is free.
-    Unavailable,
 }
 
 impl Refusal {
@@ -38,39 +37,69 @@ impl Refusal {
             Refusal::NotFound => "404 Not Found",
             Refusal::MethodNotAllowed => "405 Method Not Allowed",
             Refusal::RequestTimeout => "408 Request Timeout",
-            Refusal::TooMany => "429 Too Many Requests",
+            Refusal::UpgradeRequired => "426 Upgrade Required",
             Refusal::TooLarge => "431 Request Header Fields Too Large",
-            Refusal::Unavailable => "503 Service Unavailable",
         }
     }
 
-    // The field that only this status has.
+    // The field Connection. That of 426 names Upgrade, as its field Upgrade asks for (RFC 9110, section 7.8).
+    fn connection(self) -> &'static str
+        ensures { result.now ≡ connection_of self }
+    {
+        match self {
+            Refusal::UpgradeRequired => "Connection: close, Upgrade\r\n",
+            _ => "Connection: close\r\n",
+        }
+    }
+
+    // The fields that only this status has.
     fn field(self) -> &'static str
         ensures { result.now ≡ field_of self }
     {
         match self {
-            Refusal::MethodNotAllowed => "Allow: GET\r\n",
+            Refusal::MethodNotAllowed => "Allow: GET, HEAD\r\n",
+            Refusal::UpgradeRequired => "Upgrade: websocket\r\nSec-WebSocket-Version: 13\r\n",
             _ => "",
         }
     }
 
-    // What is shown.
+    // What is shown, up to the server's origin, which a 403 names.
     fn body(self) -> &'static str
         ensures { result.now ≡ body_of self }
     {
         match self {
-            Refusal::TooMany => "(too many sessions)",
-            Refusal::Unavailable => "(server full)",
+            Refusal::Forbidden => "403 Forbidden: this world is played at ",
             _ => self.status(),
         }
     }
 
-    /// Adds the whole answer to `out`, after which the connection is closed. The only error is out of memory.
-    pub fn write(self, out: &mut Vec<u8>) -> Result<(), AllocError>
-        ensures { OnOk result (out.new.items ≡ out.old.items ++ refusal_bytes self) }
+    // What is shown of the server's origin.
+    fn shown(self, origin: &[u8]) -> &[u8]
+        ensures { result.now ≡ shown_of self origin.now }
+    {
+        match self {
+            Refusal::Forbidden => origin,
+            _ => b"",
+        }
+    }
+
+    /// Adds the answer of a server whose page has this origin to `out`. After it the connection is closed. The only
+    /// error is out of memory.
+    pub fn write(self, origin: &[u8], body: Body, out: &mut Vec<u8>) -> Result<(), AllocError>
+        ensures { OnOk result (out.new.items ≡ out.old.items ++ refusal_bytes self origin.now body) }
     {
         self.write_head(out)?;
-        push_three(out, b"\r\n", self.body().as_bytes(), b"\r\n")
+        match body {
+            Body::Sent => self.write_body(origin, out),
+            Body::LeftOut => Ok(()),
+        }
+    }
+
+    // Adds the body.
+    fn write_body(self, origin: &[u8], out: &mut Vec<u8>) -> Result<(), AllocError>
+        ensures { OnOk result (out.new.items ≡ out.old.items ++ body_bytes self origin.now) }
+    {
+        push_three(out, self.body().as_bytes(), self.shown(origin), b"\r\n")
     }
 
     // Adds the status line.
@@ -80,20 +109,22 @@ impl Refusal {
         push_three(out, b"HTTP/1.1 ", self.status().as_bytes(), b"\r\n")
     }
 
-    // Adds the fields.
+    // Adds the fields, and the empty line.
     fn write_fields(self, out: &mut Vec<u8>) -> Result<(), AllocError>
         ensures { OnOk result (out.new.items ≡ out.old.items ++ fields_of self) }
     {
-        let closes = b"Connection: close\r\nContent-Type: text/plain; charset=utf-8\r\n";
         push_three(
             out,
-            closes,
+            self.connection().as_bytes(),
+            b"Content-Type: text/plain; charset=utf-8\r\n",
             b"X-Content-Type-Options: nosniff\r\n",
-            self.field().as_bytes(),
-        )
+        )?;
+        out.extend_from_slice(self.field().as_bytes())?;
+        out.extend_from_slice(b"\r\n")?;
+        Ok(())
     }
 
-    // Adds the status line and the fields.
+    // Adds the status line, the fields and the empty line.
     fn write_head(self, out: &mut Vec<u8>) -> Result<(), AllocError>
         ensures { OnOk result (out.new.items ≡ out.old.items ++ head_of self) }
     {

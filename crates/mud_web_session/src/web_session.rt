@@ -2,7 +2,8 @@
 
 ghost use Rattle.std.specs.Prelude.{◌≡◌, ◌++◌, ℕ, List, [], false, true, codes, if◌then◌else◌};
 ghost use Rattle.std.specs.Prelude.{OnOk, OnErr, IfOk, IfErr};
-ghost use Rattle.mud_web.specs.Channel.{TakesIn, EndsWith, frame_of};
+ghost use Rattle.mud_web.specs.Channel.{TakesIn, EndsWith};
+ghost use Rattle.mud_web.specs.Sending.{frames_of};
 ghost use Rattle.mud_web.specs.Close.{closes_once};
 ghost use Rattle.mud_web.specs.Channel.{IfOver as IfChannelOver};
 ghost use Rattle.mud_session.specs.Session.{wire_text};
@@ -59,7 +60,7 @@ impl WebSession {
     }
 
     /// Takes the next bytes of the socket in, and answers what they type. The replies of the protocol come first, and
-    /// then what the session says, as one message. After an error it takes nothing more. Where the other side closed,
+    /// then what the session says, as messages. After an error it takes nothing more. Where the other side closed,
     /// or broke a rule, what was typed before is done, and the close that is due is the last that is to be sent. Where
     /// what it says can't be sent, the close of an internal error is.
     pub fn feed<X: Threads + Wait + Sync, D: Door>(
@@ -111,7 +112,7 @@ impl WebSession {
         self.channel.feed(bytes, typed, replies)
     }
 
-    /// Answers what was typed: what the session says is added to `out` as one message. After an error it takes nothing
+    /// Answers what was typed: what the session says is added to `out` as messages. After an error it takes nothing
     /// more.
     pub fn answer<X: Threads + Wait + Sync, D: Door>(
         &mut self,
@@ -132,7 +133,7 @@ impl WebSession {
         }
     }
 
-    /// Looks for what others did: what the session says of it is added to `out` as one message, and whatever it was to
+    /// Looks for what others did: what the session says of it is added to `out` as messages, and whatever it was to
     /// say before it. After an error it takes nothing more.
     pub fn nudge<D: Door>(&mut self, door: &mut D, out: &mut Vec<u8>) -> Result<(), WebFault>
         ensures ok { OnOk result (NudgesWeb D.takes_in self.old self.new (D.state door.old) (D.state door.new)
@@ -146,9 +147,9 @@ impl WebSession {
         }
     }
 
-    /// Adds a text of the server's own to `out`, as one message. After an error nothing has changed.
+    /// Adds a text of the server's own to `out`, as messages. After an error nothing has changed.
     pub fn tell(&mut self, text: &[u8], out: &mut Vec<u8>) -> Result<(), SendFault>
-        ensures ok { OnOk result (out.new.items ≡ out.old.items ++ frame_of text.now) }
+        ensures ok { OnOk result (out.new.items ≡ out.old.items ++ frames_of text.now) }
         ensures same { self.new ≡ self.old }
         ensures err { OnErr result (out.new.items ≡ out.old.items) }
     {

@@ -1,16 +1,19 @@
 -- Who plays over a web socket.
-use Rattle.std.specs.Prelude.{◌≡◌, ℕ, List, [], drop}
+use Rattle.std.specs.Prelude.{◌≡◌, ℕ, List, [], drop, Option}
+use Rattle.std.specs.Io.KnownBytes.{Consumes}
 use Rattle.websocket.specs.Handshake.{response_bytes}
 use Rattle.mud_web.specs.declared.asking.Asked.TheVariants as Asked
 use Rattle.mud_web.specs.Request.{LetsIn}
 use Rattle.mud_wire.specs.declared.head.Heard.{Heard}
 use Rattle.mud_wire.specs.declared.head.Heard.TheVariants.{Page, Play, Refused, Gone}
 
--- who plays sent a head that is let in; what is answered is the key's answer, and the rest is what came after it
-abbrev pub WasLetIn : Heard → (origin : List ℕ) → Type 0
-WasLetIn (Play answer rest) origin =
-    (bytes : List ℕ) × (accept : List ℕ) × (len : ℕ) × LetsIn bytes origin (Asked.Play accept len)
-    × (answer.items ≡ response_bytes accept []) × (rest.items ≡ drop len bytes)
-WasLetIn Page origin = Unit {0}
-WasLetIn (Refused refusal) origin = Unit {0}
-WasLetIn Gone origin = Unit {0}
+-- who plays sent a head that is let in: all that was read begins with it. What is answered is the key's answer, and the
+-- rest is what came after the head
+abbrev pub WasLetIn : Heard → (before after : Option (List ℕ)) → (origin : List ℕ) → Type 0
+WasLetIn (Play answer rest) before after origin =
+    (bytes : List ℕ) × Consumes before after bytes × (accept : List ℕ) × (len : ℕ)
+    × LetsIn bytes origin (Asked.Play accept len) × (answer.items ≡ response_bytes accept [])
+    × (rest.items ≡ drop len bytes)
+WasLetIn (Page body) before after origin = Unit {0}
+WasLetIn (Refused refusal body) before after origin = Unit {0}
+WasLetIn Gone before after origin = Unit {0}

@@ -1,2 +1,4 @@
 pub mod Entrance
+pub mod Parting
+pub mod Patience
 pub mod inner

@@ -1,17 +1,19 @@
 //! The head of a browser's request, and how it is answered.
 
-ghost use Rattle.std.specs.Prelude.{◌≡◌, true, IfOk};
+ghost use Rattle.std.specs.Prelude.{◌≡◌, true, IfOk, OnOk, Option, List, ℕ};
+ghost use Rattle.std.specs.Io.KnownBytes.{Consumes};
 ghost use Rattle.websocket.specs.Headers.{is_graphic_text};
 ghost use Rattle.mud_web.specs.Request.{LetsIn};
 ghost use Rattle.mud_web.specs.Request.{IfPlay};
 ghost use Rattle.mud_wire.specs.Entrance.{WasLetIn};
-ghost use Rattle.mud_wire.specs.inner.Player.{IsPlaying};
+ghost use Rattle.mud_wire.specs.inner.Player.{IsPlaying, ReadsMore};
 
 use crate::parting::Parting;
 use crate::patience::{Patience, now};
 use crate::wire::Wire;
-use mud_web::{Asked, Refusal, asks, write_accept};
+use mud_web::{Asked, Body, Refusal, asks, write_accept};
 use std::alloc::{AllocError, Global};
+use std::io::{self, ErrorKind, Read};
 use std::sync::Wait;
 use std::time::Clock;
 
@@ -23,8 +25,8 @@ const PIECE_LEN: usize = 4096;
 /// What a browser asked for by the head of its request.
 #[derive(Drop)]
 pub enum Heard {
-    /// The page.
-    Page,
+    /// The page, with its body or without.
+    Page(Body),
     /// To play.
     Play {
         /// What that is answered, which goes before the first frame (RFC 6455, section 4.2.2).
@@ -32,57 +34,105 @@ pub enum Heard {
         /// What came after the head: frames.
         rest: Vec<u8>,
     },
-    /// Nothing that there is, or not in time.
-    Refused(Refusal),
+    /// Nothing that there is, or not in time; and whether the answer has a body.
+    Refused(Refusal, Body),
     /// Nothing: the other side left, or memory ran out.
     Gone,
 }
 
-/// Reads the head of a browser's request, at a server whose page has this origin. Who is to play sent a head that is
-/// let in.
-pub fn hear<R: Wait, C: Clock>(
-    rt: &R,
-    clock: &C,
-    alloc: Global,
-    wire: &Wire,
-    origin: &[u8],
-) -> Heard
-    ensures { WasLetIn result origin.now }
+/// Reads a browser's socket for as long as it has for a head: then a read is timed out.
+#[derive(Drop)]
+pub struct HeadReader<'a, C> {
+    clock: &'a C,
+    wire: &'a Wire,
+    patience: Patience,
+}
+
+impl<'a, C: Clock> HeadReader<'a, C> {
+    /// A reader whose time begins now.
+    pub fn new(clock: &'a C, wire: &'a Wire) -> HeadReader<'a, C> {
+        HeadReader {
+            clock,
+            wire,
+            patience: Patience::new(0, HEAD_SECONDS, now(clock)),
+        }
+    }
+}
+
+impl<'a, C: Clock> Read for HeadReader<'a, C> {
+    fn read(&mut self, buf: &mut [u8]) -> io::Result<usize> {
+        match self.wire.read(self.clock, &self.patience, buf) {
+            Ok(0) => Err(ErrorKind::Interrupted.into()),
+            Ok(count) => Ok(count),
+            Err(Parting::Unnamed) => Err(ErrorKind::TimedOut.into()),
+            Err(_) => Ok(0),
+        }
+    }
+}
+
+// Why no more of a head comes.
+#[derive(Clone, Copy)]
+enum Missed {
+    // Its time is over.
+    TooLate,
+    // The other side left, or memory ran out.
+    Left,
+}
+
+/// Reads the head of a browser's request, at a server whose page has this origin, up to the end of the source, or until
+/// a read is timed out. Who is to play sent a head that is let in.
+pub fn hear<R: Wait, S: Read>(rt: &R, alloc: Global, source: &mut S, origin: &[u8]) -> Heard
+    ensures { WasLetIn result (S.remaining source.old) (S.remaining source.new) origin.now }
 {
     let mut head = Vec::new(alloc);
-    let mut piece = [0u8; PIECE_LEN];
-    let patience = Patience::new(0, HEAD_SECONDS, now(clock));
     for _ in rt.forever() {
         let asked = asks(&head, origin);
         if !matches!(asked, Asked::More) {
             return asked_for(alloc, &head, origin, asked);
         }
-        match wire.read(clock, &patience, &mut piece) {
-            Ok(count) => {
-                if head.extend_from_slice(&piece[..count]).is_err() {
-                    return Heard::Gone;
-                }
+        match read_more(source, &mut head) {
+            Ok(()) => {}
+            Err(Missed::TooLate) => {
+                return Heard::Refused(Refusal::RequestTimeout, Body::of(&head));
             }
-            Err(Parting::Unnamed) => return Heard::Refused(Refusal::RequestTimeout),
-            Err(_) => return Heard::Gone,
+            Err(Missed::Left) => return Heard::Gone,
         }
     }
     unreachable!()
+}
+
+// Adds what is read next.
+fn read_more<S: Read>(source: &mut S, head: &mut Vec<u8>) -> Result<(), Missed>
+    ensures { OnOk result (ReadsMore (S.remaining source.old) (S.remaining source.new) head.old.items
+        head.new.items) }
+{
+    let mut piece = [0u8; PIECE_LEN];
+    match source.read(&mut piece) {
+        Ok(0) => Err(Missed::Left),
+        Ok(count) => match head.extend_from_slice(&piece[..count]) {
+            Ok(()) => Ok(()),
+            Err(_) => Err(Missed::Left),
+        },
+        Err(error) if error.kind() == ErrorKind::Interrupted => Ok(()),
+        Err(error) if error.kind() == ErrorKind::TimedOut => Err(Missed::TooLate),
+        Err(_) => Err(Missed::Left),
+    }
 }
 
 // What these bytes ask for.
 fn asked_for(alloc: Global, head: &[u8], origin: &[u8], asked: Asked) -> Heard
     requires lets_in { LetsIn head.now origin.now asked }
     requires graphic { IfPlay asked (λ accept. is_graphic_text accept ≡ true) }
-    ensures { WasLetIn result origin.now }
+    ensures { (before after : Option (List ℕ)) → Consumes before after head.now
+        → WasLetIn result before after origin.now }
 {
     match asked {
-        Asked::Page => Heard::Page,
+        Asked::Page => Heard::Page(Body::of(head)),
         Asked::Play { accept, len } => match let_in(alloc, &accept, &head[len..]) {
             Ok(heard) => heard,
             Err(_) => Heard::Gone,
         },
-        Asked::Refused(refusal) => Heard::Refused(refusal),
+        Asked::Refused(refusal) => Heard::Refused(refusal, Body::of(head)),
         Asked::More => Heard::Gone,
     }
 }
@@ -102,10 +152,18 @@ fn let_in(alloc: Global, accept: &[u8; 28], rest: &[u8]) -> Result<Heard, AllocE
     })
 }
 
-/// Refuses a request, and ends the connection.
-pub fn refuse<R: Wait, C: Clock>(rt: &R, clock: &C, alloc: Global, wire: &Wire, refusal: Refusal) {
+/// Refuses a request at a server whose page has this origin, and ends the connection.
+pub fn refuse<R: Wait, C: Clock>(
+    rt: &R,
+    clock: &C,
+    alloc: Global,
+    wire: &Wire,
+    origin: &[u8],
+    refusal: Refusal,
+    body: Body,
+) {
     let mut answer = Vec::new(alloc);
-    match refusal.write(&mut answer) {
+    match refusal.write(origin, body, &mut answer) {
         Ok(()) => wire.answer(rt, clock, &answer),
         Err(_) => wire.shut(),
     }

@@ -11,7 +11,7 @@ mod parting;
 mod patience;
 mod wire;
 
-pub use head::{HEAD_SECONDS, Heard, hear, refuse};
+pub use head::{HEAD_SECONDS, HeadReader, Heard, hear, refuse};
 pub use parting::{Ending, Parting};
 pub use patience::{Patience, now};
 pub use wire::{Entrance, Wire, set_up};

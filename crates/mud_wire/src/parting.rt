@@ -1,5 +1,8 @@
 //! What ends a session.
 
+ghost use Rattle.std.specs.Prelude.{◌≡◌, option_map};
+ghost use Rattle.mud_wire.specs.Parting.{ending_line, line_of, close_of};
+
 use mud_web::{Ending as Close, Fault};
 use thiserror::Error;
 use websocket::error;
@@ -15,7 +18,9 @@ pub enum Ending {
 
 impl Ending {
     /// What each session is told of it.
-    pub fn line(self) -> &'static str {
+    pub fn line(self) -> &'static str
+        ensures { result.now ≡ ending_line self }
+    {
         match self {
             Ending::Stop => "(server stops)\r\n",
             Ending::JournalFault => "(journal fault)\r\n",
@@ -41,6 +46,9 @@ pub enum Parting {
     /// A frame of the web socket broke a rule of the protocol, or a limit.
     #[error("broken frame")]
     BrokenFrame,
+    /// What came first by Telnet was the request of a browser.
+    #[error("request")]
+    Request,
     /// Memory ran out for the session itself.
     #[error("out of memory")]
     OutOfMemory,
@@ -82,7 +90,9 @@ impl Parting {
     }
 
     /// What the other side is told at the end, if that is why all sessions end.
-    pub fn line(self) -> Option<&'static str> {
+    pub fn line(self) -> Option<&'static str>
+        ensures { option_map (λ line. line.now) result ≡ line_of self }
+    {
         match self {
             Parting::ServerStops => Some(Ending::Stop.line()),
             Parting::JournalFault => Some(Ending::JournalFault.line()),
@@ -91,11 +101,13 @@ impl Parting {
     }
 
     /// How a web socket is closed at the end. After a text that was not taken whole no frame can follow, and a broken
-    /// frame was answered by a close already.
-    pub fn close(self) -> Option<Close> {
+    /// frame was answered by a close already; a browser's request ends sessions by Telnet only.
+    pub fn close(self) -> Option<Close>
+        ensures { result ≡ close_of self }
+    {
         match self {
             Parting::Left | Parting::Idle | Parting::Unnamed => Some(Close::Normal),
-            Parting::WriteTimeout | Parting::BrokenFrame => None,
+            Parting::WriteTimeout | Parting::BrokenFrame | Parting::Request => None,
             Parting::OutOfMemory => Some(Close::InternalError),
             Parting::ServerStops | Parting::JournalFault => Some(Close::GoingAway),
         }

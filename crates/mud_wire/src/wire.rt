@@ -19,15 +19,15 @@ const PIECE_LEN: usize = 16_384;
 // The same for the answer to a browser's request.
 const ANSWER_SECONDS: u64 = 10;
 
-// How long what the other side still sends is let go, once it was told the last, and how many reads of that.
+// How long what the other side still sends is let go, once it was told the last, and how many bytes of that.
 const DRAIN_SECONDS: u32 = 2;
 
-const DRAIN_READS: u32 = 64;
+const DRAIN_MOST: usize = 262_144;
 
 const DRAIN_LEN: usize = 4096;
 
 // How long it is tried to say why all sessions end.
-const ENDING_SECONDS: u64 = 1;
+const ENDING_SECONDS: u64 = 4;
 
 /// By which way a connection came.
 #[derive(Clone, Copy, Debug, PartialEq, Eq)]
@@ -169,20 +169,22 @@ impl Wire {
         if self.wait_at_most(time_for(ANSWER_SECONDS, 0)).is_ok() {
             let _ = self.write_rest(rt, clock, answer, 0, now(clock), ANSWER_SECONDS);
         }
-        self.drain(clock);
+        self.drain(rt, clock);
         self.shut();
     }
 
-    /// Sends nothing more, and lets go what the other side still sends, until it ends the connection, too, or for two
-    /// seconds: a socket that is closed while there is something to be read takes back what was sent last (RFC 9112,
-    /// section 9.6).
-    pub fn drain<C: Clock>(&self, clock: &C) {
+    /// Sends nothing more, and lets go what the other side still sends, until it ends the connection, too, for two
+    /// seconds, or a quarter of a megabyte: a socket that is closed while there is something to be read takes back what
+    /// was sent last (RFC 9112, section 9.6).
+    pub fn drain<R: Wait, C: Clock>(&self, rt: &R, clock: &C) {
         self.end_writing();
         let patience = Patience::new(0, DRAIN_SECONDS, now(clock));
         let mut buffer = [0u8; DRAIN_LEN];
-        for _ in 0..DRAIN_READS {
-            if self.read(clock, &patience, &mut buffer).is_err() {
-                return;
+        let mut drained = 0usize;
+        for _ in rt.forever() {
+            match self.read(clock, &patience, &mut buffer) {
+                Ok(count) if drained < DRAIN_MOST => drained = drained.saturating_add(count),
+                _ => return,
             }
         }
     }

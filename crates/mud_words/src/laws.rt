@@ -4,6 +4,7 @@ ghost use Rattle.std.specs.Prelude.{◌≡◌, ◌↔◌, List, ℕ, Some, None}
 ghost use Rattle.mud_words.specs.Prepositions.{Found, Stands, Counts, preposition_of};
 ghost use Rattle.mud_words.specs.Laws.{QuotedWordsReadBack, PlainLinesSplitAtSpaces, WordsAreSpelled};
 ghost use Rattle.mud_words.specs.Laws.{RestFollowsFirstWord};
+ghost use Rattle.mud_words.specs.declared.codes.TheConstants.{SPACE, QUOTE, COLON, SEMICOLON, BACKSLASH};
 
 /// The preposition that the words are searched for is the one that counts: of those that stand
 /// at the earliest place the longest. There is none exactly where no preposition stands at all.
@@ -34,4 +35,13 @@ pub fn grammar()
 /// What stands after the first word is what follows the space that ends it, to the last byte.
 pub fn rest()
     ensures { RestFollowsFirstWord }
+{}
+
+/// The bytes that have a name are those of USASCII.
+pub fn codes()
+    ensures space { SPACE ≡ 32 }
+    ensures quote { QUOTE ≡ 34 }
+    ensures colon { COLON ≡ 58 }
+    ensures semicolon { SEMICOLON ≡ 59 }
+    ensures backslash { BACKSLASH ≡ 92 }
 {}

@@ -9,8 +9,9 @@ use Rattle.mud_world.specs.declared.change.Deed.TheVariants.{Player}
 use Rattle.mud_world.specs.declared.refusal.Refusal.{Refusal}
 use Rattle.mud_world.specs.Truth.{key_true}
 use Rattle.mud_world.specs.Numbers.{IsRisingFrom}
-use Rattle.mud_world.specs.State.{State, has, is_player, place_of, contents_of, within, source_of, leaving_of}
+use Rattle.mud_world.specs.State.{State, has, is_player, place_of, contents_of, Within, within, source_of, leaving_of}
 use Rattle.mud_world.specs.State.{destination_of, arriving_of, key_of, nests, unlocked}
+use Rattle.mud_world.specs.Reach.{InReach, in_reach}
 use Rattle.mud_world.specs.Sound.{IsSound}
 use Rattle.mud_world.specs.Nesting.{Questions}
 use Rattle.mud_world.specs.Refusals.{number}
@@ -37,6 +38,14 @@ AreArriving =
     (w : State) → IsSound w → (c : ℕ)
     → ((n : ℕ) → IsTrue (list_any (nat_eq n) (arriving_of w c)) ↔ (destination_of w n ≡ Some c))
     × IsRisingFrom 0 (arriving_of w c)
+
+-- in a sound world the test `within` holds exactly where o lies within c
+abbrev pub IsContainment : Type 0
+IsContainment = (w : State) → IsSound w → (o c : ℕ) → IsTrue (within w o c) ↔ Within w o c
+
+-- in a sound world the test `in_reach` holds exactly where o is in reach of the actor
+abbrev pub IsReach : Type 0
+IsReach = (w : State) → IsSound w → (actor o : ℕ) → IsTrue (in_reach w actor o) ↔ InReach w actor o
 
 -- in a sound world the levels of a key never run out: o is unlocked for c exactly where it exists and has no key, or
 -- its key is true, an object in it meaning that the object is within c, and `?x` that x is unlocked for c

@@ -1,11 +1,13 @@
 //! Facts about definitions only: each contract is a law, and its function does nothing.
 
 ghost use Rattle.mud_world.specs.Laws.{AreContents, AreLeaving, AreArriving, AreLevelsEnough, IsNesting, CirclesNestOn};
-ghost use Rattle.mud_world.specs.Laws.{IsLeastRefusal};
+ghost use Rattle.mud_world.specs.Laws.{IsLeastRefusal, IsContainment, IsReach};
 ghost use Rattle.mud_world.specs.Laws.{StaysSound, WorldsAreSound, PlayersStay, NewPlayersArePlayers};
 ghost use Rattle.std.specs.Prelude.{false, Some, None, ◌≡◌, ◌↔◌};
 ghost use Rattle.mud_world.specs.Legal.{fails, refusal};
 ghost use Rattle.mud_world.specs.declared.change.Change.{Change};
+ghost use Rattle.mud_world.specs.declared.limits.TheConstants.{NUMBERS, MOST_COST, MOST_SPEECH, MOST_NESTING};
+ghost use Rattle.mud_world.specs.declared.limits.TheConstants.{KEY_LEVELS, MOST_PARTY, MOST_ENTRIES};
 ghost use Rattle.mud_world.specs.declared.refusal.Refusal.{Refusal};
 ghost use Rattle.mud_world.specs.State.{State};
 
@@ -22,6 +24,16 @@ pub fn leaving()
 /// In a sound world an exit leads to an object exactly where that is its destination.
 pub fn arriving()
     ensures { AreArriving }
+{}
+
+/// In a sound world the test of containment finds exactly what lies within an object.
+pub fn containment()
+    ensures { IsContainment }
+{}
+
+/// In a sound world the test of reach finds exactly what an actor can reach.
+pub fn reach()
+    ensures { IsReach }
 {}
 
 /// In a sound world the levels of a key never run out: `?x` is true in a key exactly where x is
@@ -67,4 +79,15 @@ pub fn players_stay()
 /// Who comes as a new player is one.
 pub fn new_players()
     ensures { NewPlayersArePlayers }
+{}
+
+/// The limits of a world and of its history.
+pub fn limits()
+    ensures numbers { NUMBERS ≡ 8192 }
+    ensures most_cost { MOST_COST ≡ 10000 }
+    ensures most_speech { MOST_SPEECH ≡ 900 }
+    ensures most_nesting { MOST_NESTING ≡ 3 }
+    ensures key_levels { KEY_LEVELS ≡ 4 }
+    ensures most_party { MOST_PARTY ≡ 8 }
+    ensures most_entries { MOST_ENTRIES ≡ 65536 }
 {}

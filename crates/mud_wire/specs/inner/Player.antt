@@ -1,5 +1,6 @@
--- Who is answered so that he plays.
-use Rattle.std.specs.Prelude.{◌≡◌, ℕ, List, []}
+-- Who is answered so that he plays, and what was read of him.
+use Rattle.std.specs.Prelude.{◌≡◌, ℕ, List, [], ◌++◌, Option}
+use Rattle.std.specs.Io.KnownBytes.{Consumes}
 use Rattle.websocket.specs.Handshake.{response_bytes}
 use Rattle.mud_wire.specs.declared.head.Heard.{Heard}
 use Rattle.mud_wire.specs.declared.head.Heard.TheVariants.{Page, Play, Refused, Gone}
@@ -7,6 +8,10 @@ use Rattle.mud_wire.specs.declared.head.Heard.TheVariants.{Page, Play, Refused, 
 -- somebody plays who is answered by this key, and this came after his head
 abbrev pub IsPlaying : Heard → (accept rest : List ℕ) → Type 0
 IsPlaying (Play answer behind) accept rest = (answer.items ≡ response_bytes accept []) × (behind.items ≡ rest)
-IsPlaying Page accept rest = ⊥
-IsPlaying (Refused refusal) accept rest = ⊥
+IsPlaying (Page body) accept rest = ⊥
+IsPlaying (Refused refusal body) accept rest = ⊥
 IsPlaying Gone accept rest = ⊥
+
+-- what was read next is added
+abbrev pub ReadsMore : (before after : Option (List ℕ)) → (old new : List ℕ) → Type 0
+ReadsMore before after old new = (more : List ℕ) × Consumes before after more × (new ≡ old ++ more)

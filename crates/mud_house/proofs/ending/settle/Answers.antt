@@ -1,6 +1,6 @@
 use Rattle.std.proofs.Common.{List, subst, sym}
 use Rattle.mud_chron.specs.Entry.{Entry}
-use Rattle.mud_hall.specs.Settlement.{IsGathered}
+use Rattle.mud_hall.specs.Settlement.{IsSettled}
 use Rattle.mud_house.specs.Listener.{MayEnd}
 use Rattle.mud_house.proofs.Written.{may_end}
 use Rattle.mud_house.proofs.ending.settle.Goals as goal
@@ -12,7 +12,7 @@ returns-in-Ok-clause-ends g c =
     (may_end c.args.limits loaded c.in-Ok.settled.history c.args.desks.items c.requires.few c.in-Ok.ensures.settled
     c.in_ok-try_history-in-Ok.ensures.loadable)
 
-pub returns-in-Ok-clause-gathered : goal.returns-in-Ok-clause-gathered
-returns-in-Ok-clause-gathered g c =
-    subst (λ (h : List Entry). IsGathered g.J.HallName.loaded c.args.desks.items h) (sym c.try_history.ensures.same)
-    c.in-Ok.ensures.settled.gathered
+pub returns-in-Ok-clause-settled : goal.returns-in-Ok-clause-settled
+returns-in-Ok-clause-settled g c =
+    subst (λ (h : List Entry). IsSettled g.J.HallName.loaded c.args.desks.items h) (sym c.try_history.ensures.same)
+    c.in-Ok.ensures.settled

@@ -11,7 +11,7 @@ returns-clause-journaled g c =
     let history = c.in_ok-history.history in
     let long : length history ≡ length list = omega arith in
     let made : IsGathered loaded c.args.desks.items history =
-    subst (λ ds. IsGathered loaded ds history) c.finish.ensures.same c.in_ok-history.ensures.gathered in
+    subst (λ ds. IsGathered loaded ds history) c.finish.ensures.same c.in_ok-history.ensures.settled.gathered in
     let begun = prefix_trans loaded c.args.scribe.entries list c.requires.begun c.finish.ensures.longer in
     subst (λ k. Holds k history) (sym c.into_journal.ensures)
     (all_there loaded list history c.args.desks.items c.finish.new.self.kept begun c.in_ok-finish.ensures.gathered made

@@ -46,7 +46,7 @@ serve-requires-clause-holds g c κs within =
     let loaded = c.args.loaded.items in
     let same : c.in_ok-more.more.items ≡ drop n loaded = search (rules, places) in
     let held =
-    c.in_ok-journal.ensures.holds _ (length-take-le n loaded c.requires.within) c.requires.found in
+    c.in_ok-journal.ensures.holds _ c.requires.found (length-take-le n loaded c.requires.within) in
     all_loaded _ n loaded c.deref-2.result.now c.in_ok-hall.hall.loaded held
     (subst (λ l. l ≡ drop n loaded) (sym c.deref-2.ensures.value) same) c.in_ok-hall.ensures.loaded
 

@@ -1,30 +1,19 @@
-use Rattle.std.proofs.Common.{◌≡◌, ◌≤◌, ◌+◌, ◌++◌, ◌∙◌, ℕ, List, ap, subst, arith, length}
+use Rattle.std.proofs.Common.{◌≡◌, length, arith, ◌∙◌}
 use Rattle.std.specs.Prelude.{string_bytes}
-use Rattle.std.proofs.lemmas.Result.{on_ok_weaker}
-use Rattle.mud_chron.specs.Entry.{Entry}
-use Rattle.mud_row.specs.Known.{Known, lines_after}
-use Rattle.mud_row.proofs.Lines.{text_written}
+use Rattle.std.proofs.lemmas.Str.{IsUtf8-string_bytes}
+use Rattle.mud_row.proofs.Lines.{cut_back, cuts_there}
 use Rattle.mud_row.proofs.writing.write_text.Goals as goal
 
-pub loop-n-preserved : goal.loop-n-preserved
-loop-n-preserved c =
-    let n : ℕ = c.loop-n.n in
-    let same : c.loop-n.pass ≡ c.args.pass.now = c.loop-n.invariant.pass in
-    let mid : List ℕ = string_bytes c.loop-n.out in
-    let new : List ℕ = string_bytes c.write_line.new.out in
-    record {
-      pass = c.write_line.ensures.same ∙ same;
-      text = subst (λ (p : Known). new ++ lines_after (n + 1) p.list ≡ mid ++ lines_after n p.list) same
-          c.in_ok-write_line.ensures.ok ∙ c.loop-n.invariant.text;
-    }
+pub truncate-requires : goal.truncate-requires
+truncate-requires c = λ within.
+    let at : c.len-len.result ≡ length (string_bytes c.args.out.now) = omega (arith, c.len-len.ensures) in
+    let cut =
+    cuts_there (string_bytes c.args.out.now) (string_bytes c.push_text.new.out) c.len-len.result
+    (IsUtf8-string_bytes c.args.out.now) (IsUtf8-string_bytes c.push_text.new.out) c.in-Err.ensures.err at in
+    (cut.0, λ some. cut.1)
 
-pub returns-clause-ok : goal.returns-clause-ok
-returns-clause-ok c =
-    let es : List Entry = c.args.pass.now.list in
-    let same : c.loop-n.pass ≡ c.args.pass.now = c.loop-n.invariant.pass in
-    let past : length es ≤ c.loop-n.n = omega arith in
-    on_ok_weaker c.write_end.result
-    (λ is. text_written es c.loop-n.n c.known.result (string_bytes c.args.out.now) (string_bytes c.loop-n.out)
-    (string_bytes c.write_end.new.out) c.loop-n.invariant.text past
-    (c.known.ensures.known ∙ ap (λ (p : Known). length p.list) same) is)
-    c.write_end.ensures.ok
+pub returns-in-Err-clause-err : goal.returns-in-Err-clause-err
+returns-in-Err-clause-err c =
+    let at : c.len-len.result ≡ length (string_bytes c.args.out.now) = omega (arith, c.len-len.ensures) in
+    c.truncate.ensures.bytes
+    ∙ cut_back (string_bytes c.args.out.now) (string_bytes c.push_text.new.out) c.len-len.result c.in-Err.ensures.err at

@@ -1,4 +1,4 @@
-use Rattle.mud_web.proofs.Arriving.{texts_arrive}
+use Rattle.mud_web.proofs.Sending.{texts_arrive}
 use Rattle.mud_web.proofs.laws.texts_arrive.Goals as goal
 
 pub returns : goal.returns

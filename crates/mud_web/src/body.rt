@@ -1,0 +1,62 @@
+//! Which part of an answer is sent.
+
+ghost use Rattle.std.specs.Prelude.{◌≡◌, ◌↔◌, ◌++◌, ℕ, List};
+ghost use Rattle.mud_web.specs.declared.body.Body.TheVariants.{LeftOut};
+ghost use Rattle.mud_web.specs.Parts.{AsksForHead, IsPart};
+ghost use Rattle.mud_web.specs.inner.Fronts.{behind_ends};
+
+/// Whether the body of an answer is sent.
+#[derive(Clone, Copy, Debug, PartialEq, Eq)]
+pub enum Body {
+    /// It is.
+    Sent,
+    /// It isn't: the request is HEAD (RFC 9110, section 9.3.2).
+    LeftOut,
+}
+
+impl Body {
+    /// Whether the body of an answer to this head, or front of one, is sent.
+    pub fn of(head: &[u8]) -> Body
+        ensures { (result ≡ LeftOut) ↔ AsksForHead head.now }
+    {
+        if behind_ends(head).starts_with(b"HEAD ") {
+            Body::LeftOut
+        } else {
+            Body::Sent
+        }
+    }
+
+    /// What is sent of a whole answer: all of it, or all up to and with its first empty line.
+    pub fn part(self, answer: &[u8]) -> &[u8]
+        ensures { IsPart self answer.now result.now }
+    {
+        match self {
+            Body::Sent => answer,
+            Body::LeftOut => head_of(answer),
+        }
+    }
+}
+
+// What stands behind the line ends in front.
+fn behind_ends(bytes: &[u8]) -> &[u8]
+    ensures { result.now ≡ behind_ends bytes.now }
+{
+    for (at, byte) in bytes.iter().enumerate() {
+        if !matches!(*byte, b'\r' | b'\n') {
+            return &bytes[at..];
+        }
+    }
+    &[]
+}
+
+// All up to and with the first empty line; all where there is none.
+fn head_of(answer: &[u8]) -> &[u8]
+    ensures { IsPart Body.LeftOut answer.now result.now }
+{
+    for at in 0..answer.len() {
+        if answer[at..].starts_with(b"\r\n\r\n") {
+            return &answer[..at + 4];
+        }
+    }
+    answer
+}

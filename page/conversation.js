@@ -1,0 +1,142 @@
+// What was typed and what came: which answer belongs to which line. Nothing here touches the page.
+//
+// An entry is what stands together in the log: { kind, lines }, and of a reply also { version, line, quiet, isDone }.
+// The kind is `reply`, `notice`, `refusal` (without a number), `host` or `greeting`. A quiet entry answers a line that
+// the page typed for itself, and is not shown.
+
+const MOST_PROOFS = 100; // Proofs that are kept to be saved.
+
+class Conversation {
+  constructor(world) {
+    this.world = world ?? new World();
+    this.history = undefined; // The last history, as { version, text }.
+    this.proofs = []; // The last proofs, likewise.
+    this.onAnswer = () => {}; // Called with each answer, once it is whole.
+    this.connectLine = undefined; // The line by which the player came in last, and his name.
+    this.name = undefined;
+    this.begin();
+  }
+
+  // A connection begins: nothing was typed in it yet. What the last one answered is kept.
+  begin() {
+    this.end();
+    this.tail = "";
+    this.asked ??= [];
+    this.drop();
+    this.answer = undefined;
+    this.hasLeft = false;
+    this.isIn = false; // Whether a player came in by this connection.
+    this.before = this.latest; // The greatest version of the connection before this one.
+    this.latest = 0; // The greatest version that was told.
+    this.world.here = undefined;
+  }
+
+  // A line goes out. A blank one is not answered. `answered` is kept in the entry that answers it.
+  say(line, quiet = false, answered = undefined) {
+    if (words(line) !== "") this.asked.push({ line: words(line), quiet, answered });
+  }
+
+  // The connection has ended: no answer comes to what was asked.
+  drop() {
+    for (const { answered } of this.asked.splice(0)) answered?.();
+  }
+
+  // A piece of what the server sends: the entries that are new or have grown. Lines end where they end, not where a
+  // message does.
+  take(piece) {
+    const lines = (this.tail + piece).split("\r\n"), entries = new Set();
+    this.tail = lines.pop();
+    for (const text of lines) {
+      const entry = this.takeLine(text);
+      if (entry && !entry.quiet) entries.add(entry);
+    }
+    if (this.tail === "") this.finish();
+    return [...entries];
+  }
+
+  takeLine(text) {
+    const notice = text.match(/^\((\d+)\) (.*)$/);
+    if (notice) return this.takeNotice(text, Number(notice[1]), notice[2]);
+    const reply = text.match(/^\[(\d+)\] (.*)$/);
+    if (reply) return this.takeReply(Number(reply[1]), reply[2]);
+    if (/^\(host: .*\)$/.test(text)) return { kind: "host", lines: [text] };
+    if (/^\([a-z ]+\)$/.test(text)) return this.takeRefusal(text);
+    if (!this.answer) return { kind: "greeting", lines: [text] };
+    this.answer.lines.push(text);
+    return this.answer;
+  }
+
+  takeNotice(text, version, heard) {
+    this.end();
+    this.latest = Math.max(this.latest, version);
+    readNotice(this.world, heard);
+    return { kind: "notice", lines: [text], version };
+  }
+
+  takeReply(version, text) {
+    this.end();
+    this.latest = Math.max(this.latest, version);
+    const asked = this.asked.shift() ?? { line: "", quiet: false };
+    this.answer = { kind: "reply", version, ...asked, lines: [text], isDone: false };
+    return this.answer;
+  }
+
+  takeRefusal(text) {
+    this.end();
+    const asked = this.asked.shift() ?? { line: "", quiet: false };
+    const refusal = { kind: "refusal", ...asked, lines: [text], isDone: true };
+    this.onAnswer(refusal);
+    return refusal;
+  }
+
+  // All that was sent so far is here. The answer is whole, unless its end is still to come.
+  finish() {
+    if (this.answer && isWhole(this.answer.lines)) this.done(this.answer);
+  }
+
+  // An answer is read, and told once. One that has grown after all is read again.
+  done(answer) {
+    const isFirst = !answer.isDone, { length } = answer.lines;
+    if (answer.read === length) return;
+    Object.assign(answer, { isDone: true, read: length });
+    this.read(answer);
+    if (!isFirst) return;
+    this.keep(answer);
+    this.onAnswer(answer);
+  }
+
+  // What an answer tells, unless it was cut. A history that the page asked for itself shows no more of the world than
+  // the player saw.
+  read(answer) {
+    const { line, lines, quiet } = answer;
+    if (isWhole(lines) && !(quiet && /^(@history|proof)\b/i.test(line))) readAnswer(this.world, line, lines);
+    if (/^quit$/i.test(line) && lines[0] === "bye") this.hasLeft = true;
+    if (!/^welcome #\d+$/.test(lines[0])) return;
+    if (answer.version < this.before) this.world.clear();
+    this.isIn = true;
+    this.connectLine = line;
+    this.name = firstName(line.replace(/^connect +/i, "").replace(/^([^" ]+) .*$/, "$1"));
+  }
+
+  // An answer ends where the next begins, or the connection.
+  end() {
+    if (this.answer) this.done(this.answer);
+    this.answer = undefined;
+  }
+
+  // A history and a proof are kept, to be saved, if they came whole.
+  keep({ version, line, lines }) {
+    const text = lines.slice(1).join("\n") + "\n";
+    if (/^@history$/i.test(line) && /^end \d+$/.test(lines[lines.length - 1])) this.history = { version, text };
+    if (!/^proof /i.test(line) || lines[lines.length - 1] !== "end") return;
+    this.proofs.push({ version, text });
+    if (this.proofs.length > MOST_PROOFS) this.proofs.shift();
+  }
+}
+
+// Whether the last line of an answer is here, as far as its first ones say.
+function isWhole(lines) {
+  if (/^mud history /.test(lines[1] ?? "")) return /^end \d+$/.test(lines[lines.length - 1]);
+  if (/^mud proof /.test(lines[1] ?? "")) return lines[lines.length - 1] === "end";
+  return !(lines.length === 1 && (lines[0] === "history" || lines[0] === "proof"));
+}

@@ -1,0 +1,163 @@
+// What a player does by a click: the exits of his room, and a route that is walked exit by exit or at one go.
+
+const MOST_BUTTONS = 60; // Exits of a room that are buttons.
+
+// Whether the first word of a line is that of a command: such a line is never the name of an exit.
+function isCommand(verbs, line) {
+  return verbs.includes(line.split(" ")[0].toLowerCase());
+}
+
+// The line that walks by an exit of the room: its name where it means only that, and else its number.
+function lineFor(world, number, verbs) {
+  const { name } = world.exits.get(number);
+  const isPlain = name !== undefined && /^[A-Za-z][A-Za-z0-9 '-]*$/.test(name) && words(name) === name;
+  return isPlain && !isCommand(verbs, name) && world.exitNamed(name, true) === number ? name : `go #${number}`;
+}
+
+function isRoute(entry) {
+  return entry.kind === "reply" && /^route #\d+ to #\d+ /.test(entry.lines[0]);
+}
+
+// A route that was asked for, and how far it was walked.
+class Trip {
+  constructor(entry) {
+    const [, from, to] = entry.lines[0].match(/^route #(\d+) to #(\d+)/);
+    Object.assign(this, { entry, from: Number(from), to: Number(to), exits: exitsOnWay(entry.lines[0]) });
+    Object.assign(this, { isNoWay: / no way$/.test(entry.lines[0]), isRunning: false, fault: "" });
+  }
+
+  isThere(world) {
+    return !this.isNoWay && world.here === this.to;
+  }
+
+  // The next exit; undefined where the way ends, or the player has left it.
+  next(world) {
+    const { route, walked } = world, exit = this.exits[walked];
+    const isShown = route.length === this.exits.length && route.every((one, at) => one === this.exits[at]);
+    const from = walked ? world.exits.get(this.exits[walked - 1])?.to : this.from;
+    return isShown && exit !== undefined && from === world.here ? exit : undefined;
+  }
+
+  // The answer to a step has come, or undefined where the connection was lost. The exit to take next by itself, if any.
+  stepped(world, entry) {
+    const isOn = entry !== undefined && /^went by /.test(entry.lines[0]);
+    if (!isOn) this.fault = entry ? entry.lines[0] : "the connection was lost";
+    const exit = isOn && this.isRunning ? this.next(world) : undefined;
+    this.isRunning = exit !== undefined;
+    return exit;
+  }
+
+  // What stands beside it.
+  text(world) {
+    const name = `${world.rooms.get(this.to) ?? "room"} #${this.to}`, count = this.exits.length;
+    if (this.isNoWay) return `No way to ${name}`;
+    if (this.isThere(world)) return `You are at ${name}`;
+    const [, cost] = this.entry.lines[0].match(/ cost (\d+)/);
+    const way = `cost ${cost}, exit ${world.walked + 1} of ${count}`;
+    return `To ${name}: ${way}` + (this.fault ? `. Stopped: ${this.fault}` : "");
+  }
+}
+
+// The hands on the page. `act` is { say(line, answered), latest(), arrived() }.
+class Hands {
+  constructor(parts, world, verbs, act) {
+    Object.assign(this, { parts, world, verbs, act });
+    this.soon = onceAFrame(() => this.draw());
+    on(parts.step, () => this.go(false));
+    on(parts.all, () => this.trip?.isRunning ? this.stop() : this.go(true));
+    on(parts.again, () => this.act.say(this.trip.entry.line));
+    on(parts.close, () => this.close());
+  }
+
+  // An answer is whole: a route begins a trip.
+  answered(entry) {
+    if (isRoute(entry) && !entry.quiet) this.trip = new Trip(entry);
+    this.soon();
+  }
+
+  // Takes the next exit; `all` of them one after the other, until one is refused.
+  go(all) {
+    const exit = this.trip?.next(this.world);
+    if (exit === undefined) return;
+    Object.assign(this.trip, { isRunning: all, fault: "" });
+    this.take(this.trip, exit);
+  }
+
+  take(trip, exit) {
+    this.act.say(`go #${exit}`, (entry) => {
+      const next = trip.stepped(this.world, entry);
+      if (next !== undefined && trip === this.trip) this.take(trip, next);
+      else this.act.arrived();
+      this.soon();
+    });
+    this.soon();
+  }
+
+  stop() {
+    if (this.trip) this.trip.isRunning = false;
+    this.soon();
+  }
+
+  close() {
+    this.stop();
+    this.trip = undefined;
+    this.world.plan([]);
+    this.act.arrived();
+    this.soon();
+  }
+
+  draw() {
+    this.drawExits();
+    this.endTrip();
+    const { parts, trip, world } = this;
+    parts.route.hidden = !trip;
+    if (!trip) return;
+    const next = trip.next(world), since = this.act.latest() - trip.entry.version, { mark } = trip.entry;
+    const isOpen = next !== undefined, left = trip.exits.length - world.walked;
+    const isLost = !isOpen && !trip.isNoWay && !trip.isThere(world);
+    parts.told.textContent = trip.text(world) + (isLost ? ". You left this way" : "");
+    parts.mark.textContent = mark?.text ?? "";
+    parts.mark.className = `mark ${mark?.kind ?? ""}`;
+    parts.age.textContent = since > 0 ? `${since} ${since === 1 ? "change" : "changes"} since` : "";
+    parts.again.hidden = !(since > 0 || isLost);
+    parts.step.hidden = !isOpen || trip.isRunning;
+    parts.step.textContent = isOpen ? `Go: ${world.exits.get(next)?.name ?? `#${next}`}` : "";
+    parts.all.hidden = !isOpen || (left < 2 && !trip.isRunning);
+    parts.all.textContent = trip.isRunning ? "Stop" : `Go all ${left}`;
+  }
+
+  // A trip is over where the player goes on from its end.
+  endTrip() {
+    const { trip } = this, isThere = trip?.isThere(this.world);
+    if (isThere) trip.wasThere = true;
+    else if (trip?.wasThere) this.trip = undefined;
+  }
+
+  // A button for each exit of the room. Buttons that are there stay, so that a key finds them where they were.
+  drawExits() {
+    const { parts, world } = this, exits = world.exitsOf(world.here).slice(0, MOST_BUTTONS);
+    const hadFocus = parts.exits.contains(document.activeElement);
+    while (parts.exits.childElementCount > exits.length) parts.exits.lastChild.remove();
+    while (parts.exits.childElementCount < exits.length) parts.exits.append(this.exitButton());
+    exits.forEach((number, at) => this.drawExit(parts.exits.children[at], number));
+    if (hadFocus && !parts.exits.contains(document.activeElement)) parts.line.focus();
+  }
+
+  exitButton() {
+    const button = element("button", "exit");
+    button.type = "button";
+    button.append(element("b", ""), element("small", ""));
+    on(button, () => this.act.say(lineFor(this.world, Number(button.dataset.exit), this.verbs)));
+    return button;
+  }
+
+  drawExit(button, number) {
+    const { name, to, locked } = this.world.exits.get(number), [way, room] = button.children;
+    const place = to === undefined ? "" : this.world.rooms.get(to) ?? `#${to}`;
+    const text = locked ? `${place} (locked)`.trim() : place, isNext = this.trip?.next(this.world) === number;
+    if (way.textContent !== (name ?? `#${number}`)) way.textContent = name ?? `#${number}`;
+    if (room.textContent !== text) room.textContent = text;
+    button.dataset.exit = number;
+    button.className = `exit${locked ? " locked" : ""}${isNext ? " next" : ""}`;
+  }
+}

@@ -1,0 +1,61 @@
+// The line that is typed: Enter sends it, Tab completes it, the arrow keys go through what was typed, Escape clears it.
+
+class Line {
+  // act: { send(line), canSend(), world, verbs, page(way) }, where send says whether the line went out.
+  constructor(form, input, act, lines) {
+    Object.assign(this, { input, act, earlier: new Earlier(lines), offers: [] });
+    on(form, (event) => this.submit(event), "submit");
+    on(input, (event) => this.key(event), "keydown");
+    on(input, () => {
+      this.earlier.rest();
+      this.offers = [];
+    }, "input");
+  }
+
+  // A line that can't be sent now waits in the field.
+  submit(event) {
+    event.preventDefault();
+    const line = typed(this.input.value);
+    if (line === "" || !this.act.send(line)) return;
+    this.earlier.add(line);
+    this.set("");
+  }
+
+  set(text) {
+    this.input.value = text;
+    this.input.setSelectionRange(text.length, text.length);
+  }
+
+  key(event) {
+    const { key } = event, isPlain = !event.ctrlKey && !event.altKey && !event.metaKey;
+    const tasks = { ArrowUp: () => this.back(-1), ArrowDown: () => this.back(1), Escape: () => this.clear(),
+      Tab: () => this.complete(event.shiftKey), PageUp: () => this.act.page(-1), PageDown: () => this.act.page(1) };
+    if (key !== "Tab" && key !== "Shift") this.offers = [];
+    if (!isPlain || !tasks[key]) return;
+    if (tasks[key]() !== false) event.preventDefault();
+  }
+
+  back(way) {
+    const text = this.earlier.move(way, this.input.value);
+    if (text !== undefined) this.set(text);
+  }
+
+  clear() {
+    this.set("");
+    this.earlier.rest();
+  }
+
+  // The next way to complete the line; where there is none, Tab goes on to what comes next on the page.
+  complete(isBack) {
+    const text = this.input.value;
+    if (text === "") return false;
+    if (!this.offers.length || !this.offers.includes(text)) {
+      this.offers = completions(this.act.world, this.act.verbs, text);
+      if (this.offers.length) this.offers.push(text);
+    }
+    if (!this.offers.length) return false;
+    const at = this.offers.indexOf(text), count = this.offers.length;
+    this.set(this.offers[(at + (isBack ? count - 1 : 1)) % count]);
+    return true;
+  }
+}

@@ -1,0 +1,255 @@
+// The page itself: what comes goes to the log, the map and the hands, and what is done there goes out.
+
+const PLACES = { guest: "connect NAME", player: "say Hello" }; // What stands in an empty line.
+const NAME = document.title;
+const part = (id) => document.getElementById(id);
+const parts = (...ids) => Object.fromEntries(ids.map((id) => [id, part(id)]));
+
+const later = (task, wait) => setTimeout(task, wait);
+const kept = keptInTab() ?? {};
+const talk = new Conversation(kept.world && World.from(kept.world));
+const { world } = talk, verbs = verbsOf(COMMANDS);
+const log = new Log(parts("log", "entries", "fresh", "spoken"), new Book());
+const map = new MapView({ ...parts("map", "canvas", "note", "floor", "up", "down", "larger", "smaller", "whole",
+  "home", "words", "rooms", "more"), window: part("picture"), summary: part("map-name") }, askWay);
+const link = new Connection({
+  dial: () => new WebSocket(location.origin.replace(/^http/, "ws") + "/play"), now: () => performance.now(), later,
+  cancel: (timer) => clearTimeout(timer), chance: Math.random,
+}, { open: opened, text: heard, closed, state: showState });
+const hands = new Hands(parts("exits", "route", "told", "mark", "age", "again", "step", "all", "close", "line"), world,
+  verbs, { say: (line, answered) => say(line, { answered }), latest: () => talk.latest, arrived });
+const line = new Line(part("form"), part("line"), { send: (text) => say(text), world, verbs, page: turnPage },
+  kept.typed);
+const checks = new Checks(undefined, {
+  ask: (text) => new Promise((answered) => say(text, { quiet: true, answered }) || answered(undefined)),
+  later, now: () => performance.now(),
+  mark: (entry) => (log.show(entry), hands.soon()),
+});
+
+// ---- what goes out
+
+// Sends a line, if there is a link. A quiet one is not shown, nor is its answer; `answered` has the answer, or
+// undefined where the link ends before.
+function say(text, { quiet = false, isUnseen = false, answered } = {}) {
+  if (!link.isOn()) {
+    if (!quiet) log.tell(`not connected${part("line").value ? ": your line waits" : ""}`);
+    return false;
+  }
+  if (!quiet && !isUnseen) log.mine(text);
+  talk.say(text, quiet, answered);
+  link.send(text);
+  return true;
+}
+
+// Asks the way to a room.
+function askWay(room) {
+  say(`route to #${room}`);
+}
+
+// The player is in a room, and has no more steps to go by himself: he looks.
+function arrived() {
+  if (part("looks").checked && world.here !== lookedAt && link.isOn()) say("look", { isUnseen: true });
+  lookedAt = world.here;
+}
+
+let lookedAt, isBack = false;
+
+// ---- what comes
+
+function opened() {
+  talk.begin();
+  if (checker) checks.judge = new checker.Checker();
+  lookedAt = undefined;
+  const { connectLine } = talk;
+  if (connectLine) isBack = say(connectLine, { answered: () => (isBack = false) });
+}
+
+function heard(text) {
+  const entries = talk.take(text);
+  for (const entry of entries) log.show(entry);
+  takeAnswers();
+  if (document.hidden) showUnread(entries.filter(({ kind }) => kind !== "greeting").length);
+  showWorld();
+}
+
+const answers = [];
+talk.onAnswer = (entry) => answers.push(entry);
+
+// What answers lead to is done when they were shown.
+function takeAnswers() {
+  for (const entry of answers.splice(0)) answered(entry);
+}
+
+function answered(entry) {
+  entry.answered?.(entry);
+  if (entry.quiet || entry.kind !== "reply") return;
+  if (/^welcome #\d+$/.test(entry.lines[0])) welcomed();
+  else if (/^went by /.test(entry.lines[0]) && !hands.trip?.isRunning) arrived();
+  if (isLook(entry.line)) lookedAt = world.here;
+  hands.answered(entry);
+  checks.answered(entry);
+}
+
+function welcomed() {
+  part("state").textContent = stateText("on");
+  hands.trip = undefined;
+  if (part("looks").checked) say("look", { isUnseen: true });
+  if (document.activeElement === part("name") || document.activeElement === document.body) part("line").focus();
+}
+
+function closed({ why, wasOpen, isLeft, code }) {
+  talk.end();
+  takeAnswers();
+  talk.drop();
+  hands.stop();
+  if (talk.hasLeft) Object.assign(talk, { hasLeft: false, connectLine: undefined, name: undefined });
+  if (wasOpen || !closed.last || closed.last !== why) log.tell(isLeft ? "you have left" : `disconnected: ${why}`);
+  closed.last = wasOpen ? undefined : why;
+  if (!wasOpen && code === 1006) findOrigin();
+  showWorld();
+}
+
+// A page under another name than the server's own is not let in. The server's answer to a plain request may name it.
+async function findOrigin() {
+  let text;
+  try {
+    text = await (await fetch("/play", { cache: "no-store" })).text();
+  } catch {
+    return;
+  }
+  const origin = originIn(text), isOther = origin && origin !== location.origin;
+  if (isOther) link.stop();
+  const told = isOther ? `this world is played at ${origin}, and this page is at ${location.origin}: open it there` :
+    `the server does not let this page play: is ${location.origin} its own?`;
+  if (closed.told !== told) log.tell(closed.told = told);
+}
+
+// ---- what is shown
+
+function stateText(state) {
+  if (state === "on") return talk.isIn ? `${talk.name} #${world.me}` : "connected, no name yet";
+  return { dialing: "connecting ..", waiting: "disconnected", off: "not connected" }[state];
+}
+
+function showState(state) {
+  part("state").textContent = stateText(state);
+  document.body.dataset.state = state;
+  part("connect").hidden = state === "on" || state === "dialing";
+  showGuest();
+  showWait();
+}
+
+// The seconds until the next try.
+function showWait() {
+  const left = Math.ceil((link?.nextAt - performance.now()) / 1000);
+  part("wait").textContent = link?.state === "waiting" && left > 0 ? `, next try in ${left} s` : "";
+}
+
+function showGuest() {
+  const isGuest = link.isOn() && !talk.isIn && !isBack, wasGuest = !part("guest").hidden;
+  part("guest").hidden = !isGuest;
+  if (isGuest && !wasGuest && !part("line").value) part("name").focus();
+  part("line").placeholder = isGuest || !link.isOn() ? PLACES.guest : PLACES.player;
+}
+
+function showWorld() {
+  link.hasLeft = talk.hasLeft;
+  showGuest();
+  map.show(world);
+  hands.soon();
+}
+
+let unread = 0;
+
+function showUnread(more) {
+  unread = document.hidden ? unread + more : 0;
+  document.title = unread ? `(${unread}) ${NAME}` : NAME;
+}
+
+function turnPage(way) {
+  part("log").scrollBy({ top: way * part("log").clientHeight * 0.8 });
+}
+
+// What is under a phone's keyboard can't be seen: the page is as tall as what can.
+function fit() {
+  const { height } = visualViewport;
+  document.documentElement.style.setProperty("--tall", `${height}px`);
+  document.body.classList.toggle("keyed", height < 480 && innerWidth < 832);
+}
+
+// ---- saving
+
+async function save() {
+  const needed = Math.max(0, ...talk.proofs.map(({ version }) => version));
+  if (!talk.history || talk.history.version < needed) {
+    const answer = await checks.act.ask("@history");
+    if (answer?.lines[0] !== "history") return log.tell(`not saved: ${answer?.lines[0] ?? "not connected"}`);
+  }
+  const { name, text } = recordOf(talk, checker), count = talk.proofs.length;
+  saveFile(name, text);
+  const how = count === 1 ? `mud_check < ${name}` : "docs/CHECKER.md, Records, or Check a saved file in the menu";
+  log.tell(`saved ${name}, with ${count} ${count === 1 ? "proof" : "proofs"}. To check it: ${how}`);
+}
+
+async function checkFile(file) {
+  if (!file || !checker) return;
+  const found = await new checker.Checker().judgeRecord(await file.text());
+  const lines = found.map(({ text, version, says }) => (version ? `[${version}] ${says}: ` : "") + inWords(text));
+  log.show({ kind: "page", lines: [`${file.name}:`, ...lines] });
+}
+
+function keep() {
+  const settings = Object.fromEntries(["looks", "checks", "times"].map((id) => [id, part(id).checked]));
+  const { connectLine, name, latest } = talk;
+  keepInTab({ latest, world: world.kept(), layout: map.layout.kept(), log: log.book.kept(), typed: line.earlier.lines,
+    draft: part("line").value, connectLine, name, settings, isOpen: part("map").open });
+}
+
+function restore() {
+  const { layout, log: entries = [], connectLine, name, latest, settings = {}, isOpen, draft = "" } = kept;
+  if (layout) map.layout = Layout.from(layout);
+  Object.assign(talk, { connectLine, name, latest });
+  for (const [id, value] of Object.entries(settings)) part(id).checked = value;
+  for (const entry of entries) log.show({ ...entry, isSilent: true });
+  if (entries.length) log.show({ kind: "page", lines: ["above: what this tab had before"], isSilent: true });
+  part("line").value = draft;
+  part("map").open = isOpen ?? matchMedia("(min-width: 52.01rem)").matches;
+}
+
+// ---- what is pressed
+
+function listen() {
+  on(part("connect"), () => link.connect());
+  on(part("ask"), () => openHelp(part("help"), part("commands")));
+  on(part("save"), save);
+  on(part("save-log"), () => saveFile("log.txt", log.book.text()));
+  on(part("file"), ({ target }) => checkFile(target.files[0]).then(() => (target.value = "")), "change");
+  on(part("checks"), ({ target }) => (checks.isAlways = target.checked), "change");
+  on(part("times"), showTimes, "change");
+  on(part("guest"), (event) => {
+    event.preventDefault();
+    const name = typed(part("name").value).trim();
+    if (name) say(`connect ${/ /.test(name) ? `"${name}"` : name}`);
+  }, "submit");
+  on(window, () => link.hurry(), "online");
+  on(window, keep, "pagehide");
+  on(document, () => {
+    if (document.hidden) return keep();
+    showUnread(0);
+    link.hurry();
+  }, "visibilitychange");
+  on(visualViewport, fit, "resize");
+  setInterval(showWait, 1000);
+}
+
+function showTimes() {
+  document.body.classList.toggle("timed", part("times").checked);
+}
+
+restore();
+listen();
+checks.isAlways = part("checks").checked;
+showTimes();
+fit();
+map.show(world);
+link.connect();

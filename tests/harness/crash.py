@@ -1,6 +1,7 @@
 """A server with a journal is killed while many play, by Telnet and on the web, again and again. In every second round
-the file is then cut at any byte behind what was synced, as a crash of the system may cut it. Whatever anybody was told
-stands in the journal then: each version that was named, with its text. The next server goes on from it.
+what stands behind what was synced is then cut at any byte and has holes of zeros, as a crash of the system may leave
+it. Whatever anybody was told stands in the journal then: each version that was named, with its text. The next server
+goes on from it.
 """
 import os
 import random
@@ -8,6 +9,7 @@ import re
 import threading
 import time
 
+from harness.inputs import read
 from harness.journal import Place, ended
 from harness.parts import part
 from harness.preload import library
@@ -19,6 +21,8 @@ HEARD = re.compile(rb'\((\d+)\) \w+ says, "(.*)"')
 NAMED = re.compile(rb"[\[(](\d+)[\])] ")
 # How long a round lasts, in seconds; how many lines a client sends at once.
 ROUND_SECONDS, BURSTS = (0.3, 1.0), (1, 3)
+# How long a hole is that a crash leaves, and how many zeros stand at the end.
+HOLE_BYTES, ZEROS = 8, (0, 0, 100, 5000)
 
 
 class Told:
@@ -81,8 +85,8 @@ class Player(threading.Thread):
 
 
 def entries_of(text):
-    """The whole lines of a journal's entries."""
-    return text.split(b"\n")[1:-1]
+    """The whole lines of a journal's entries, before the first zero byte."""
+    return text.partition(b"\0")[0].split(b"\n")[1:-1]
 
 
 def play_and_kill(place, clients, told, environment):
@@ -104,10 +108,16 @@ def play_and_kill(place, clients, told, environment):
 
 
 def cut(place, note):
-    """Cuts the journal at any byte behind what was synced last."""
-    with open(note, "rb") as file:
-        synced = int(file.read() or 0)
-    os.truncate(place.path, random.randint(synced, len(place.text())))
+    """Cuts the journal at any byte behind what was synced last, puts zeros in the place of some bytes there, and adds
+    some.
+    """
+    synced, text = int(read(note) or 0), place.text()
+    left = bytearray(text[:random.randint(synced, len(text))] + bytes(random.choice(ZEROS)))
+    for at in range(synced, len(left), HOLE_BYTES):
+        if random.random() < 0.5:
+            left[at:at + HOLE_BYTES] = bytes(len(left[at:at + HOLE_BYTES]))
+    with open(place.path, "wb") as file:
+        file.write(left)
 
 
 def why_lost(place, at, clients, told):

@@ -154,7 +154,7 @@ def why_wrong(row):
     return f"{took} s"
 
 
-@part("dear-steps", "the dearest steps that were found in the largest worlds take little time each")
+@part("dear-steps", "the dearest steps that were found in the largest worlds take little time", wants_proof=True)
 def dear_steps(count):
     for row in ROWS:
         why = why_wrong(row)

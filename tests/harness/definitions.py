@@ -1,4 +1,4 @@
-"""Counts what a reader has to believe, crate by crate: the table of docs/DEFINITIONS.md.
+"""Counts what a reader has to believe: crate by crate for docs/DEFINITIONS.md, and claim by claim for docs/TRUST.md.
 
 The roots are what public calls say: the clauses of public functions and laws, the ghost members of public types and
 traits, the models of public types. From there each name is followed through the files of specs/. The definitions that
@@ -11,15 +11,31 @@ it on from call to call, and whatever it says, what they claim of texts and worl
 A file in a folder `inner` is private: what it has is cited by private clauses, by proofs, and by definitions that are
 closed in that way. No public clause may reach it otherwise. Of what no public clause reaches, only that stands outside
 of `inner` which a closed definition of the same file cites, and which cites that file's own.
+
+Definitions and clauses also cite constants and types of the code, by imports of `specs.declared`. Those are counted for
+each claim, and so are the constants of which no law `limits` or `codes` gives the value.
 """
 import pathlib
 import re
+import textwrap
 
 from harness.parts import part
 
 TOP = pathlib.Path(__file__).resolve().parents[2]
-PAGE = TOP / "docs/DEFINITIONS.md"
-BEGIN, END = "<!-- The counts, written by `tests/run definitions --write`. -->", "<!-- The end of the counts. -->"
+PAGE, TRUST = TOP / "docs/DEFINITIONS.md", TOP / "docs/TRUST.md"
+# The lines of a page between which something is written.
+BEGIN, END = "<!-- {}, written by `tests/run definitions --write`. -->", "<!-- The end of the counts. -->"
+# What docs/TRUST.md counts, and what carries it: a crate, and the functions of some of its files whose clauses say it;
+# without such files, all that is public in the crate.
+CLAIMS = [
+    ("the theorems about the guide", "mud_hall", {"src/laws.rt": ["guide", "walk"]}),
+    ("the verdict of the checker", "mud_verdict", {"src/outcome.rt": ["verdict"]}),
+    ("a script, from bytes to bytes", "mud_session", {"src/scripting.rt": ["script"], "src/laws.rt": ["runs"]}),
+    ("the journal", "mud_journal", {}),
+    ("the door on the web", "mud_web", {}),
+]
+# The laws that give the values of constants.
+VALUES = {"limits", "codes"}
 NAME = r"[^\W\d][\w'-]*"
 # How a definition begins: `abbrev pub Walk : Roads → ..`, `pub record IsLeast (hop : ℕ) ..`, `abbrev pub ◌or◌ : ..`.
 BEGINS = re.compile(
@@ -33,6 +49,10 @@ COMMENT_OR_TEXT = re.compile(r'(?:--|//).*|"(?:\\.|[^"\\])*"')
 CITED = re.compile(rf"(?<![.\w'-]){NAME}(?:\.{NAME})*")
 CLOSED = "A reader need not look into this"
 PRIVATE = "inner"
+DECLARED, CONSTANTS, VARIANTS = ".specs.declared", "TheConstants", "TheVariants"
+LONGEST_LINE = 120
+# A ported crate that more crates than these stand on is shown with their number.
+MOST_NAMED = 6
 
 
 def imports(lines):
@@ -152,14 +172,20 @@ def said(block, names):
     return "\n".join([*ghosts, *map(clauses, functions)])
 
 
-def roots_of(crate, definitions):
-    """The definitions that a crate's public contracts and laws cite."""
-    names = exported(crate)
-    for path in sorted(crate.glob("src/**/*.rt")):
+def said_by(crate, only=None):
+    """What the public items of a crate say, or those of these names in some files: texts, with their file's imports."""
+    files = {crate / file: set(names) for file, names in (only or {}).items()}
+    files = files or dict.fromkeys(crate.glob("src/**/*.rt"), exported(crate))
+    for path, names in sorted(files.items()):
         text = path.read_text()
         uses = imports(text.splitlines())
-        for block in blocks(text):
-            yield from definitions.cited(said(block, names), uses)
+        yield from ((said(block, names), uses) for block in blocks(text))
+
+
+def roots_of(crate, definitions):
+    """The definitions that a crate's public contracts and laws cite."""
+    for text, uses in said_by(crate):
+        yield from definitions.cited(text, uses)
 
 
 def statements_of(crate, definitions):
@@ -205,10 +231,15 @@ def counted(definitions):
     return {at: (len(definitions.lines[at][0]), at in laws) for at in sorted(reached)}
 
 
+def crate_lines():
+    """The crates of crates.txt, and what each stands on."""
+    lines = re.findall(rf"(?m)^({NAME})(?: [^:\n]*)?:([^#\n]*)", (TOP / "crates.txt").read_text())
+    return {crate: lows.split() for crate, lows in lines}
+
+
 def table(found):
-    """The table of the page: a row a crate, in the order of crates.txt, and their sum."""
-    text = (TOP / "crates.txt").read_text()
-    counts = {crate: [0, 0] for crate in re.findall(rf"(?m)^({NAME})(?=[ :])", text)}
+    """The table of docs/DEFINITIONS.md: a row a crate, in the order of crates.txt, and their sum."""
+    counts = {crate: [0, 0] for crate in crate_lines()}
     for (module, _), (lines, is_law) in found.items():
         counts[module.split(".")[1]][is_law] += lines
     rows = [(f"`{crate}`", *both) for crate, both in counts.items() if any(both)]
@@ -217,10 +248,126 @@ def table(found):
     return "\n".join(["| crate | definitions | laws |", "|---|---|---|", *lines])
 
 
-@part("definitions", "docs/DEFINITIONS.md counts what the specs have", words="[--write | --list | --strays]")
+def filled(what, names):
+    """A sentence with a list, in lines of a page."""
+    return textwrap.fill(f"{what}: {', '.join(names) or 'none'}.", LONGEST_LINE, break_on_hyphens=False)
+
+
+# ---- constants and types of the code
+
+
+def declared(path, name):
+    """The constant or the type that an import of the code's own items stands for: crate, module and name; None else."""
+    crate, is_declared, below = path.removeprefix("Rattle.").partition(DECLARED)
+    if not is_declared or not (TOP / "crates" / crate).is_dir():
+        return None
+    *module, last = [it for it in below.split(".") if it != VARIANTS][1:]
+    return crate, "/".join(module) or "lib", name if last == CONSTANTS else last
+
+
+def shown_in(text, uses):
+    """The constants and the types of the code that a text cites."""
+    for name in set(CITED.findall(plain(text))):
+        path, own = uses.get(name.partition(".")[0], ("", None))
+        if found := declared(path, own or name.partition(".")[2]):
+            yield found
+
+
+def is_constant(item):
+    return item[2].isupper()
+
+
+def lines_of_type(item):
+    """How many lines a type of the code has, without comments and attributes."""
+    crate, module, name = item
+    items = blocks((TOP / f"crates/{crate}/src/{module}.rt").read_text())
+    found = next(it for it in items if re.match(rf"pub(?:\(crate\))? (?:struct|enum|trait) {name}\b", it))
+    return sum(not line.strip().startswith(("//", "#[")) for line in found.splitlines() if line.strip())
+
+
+def shown_by(definitions, texts, found):
+    """The constants and the types that contracts cite, and the definitions that they reach."""
+    opened = (definitions.lines[at] for at in found if not definitions.is_closed(at))
+    texts = [*texts, *(("\n".join(lines), uses) for lines, uses in opened)]
+    return {item for text, uses in texts for item in shown_in(text, uses)}
+
+
+# ---- claims
+
+
+def carriers(crate, only):
+    """How a page names what carries a claim."""
+    names = ", ".join(f"`{name}`" for names in only.values() for name in names)
+    return f"`{crate}`, {names or 'all that is public'}"
+
+
+def claim_row(definitions, claim, crate, only):
+    """The row of a claim: what has to be believed for it."""
+    texts = list(said_by(TOP / "crates" / crate, only))
+    found = definitions.reached({at for text, uses in texts for at in definitions.cited(text, uses)})
+    shown = shown_by(definitions, texts, found)
+    types = [item for item in shown if not is_constant(item)]
+    lines = sum(len(definitions.lines[at][0]) for at in found)
+    counts = len(found), lines, len(shown) - len(types), len(types), sum(map(lines_of_type, types))
+    return "| {} | {} | {} | {} | {} | {} | {} |".format(claim, carriers(crate, only), *counts)
+
+
+def claims(definitions):
+    """The table of docs/TRUST.md: a row for each claim."""
+    head = "| Claim | What carries it | Definitions | Their lines | Constants | Types | Their lines |"
+    return "\n".join([head, "|---|---|---|---|---|---|---|", *(claim_row(definitions, *claim) for claim in CLAIMS)])
+
+
+def unpromised(definitions, found):
+    """The constants that public contracts reach, and of which no law gives the value."""
+    crates = [TOP / "crates" / crate for crate in crate_lines()]
+    texts = [it for crate in crates for it in said_by(crate)]
+    laws = [said_by(crate, {"src/laws.rt": VALUES}) for crate in crates if (crate / "src/laws.rt").exists()]
+    given = {item for said_there in laws for text, uses in said_there for item in shown_in(text, uses)}
+    left = sorted(filter(is_constant, shown_by(definitions, texts, found) - given))
+    return filled("No law gives the value of", [f"`{name}` (`{crate}`)" for crate, _, name in left])
+
+
+# ---- ported crates, and `unsafe`
+
+
+def ported():
+    """The table of docs/TRUST.md of the kit's crates, and of those that stand on them."""
+    lines, rows = crate_lines(), []
+    for low in sorted({low for lows in lines.values() for low in lows} - set(lines)):
+        users = [f"`{crate}`" for crate, lows in lines.items() if low in lows]
+        rows.append(f"| `{low}` | {f'{len(users)} crates' if len(users) > MOST_NAMED else ', '.join(users)} |")
+    return "\n".join(["| Ported crate | Named by |", "|---|---|", *rows])
+
+
+def unsafe():
+    """The `unsafe` blocks and functions of the code, by their files."""
+    texts = {path: plain(path.read_text()) for path in sorted((TOP / "crates").glob("*/src/**/*.rt"))}
+    counts = {path.relative_to(TOP): len(re.findall(r"\bunsafe\b", text)) for path, text in texts.items()}
+    return filled("`unsafe` stands in", [f"`{path}` ({count})" for path, count in counts.items() if count])
+
+
+# ---- the part
+
+
+def stands_written(page, name, text, is_to_write):
+    """Whether a page has this text between its lines of this name, into which it is written where it is to be."""
+    before, begin, rest = page.read_text().partition(BEGIN.format(name))
+    old, end, after = rest.partition(END)
+    new = f"\n\n{text}\n\n"
+    if is_to_write and end:
+        page.write_text(before + begin + new + end + after)
+        old = new
+    return bool(end) and old == new
+
+
+@part("definitions", "docs/DEFINITIONS.md and docs/TRUST.md count what the specs have",
+      words="[--write | --list | --strays]")
 def definitions(count, word=""):
-    """Compares the table of the page, and keeps private files from public clauses. `--write` writes the table, `--list`
-    prints each definition that is counted, `--strays` each one that stands in a public file and that none reaches."""
+    """Compares the tables of the pages, and keeps private files from public clauses. `--write` writes the tables,
+    `--list` prints each definition that is counted, `--strays` each one that stands in a public file and that none
+    reaches.
+    """
     known = Definitions()
     found = counted(known)
     if word == "--list":
@@ -231,12 +378,12 @@ def definitions(count, word=""):
     count("public files", not stray, f"no public clause reaches what public files have: {stray}")
     reached = ", ".join(f"{module} {name}" for module, name in found if is_private(module))
     count("private files", not reached, f"public clauses reach what private files have: {reached}")
-    page = PAGE.read_text()
-    before, begin, rest = page.partition(BEGIN)
-    old, end, after = rest.partition(END)
-    new = f"\n\n{table(found)}\n\n"
-    if word == "--write" and begin and end:
-        PAGE.write_text(before + begin + new + end + after)
-        old = new
-    count("marks of the table", bool(begin and end), f"{PAGE} lacks the line {BEGIN} or {END}")
-    count("table of definitions", old == new, "the specs have other counts: tests/run definitions --write")
+    for page, name, text in [
+        (PAGE, "The counts", table(found)),
+        (TRUST, "The counts", claims(known)),
+        (TRUST, "The constants", unpromised(known, found)),
+        (TRUST, "The ported crates", ported()),
+        (TRUST, "The unsafe blocks", unsafe()),
+    ]:
+        stands = stands_written(page, name, text, word == "--write")
+        count(f"{page.name}: {name}", stands, "it has other counts, or lacks its lines: tests/run definitions --write")

@@ -11,15 +11,18 @@ mud_keep                  `unreadable: file ` and the name on standard error, wh
 Where each call moves one byte, all must be given.
 """
 import subprocess
+import tempfile
 
 from harness import runs
-from harness.inputs import tests_file
+from harness.inputs import read, tests_file
 from harness.parts import part
 from harness.preload import library
 from harness.programs import program
 from harness.trial import Trial, shown, tell
 
 ENDLESS_SECONDS = 600
+# How often a script reads, at most (docs/PROVED.md), and what it says then.
+MOST_READS, TOO_MANY = 16_777_216, b"mud_serve: too many reads\n"
 
 
 class FailedCalls(Trial):
@@ -66,14 +69,18 @@ def failed_in_turn(count, run):
 
 
 def read_endlessly():
-    """The status and the errors of a script that gets a line end from each read, and reads as often as it may."""
+    """The status and the errors of a script that gets a line end from each read, and reads as often as it may; and how
+    often it has read: each byte that it says is a call of its own.
+    """
     environment = {"LD_PRELOAD": library("fail_ends"), "MOVED_BYTES": "1"}
-    with subprocess.Popen(["yes", ""], stdout=subprocess.PIPE) as lines:
+    with tempfile.NamedTemporaryFile() as calls, subprocess.Popen(["yes", ""], stdout=subprocess.PIPE) as lines:
+        environment["CALLS_FILE"] = calls.name
         how = {"stdin": lines.stdout, "capture_output": True, "timeout": ENDLESS_SECONDS, "env": environment}
         ran = subprocess.run([program("mud_serve"), "script"], check=False, **how)
         lines.stdout.close()
         lines.terminate()
-    return ran.returncode, ran.stdout + ran.stderr
+        said, called = ran.stdout + ran.stderr, int(read(calls.name).split()[0])
+    return ran.returncode, said, called - len(said)
 
 
 @part("failed-calls", "each call that reads or writes fails in turn, or moves one byte")
@@ -83,7 +90,7 @@ def failed_calls(count):
     for run in [*runs.few_scripts(), runs.check(*runs.FREE_EXITS), *kept, hall]:
         failed_in_turn(count, run)
     given = read_endlessly()
-    count("failed calls: too many reads", given == (3, b"mud_serve: too many reads\n"), given)
+    count("failed calls: too many reads", given == (3, TOO_MANY, MOST_READS), given)
 
 
 @part("failed-calls-everywhere", "failed-calls over all small inputs", on_demand=True)

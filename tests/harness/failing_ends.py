@@ -25,16 +25,16 @@ NO_ORIGINS = [
 ]
 BAD_WORDS = {
     "mud_serve": [
-        "", "wait", "script --capacity 0", "script --capacity 65537", "script --workers 9", "script more", "--help",
+        "", "wait", "script --capacity 0", "script --capacity 65537", "script --workers 9", "script more",
         "listen --port 0 --web-port 0", "listen --port 0 --web-origin http://localhost",
         "listen --port 0 --web-address 127.0.0.1", "listen --port 0 --web-port 65536 --web-origin http://localhost",
         *(f"listen --port 0 --web-port 0 --web-origin {url}" for url in NO_ORIGINS),
     ],
     "mud_explain": [
-        "", "word", "key more", "hall more", "hall --capacity 0", "hall --capacity 65537", "hall --load", "--help",
+        "", "word", "key more", "hall more", "hall --capacity 0", "hall --capacity 65537", "hall --load",
     ],
-    "mud_check": ["one", "one two three", "--help"],
-    "mud_keep": ["", "keep", "show", "show one two", "--help"],
+    "mud_check": ["one", "one two three"],
+    "mud_keep": ["", "keep", "show", "show one two"],
 }
 
 
@@ -137,13 +137,22 @@ def try_files_to_load(ends):
     ends.cannot_load("history change 4", ends.file("wrong", wrong_exit), "--capacity", "3")
 
 
+def try_addresses(ends):
+    """Addresses at which this machine can't listen, and texts that are none."""
+    for address, why in [("192.0.2.1", "no such address"), ("localhost", "not an IP address"),
+                         ("[::1]", "not an IP address"), ("999.1.1.1", "not an IP address")]:
+        words = ["listen", "--port", "4000", "--address", address]
+        ends.wants(3, "", f"mud_serve: cannot listen on port 4000: {why}\n", "mud_serve", words)
+
+
 def try_taken_port(ends):
     """A port at which another program listens; and one of the door on the web."""
     with socket.create_server(("127.0.0.1", 0)) as other:
         port = str(other.getsockname()[1])
         web = ["--port", "0", "--web-port", port, "--web-origin", "http://localhost"]
         for words in (["--port", port], web):
-            ends.wants(3, "", "mud_serve: cannot listen\n", "mud_serve", ["listen", *words, "--total", "1"])
+            told = f"mud_serve: cannot listen on port {port}: in use\n"
+            ends.wants(3, "", told, "mud_serve", ["listen", *words, "--total", "1"])
 
 
 def try_lost_output(ends):
@@ -168,5 +177,6 @@ def failing_ends(count):
         try_bad_words(ends)
         try_files_to_check(ends)
         try_files_to_load(ends)
+        try_addresses(ends)
         try_taken_port(ends)
         try_lost_output(ends)

@@ -6,6 +6,7 @@ import os
 import shutil
 import subprocess
 import tempfile
+from concurrent.futures import ThreadPoolExecutor
 
 from harness.parts import part
 from harness.programs import TOP
@@ -103,7 +104,7 @@ def ends(said, wanted):
     return wanted in (said.splitlines() or [""])[-1]
 
 
-@part("first-run", "what `./run` proves first and after a change, what it writes, and how it fails, on small crates")
+@part("first-run", "what `./run` proves first and after a change, and how it fails, on small crates", wants_proof=True)
 def first_run(count):
     with repository() as small:
         first = small.run("tells")
@@ -132,8 +133,29 @@ def names_of(small, program):
 @part("run-words", "what `./run` says to words that name no program, and for help")
 def run_words(count):
     with repository() as small:
-        for words in ((), ("low",), ("nothing",), ("--unproved",), ("--unproved", "low")):
+        for words in ((), ("--unproved",)):
             status, written, said = small.run(*words)
             count(f"run {' '.join(words)}", (status, written) == (2, "") and said.startswith("run PROGRAM"), said)
-        status, written, said = small.run("--help")
-        count("run --help", status == 0 and "PROGRAM: tells." in written and not said, written)
+        for before, name in (((), "low"), ((), "nothing"), (("--unproved",), "low"), (("--unproved",), "tell")):
+            answer = small.run(*before, name, "--help")
+            said = f"run: there is no program {name}; programs: tells\n"
+            count(f"run {' '.join([*before, name])}", answer == (2, "", said), str(answer))
+        for words in (("--help",), ("-h",), ("--unproved", "--help")):
+            status, written, said = small.run(*words)
+            count(f"run {' '.join(words)}", status == 0 and "PROGRAM: tells." in written and not said, written)
+
+
+@part("run-unproved", "what `./run --unproved` builds, and two of them at once, on small crates", on_demand=True)
+def run_unproved(count):
+    with repository() as small, ThreadPoolExecutor() as pool:
+        both = [pool.submit(small.run, "--unproved", "tells") for _ in range(2)]
+        answers = sorted((one.result() for one in both), key=lambda answer: answer[2].count("\n"))
+        told = [[line.split(":")[1] for line in said.splitlines()] for _, _, said in answers]
+        count("both run it", [answer[:2] for answer in answers] == [(3, "8\n")] * 2, answers)
+        count("one builds it", [len(lines) for lines in told] == [2, 3], told)
+        count("the other waits", "waiting for another run" in answers[0][2], answers[0][2])
+        count("each says once that nothing is proved", all(said.count("is proved") == 1 for _, _, said in answers))
+        small.write("crates/low/src/lib.rt", FILES["crates/low/src/lib.rt"].replace("    7\n", "    seven\n"))
+        status, written, said = small.run("--unproved", "tells")
+        wrong = f"{os.path.realpath(small.folder)}/crates/low/src/lib.rt:"
+        count("what can't be read", (status, written) == (1, "") and wrong in said, said)

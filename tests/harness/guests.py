@@ -158,8 +158,8 @@ def why_no_more(number):
     """No call can ever give a connection: the history is written before the fault is told."""
     environment = {"LD_PRELOAD": library("fail_accept"), "ACCEPT_ERROR": str(number), "ACCEPT_TIMES": "1000000"}
     with Server(program("mud_serve"), environment=environment) as server:
-        given = server.end(), server.said()
-        return "" if given == ((3, ended(FIRST)), LISTENING_FAULT) else f"{given}"
+        given = server.end(), server.said().splitlines(keepends=True)[-1:]
+        return "" if given == ((3, ended(FIRST)), [LISTENING_FAULT]) else f"{given}"
 
 
 def why_per_address():

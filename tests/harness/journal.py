@@ -2,7 +2,9 @@
 leaves the file as it is. What is printed at its end is the journal and the last line of a history.
 """
 import os
+import resource
 import shutil
+import socket
 import subprocess
 import tempfile
 import time
@@ -19,6 +21,7 @@ FIRST = b"mud history 2\n"
 LAST_LINE = b"2 1 say #2 hi\n"
 ANN = FIRST + b'1 1 player #2 "Ann"\n' + LAST_LINE
 MOST = 65_536
+LIMIT_BYTES = 400
 # A user who owns nothing.
 NOBODY = 65_534
 
@@ -37,6 +40,11 @@ def ended(text):
 # What is in the file; more words; why the server does not go on from it.
 REFUSED = [
     ("a text", b"hello\n", [], b"cannot open journal: not a history"),
+    ("a text of one long line", b"hello, a line without its end", [], b"cannot open journal: not a history"),
+    ("another program's file", b"\x7fELF\2\1\1" + bytes(9) + b"\3\0>\0", [], b"cannot open journal: not a history"),
+    ("a disk's beginning", bytes(1024) + b"\0\1", [], b"cannot open journal: not a history"),
+    ("a first line cut by a zero, and more", FIRST[:4] + bytes(20) + ANN, [], b"cannot open journal: not a history"),
+    ("a line before a zero that is no change's", ANN + b"3 1 what\n\0", [], b"cannot open journal: journal line 4"),
     ("a line that is no change's", ANN + b"3 1 what\n", [], b"cannot open journal: journal line 4"),
     ("a version left out", ANN + b"4 1 say #2 hi\n", [], b"cannot open journal: journal line 4"),
     ("a return", FIRST + b"1 1 say #1 hi\r\n", [], b"cannot open journal: journal line 2"),
@@ -166,23 +174,106 @@ def why_slow():
             return "" if server.port is not None and took < START_SECONDS else f"{took} s: {server.said()}"
 
 
-def why_no_file(path):
+def why_no_file(path, reason):
     """What went otherwise where no journal can be at a path."""
     with Server(program("mud_serve"), ["--journal", path]) as server:
         given = server.end(), server.said()
-        return "" if given == ((3, b""), b"mud_serve: cannot open journal: file\n") else f"{given}"
+        return "" if given == ((3, b""), b"mud_serve: cannot open journal: " + reason + b"\n") else f"{given}"
 
 
-def why_no_right():
-    """What went otherwise where who starts the server may not write the journal; nothing where it is refused."""
+def why_taken_special(make):
+    """What went otherwise where something that is no plain file has the name; nothing where it is refused at once."""
+    with Place() as place:
+        make(place.path)
+        return why_no_file(place.path, b"not a plain file")
+
+
+def bound(path):
+    """A socket of this name."""
+    with socket.socket(socket.AF_UNIX) as made:
+        made.bind(path)
+
+
+def why_large():
+    """What went otherwise where a file is larger than any journal; nothing where it is refused unread."""
+    with Place(FIRST) as place:
+        os.truncate(place.path, 2**40)
+        return why_no_file(place.path, b"not a history")
+
+
+def mode(path):
+    return os.stat(path).st_mode & 0o777
+
+
+def why_open_to_all():
+    """What went otherwise in the rights of a journal; nothing where a new one is its owner's, and one that is there
+    keeps its own.
+    """
+    with Place() as place:
+        for wanted in (0o600, 0o640):
+            with place.server() as server:
+                if server.port is None or mode(place.path) != wanted:
+                    return f"{mode(place.path):o}, {server.said()}"
+            os.chmod(place.path, 0o640)
+    return ""
+
+
+def why_unlinked():
+    """What went otherwise where the name is a symbolic link; nothing where the file that it leads to is the journal."""
+    with Place() as place:
+        folder = os.path.join(place.folder.name, "other")
+        os.mkdir(folder)
+        os.symlink("other/made", place.path)
+        for kept in (FIRST, ANN):
+            with place.server() as server:
+                if server.port is None or not os.path.islink(place.path) or place.text() != kept:
+                    return f"{server.said()}, {place.text()}"
+                say(server.port, b"say hi")
+        return "" if os.listdir(folder) == ["made"] else f"{os.listdir(folder)}"
+
+
+def why_left_over():
+    """What went otherwise where a crash at a start left something beside the journal; nothing where that is gone, and
+    what a link there leads to is as it was.
+    """
+    with Place(ANN) as place:
+        beside = place.path + ".start"
+        for make in (lambda: os.symlink(place.whole, beside), lambda: shutil.copy(place.whole, beside)):
+            make()
+            with place.server() as server:
+                if server.port is None or os.path.lexists(beside) or place.text() != ANN:
+                    return f"{server.said()}, {place.text()}"
+        with open(place.whole, "rb") as file:
+            return "" if file.read() == ended(ANN) else "what the link led to is another file now"
+
+
+def limit():
+    """Lets no file grow beyond so many bytes. A write that would is an error, since its signal is passed over."""
+    resource.setrlimit(resource.RLIMIT_FSIZE, (LIMIT_BYTES, LIMIT_BYTES))
+
+
+def why_no_room():
+    """What went otherwise where a start can't write the journal anew; nothing where the old one stays whole, alone."""
+    text = said(LIMIT_BYTES)
+    with Place(text) as place, place.server(preexec_fn=limit, restore_signals=False) as server:
+        given = server.end(), server.said(), place.text(), os.path.exists(place.path + ".start")
+        right = (3, b""), b"mud_serve: cannot open journal: file: file too large\n", text, False
+        return "" if given == right else f"{given}"
+
+
+def why_no_right(rights):
+    """What went otherwise where who starts the server may not write the journal or its folder; nothing where it is
+    refused.
+    """
     with Place(ANN) as place:
         path = shutil.copy(program("mud_serve"), place.folder.name)
-        for name, mode in ((place.path, 0o444), (place.folder.name, 0o755), (path, 0o755)):
-            os.chmod(name, mode)
+        for name, right in ((place.path, rights), (place.folder.name, 0o755), (path, 0o755)):
+            os.chmod(name, right)
         nobody = {"user": NOBODY, "group": NOBODY, "extra_groups": []} if os.geteuid() == 0 else {}
         with Server(path, ["--journal", place.path], **nobody) as server:
             given = server.end(), server.said(), place.text()
-            return "" if given == ((3, b""), b"mud_serve: cannot open journal: file\n", ANN) else f"{given}"
+            right = (3, b""), b"mud_serve: cannot open journal: file: permission denied\n", ANN
+        return "" if given == right else f"{given}"
 
 
 def why_no_port():
@@ -193,7 +284,7 @@ def why_no_port():
         command = [program("mud_serve"), "listen", *words]
         ran = subprocess.run(command, stdin=subprocess.DEVNULL, capture_output=True, timeout=SECONDS, check=False)
         given = ran.returncode, ran.stdout, ran.stderr, place.text()
-        right = 3, b"", told_of(6) + b"mud_serve: cannot listen\n", torn
+        right = 3, b"", told_of(6) + b"mud_serve: cannot listen on port %d: in use\n" % first.port, torn
         return "" if given == right else f"{given}"
 
 
@@ -204,12 +295,25 @@ def journal(count):
 
     for what, text, words, right in REFUSED:
         show(f"{what} is refused", why_taken(text, words, right))
-    show("a folder is refused", why_no_file("/"))
-    show("a file in no folder is refused", why_no_file("/no-such-folder/journal"))
-    show("a file that may not be written is refused", why_no_right())
+    show("a file in no folder is refused", why_no_file("/no-such-folder/journal", b"file: no such folder"))
+    for what, make in (("folder", os.mkdir), ("pipe", os.mkfifo), ("socket", bound)):
+        show(f"a {what} is refused", why_taken_special(make))
+    show("a device is refused", why_no_file("/dev/zero", b"not a plain file"))
+    show("a file larger than any journal is refused", why_large())
+    show("a file that may not be written is refused", why_no_right(0o444))
+    show("a file in a folder that may not be written is refused", why_no_right(0o666))
+    show("no room at the start", why_no_room())
+    show("the rights of a journal", why_open_to_all())
+    show("a symbolic link", why_unlinked())
+    show("what a crash at a start left", why_left_over())
     show("another server has the port", why_no_port())
     show("an empty file is a new journal", why_lost(b"", FIRST))
     show("no file is a new journal", why_lost(None, FIRST))
+    for length in (1, len(FIRST), 5000):
+        show(f"{length} zeros are a new journal", why_lost(bytes(length), FIRST, torn=length))
+    show("a first line that is old bytes is torn", why_lost(b"old bytes", FIRST, torn=9))
+    for torn in (bytes(3), b"3 1 say \0\0 hi\n4 1 say #2 a\n", LAST_LINE[:-2] + bytes(700)):
+        show(f"a hole in {len(torn)} bytes", why_lost(ANN + torn, ANN, torn=len(torn)))
     before = ANN.removesuffix(LAST_LINE)
     for length in range(1, len(FIRST)):
         show(f"a first line cut after {length} bytes", why_lost(FIRST[:length], FIRST, torn=length))

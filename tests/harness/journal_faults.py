@@ -1,6 +1,8 @@
 """The disk of a journal fails: each call for its file in turn, and where the file can't grow any more. Then each
-session is told so and ends, also one that reads nothing, and what anybody was told before is in the journal.
+session is told so and ends, also one that reads nothing, and what anybody was told before is in the journal. After a
+power failure it is there, too, also where an earlier server could not sync what the last one read.
 """
+import collections
 import itertools
 import os
 import re
@@ -19,8 +21,11 @@ from harness.web import WebServer
 SAID, MOST_RUNS, FULL_BYTES = 6, 100, 400
 FAULT = b"(journal fault)"
 REPLY = re.compile(rb"\[(\d+)\] said")
-# Why a server does not begin, or has ended, and what clients were told last then.
-WORDS = (b"mud_serve: cannot open journal: file\n", b"mud_serve: journal fault\n")
+# Why a server does not begin, or has ended.
+WORDS = re.compile(rb"mud_serve: (cannot open journal: file: (input or output failed|no locks|no space|file too large)"
+                   rb"|journal fault)\n")
+# Which sync fails where pages are lost: one for the player, and one for what she says first, go well.
+LOST_SYNC = 3
 
 
 def say(client, told):
@@ -65,7 +70,7 @@ def why_wrong(place, told, status, said, heard):
     """What went otherwise; nothing where all is as it must be."""
     if status == 0:
         return "" if heard == [] and not said else f"status 0, {said}, {heard}"
-    if status != 3 or said not in WORDS:
+    if status != 3 or not WORDS.fullmatch(said):
         return f"status {status}, {said}"
     if heard and heard != [FAULT, FAULT]:
         return f"told last: {heard}"
@@ -148,6 +153,61 @@ def why_untold_on_the_web():
         return "" if given == (FAULT, [], 1001, 3) else f"{given}"
 
 
+def kept_of(path, note):
+    """What a power failure leaves of a file, by the note of the library `lose_pages`; None where its name is lost."""
+    written, kept = collections.defaultdict(list), collections.defaultdict(list)
+    named, is_named = os.stat(path).st_ino, True
+    for word, *numbers in (line.split() for line in read(note).decode().splitlines()):
+        inode, *span = map(int, numbers or [0])
+        if word == "made":
+            written[inode], kept[inode] = [], []
+        elif word == "write":
+            written[inode].append(span)
+        elif word == "sync":
+            kept[inode] += written.pop(inode, [])
+        elif word == "lose":
+            written.pop(inode, None)
+        elif word == "name":
+            named, is_named = inode, False
+        elif word == "folder":
+            is_named = True
+    if not is_named or named != os.stat(path).st_ino:
+        return None
+    with open(path, "rb") as file:
+        text, left = file.read(), bytearray(os.path.getsize(path))
+    for begin, end in kept[named]:
+        left[begin:end] = text[begin:end]
+    return bytes(left)
+
+
+def why_forgotten():
+    """What went otherwise where a sync fails, another server goes on, and the power fails; nothing where all that
+    anybody was told is there then.
+    """
+    told = Told()
+    with Place() as place:
+        note = os.path.join(place.folder.name, "note")
+        environment = {"LD_PRELOAD": library("lose_pages"), "PAGES_NOTE": note}
+        status, said, heard = trial(place, told, environment=environment | {"FAILED_SYNC": str(LOST_SYNC)})
+        if status != 3 or heard != [FAULT, FAULT]:
+            return f"no sync fails: {status}, {said}, {heard}"
+        with place.server(environment=environment) as server:
+            if server.port is None:
+                return f"it does not start: {server.said()}"
+            ended = play(server, told)
+            server.kill()
+        text = kept_of(place.path, note)
+        if text is None or ended:
+            return f"the name is lost, or the session ended: {ended}"
+        with open(place.path, "wb") as file:
+            file.write(text)
+        lost = told.lost(entries_of(text))
+        if lost:
+            return f"lost: {lost} of {sorted(told.texts)}"
+        with place.server() as server:
+            return "" if server.port is not None else f"the next does not start: {server.said()}"
+
+
 @part("journal-faults", "the disk of a journal fails, and all that was told before is kept")
 def journal_faults(count):
     calls, felt, wrong = fail_in_turn()
@@ -157,6 +217,7 @@ def journal_faults(count):
         ("the disk is full", why_unfilled),
         ("a client reads nothing", why_stuck),
         ("a client is on the web", why_untold_on_the_web),
+        ("a sync fails, another server goes on, and the power fails", why_forgotten),
     ]:
         why = why_bad()
         count(f"journal faults: {what}", not why, why)

@@ -259,25 +259,137 @@ def keep(count):
     whole = sum(map(len, left))
     count("shorten: by how much", whole <= SEEDS * CHANGES * 3 // 4, f"{whole} of {SEEDS * CHANGES} are left")
     recovers(count)
+    zeros(count)
+    fronts(count)
+    line_ends(count)
+    cut_histories(count)
+    gone(count)
     bad_texts(count)
     maps(count)
     count("shorten: a server goes on", *goes_on())
 
 
+def journal_of(changes):
+    """A random journal of so many changes."""
+    return Author(0).write(changes).rsplit(b"end ", 1)[0]
+
+
+def whole_lines(journal):
+    """The history of the whole lines of a cut journal, and how many bytes those lines take."""
+    whole = journal[: journal.rfind(b"\n") + 1]
+    return history_of([it.decode() for it in whole.splitlines(keepends=True)[1:]]), len(whole)
+
+
 def recovers(count):
-    """A journal that is cut at each of its bytes."""
-    journal = Author(0).write(6).rsplit(b"end ", 1)[0]
+    """A journal that is cut at each of its bytes. Within its first line it is no world."""
+    journal = journal_of(6)
+    first, faults = journal.find(b"\n"), []
+    for text in (*(journal[:cut] for cut in range(1, first + 1)), bytes(14), bytes(600) + b"x\n"):
+        for words in (["recover"], ["recover", "--front"], ["shorten", "--journal"], ["show", "--journal"]):
+            given = kept(words[0], text, *words[1:], *(["-"] if words[1:] else []))
+            if given != (2, b"", b"unreadable: not a history\n"):
+                faults.append(f"{words} of {text[:20]}: {given}")
+    count("no whole first line", not faults, "; ".join(faults[:3]))
     faults = []
-    for cut in range(len(journal) + 1):
+    for cut in range(first + 1, len(journal) + 1):
         front = journal[:cut]
-        whole = front[: front.rfind(b"\n") + 1]
-        wanted = history_of([it.decode() for it in whole.splitlines(keepends=True)[1:]])
+        wanted, whole = whole_lines(front)
+        told = f"torn off: {cut - whole} bytes\n".encode()
         given = kept("recover", front)
-        if given != (0, wanted, f"torn off: {cut - len(whole)} bytes\n".encode()):
+        if given != (0, wanted, told):
             faults.append(f"{cut}: {given}")
-        if kept("show", front)[:2] != kept("show", wanted)[:2]:
+        if kept("show", front, "--journal", "-") != (0, kept("show", wanted)[1], told):
             faults.append(f"{cut}: another world is shown")
     count("recover at each byte", not faults, "; ".join(faults[:3]))
+
+
+def zeros(count):
+    """A journal behind which a disk left zeros, and lines behind those."""
+    journal = journal_of(6)
+    history, whole = whole_lines(journal)
+    for name, behind in (("zeros", bytes(40)), ("a torn line", b"7 1 sa\0\0"), ("a line", b"\0" + b"7 1 say #1 hi\n")):
+        told = f"torn off: {len(behind)} bytes\n".encode()
+        given = kept("recover", journal + behind)
+        count(f"recover before {name}", given == (0, history, told), given)
+        given = kept("shorten", journal + behind, "--journal", "-")
+        wanted = kept("shorten", history)
+        count(f"shorten before {name}", given == (0, wanted[1], told + wanted[2]), given)
+
+
+def saved(lines, behind):
+    """What is answered where these lines of a journal are right, and this stands behind them."""
+    told = f"left out: {len(behind)} bytes from line {len(lines) + 1} on\n".encode()
+    return 0, history_of([line.decode() for line in lines[1:]]), told
+
+
+def fronts(count):
+    """A journal with a bad line at each place: all before it is saved, and what is left out is told."""
+    lines = journal_of(6).splitlines(keepends=True)
+    for bad in (b"no line\n", b"\xff\0\n", lines[1], b"end 6\n", b"\r\n", b"torn"):
+        faults = []
+        for at in range(1, len(lines) + 1):
+            behind = b"".join([bad, *lines[at:]])
+            given = kept("recover", b"".join(lines[:at]) + behind, "--front", "-")
+            if given != saved(lines[:at], behind) and lines[at:at + 1] != [bad]:
+                faults.append(f"{at}: {given}")
+        count(f"front before {bad}", not faults, "; ".join(faults[:3]))
+    for name, text in (("a torn first line", b"mud hist"), ("other bytes", b"more\n")):
+        given = kept("recover", text, "--front", "-")
+        count(f"front of {name}", given == (2, b"", b"unreadable: not a history\n"), given)
+    given = kept("recover", b"".join(lines), "--front", "-")
+    count("front of a whole journal", given == saved(lines, b""), given)
+
+
+def line_ends(count):
+    """Histories and certificates whose lines end with CR LF, and a journal, in which a CR is no byte of a line."""
+    text = Author(2).write(20)
+    returned = text.replace(b"\n", b"\r\n")
+    for wish in ("shorten", "show", "map"):
+        given = kept(wish, returned)
+        count(f"{wish}: CR LF", given == kept(wish, text) and given[0] == 0, given)
+    history, proof = read(example("history")), read(example("proof"))
+    with tempfile.NamedTemporaryFile() as file:
+        file.write(proof.replace(b"\n", b"\r\n"))
+        file.flush()
+        given = kept("map", history.replace(b"\n", b"\r\n"), "-", file.name)
+    count("map: a certificate with CR LF", given == (0, read(example("dot")), b""), given)
+    given = kept("recover", returned)
+    count("recover: CR LF", given == (2, b"", b"unreadable: not a history\n"), given)
+
+
+def cut_histories(count):
+    """A history that is cut at each byte of its last two lines, and no bytes: neither is a smaller world."""
+    text = Author(3).write(8)
+    start = text.rindex(b"\n8 ")
+    for wish in ("shorten", "show", "map"):
+        given = {kept(wish, text[:cut]) for cut in range(start, len(text))}
+        count(f"{wish}: a cut history", given == {(2, b"", b"unreadable: history without end\n")}, given)
+    for words in (["shorten"], ["show"], ["map"], ["show", "--journal"], ["recover"], ["recover", "--front"]):
+        given = kept(words[0], b"", *words[1:], "-")
+        count(f"{' '.join(words)}: no bytes", given == (2, b"", b"unreadable: empty file\n"), given)
+
+
+def gone(count):
+    """Things that were made and recycled, and rooms with exits: three numbers are had by one change."""
+    for number in (1, 2, 3, 9, 10):
+        lines = [f'{2 * it + 1} 1 make #1 "a"\n{2 * it + 2} 1 recycle #1 #{it + 2}\n' for it in range(number)]
+        text = "".join(["mud history 2\n", *lines, f"end {2 * number}\n"]).encode()
+        fewest = number + (number + 2) // 3
+        world, changes = world_of(kept("shorten", text)[1])
+        count(f"{number} things are gone", (len(changes), world.next) == (fewest, number + 2), changes)
+    kept_dig = history_of([
+        '1 1 dig #1 new "Mill"\n', '2 1 make #1 "a"\n', '3 1 make #1 "b"\n', "4 1 recycle #1 #3\n",
+        "5 1 recycle #1 #4\n", '6 1 make #1 "cup"\n',
+    ])
+    world, changes = world_of(kept("shorten", kept_dig)[1])
+    count("gone behind a dig", len(changes) == 4 and world.table() == world_of(kept_dig)[0].table(), changes)
+    tunnel = history_of([
+        '1 1 dig #1 new "Far"\n', '2 1 make #1 "cup"\n', '3 1 dig #1 old #2 out "hole"\n', "4 1 walk #1 #4\n",
+        "5 1 recycle #1 #4\n", '6 1 make #1 "a"\n', "7 1 recycle #1 #5\n",
+    ])
+    world, changes = world_of(kept("shorten", tunnel)[1])
+    same = world.table() == world_of(tunnel)[0].table()
+    count("through an exit that is gone", len(changes) == 6 and same, changes)
 
 
 def bad_texts(count):
@@ -294,6 +406,9 @@ def bad_texts(count):
         for wish in ("shorten", "show"):
             given = kept(wish, text)
             count(f"{wish}: {fault}", given == (2, b"", f"unreadable: {fault}\n".encode()), given)
+    for fault, text in cases[:3]:
+        given = kept("show", text, "--journal", "-")
+        count(f"show --journal: {fault}", given == (2, b"", f"unreadable: {fault}\n".encode()), given)
     given = kept("recover", hello + b"end 1\n")
     count("recover: a whole history", given == (2, b"", b"unreadable: history line 3\n"), given)
     given = kept("show", b"", "/nowhere/at/all")
@@ -319,11 +434,11 @@ def maps(count):
     count("map: without", given == (0, bare, b""), given)
     lines = history.splitlines(keepends=True)
     cases = (
-        ("proof version 14", b"".join(lines[:10]), proof),
+        ("proof version 14, the history has 9 changes", b"".join(lines[:10]) + b"end 9\n", proof),
         ("proof line 1", history, b""),
         ("proof line 4", history, proof[:50]),
         ("history line 3", lines[0] + lines[1] + b"more\n", b""),
-        ("history change 1", lines[0] + b"1 1 walk #1 #3\n", b""),
+        ("history change 1", lines[0] + b"1 1 walk #1 #3\nend 1\n", b""),
         ("not a history", b"\n", b"\n"),
     )
     for fault, text, other in cases:

@@ -101,7 +101,7 @@ def why_dear(line, bound, right):
     return f"{cost:,.0f} instructions, and the bound is {bound:,}" if cost > SLACK * bound else ""
 
 
-@part("line-costs", "what is said, a walk and a route take no more instructions than they did")
+@part("line-costs", "what is said, a walk and a route take no more instructions than they did", wants_proof=True)
 def line_costs(count):
     if needs_valgrind():
         raise Skipped("valgrind is not there")

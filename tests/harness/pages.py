@@ -27,6 +27,11 @@ NAME = re.compile(r"[A-Za-z_]\w*(?:::\w+)*")
 RULE = re.compile(r"^\|[ :|-]+$")
 PLACEHOLDER = re.compile(r"\b(?:NAME|CRATE|SUBJECT|DOUBT|PROGRAM)\b")
 LOGIC = re.compile(r"logic ([0-9a-f]{8,})")
+# A section of docs/FAULTS.md, and the entries of a section: what is wrong, and what is said of it, in this order. The
+# second may be said of a whole section, before its entries.
+SECTION, ENTRY = re.compile(r"^## (.+)\n", re.M), re.compile(r"^- \*\*(.+?)\*\*((?:.*\n)(?:  .*\n)*)", re.M)
+FOUND, WHY, NOW = "*Found by:*", "*Why no contract:*", "*Now:*"
+HYPHENED = re.compile(r"[a-z0-9]+(?:-[a-z0-9]+)+")
 
 
 def text_of(path):
@@ -204,6 +209,49 @@ def count_wrong_bodies(count, page):
         count(f"{page}: {mistake}", not faults, f"not there: {', '.join(faults)}")
 
 
+# ---- what is trusted, and faults
+
+
+def is_known(span, known):
+    """Whether what a page names between backquotes is there: a part of tests/run, a wrong body, a name of the crates.
+    What is none of these by its form is not looked for.
+    """
+    if HYPHENED.fullmatch(span):
+        edits = (f"{TOP}/{folder}/{span}.edit" for folder in ("crates/*/must-fail", "tests/wrong-bodies/*"))
+        return span in PARTS or any(map(glob.glob, edits))
+    return not NAME.fullmatch(span) or span in PARTS or known.issuperset(WORD.findall(span))
+
+
+def faults_of_entry(text, section, known):
+    """What an entry of a section lacks, or names as a remedy though it isn't there."""
+    is_said_of_all = WHY in section.partition("\n- ")[0]
+    places = [text.find(word) for word in (FOUND, *[WHY] * (not is_said_of_all), NOW)]
+    missing = [span for span in SPAN.findall(text.partition(NOW)[2]) if not is_known(span, known)]
+    return missing if -1 not in places and places == sorted(places) else [f"{FOUND} {WHY} {NOW}"]
+
+
+def count_entries(count, page, known):
+    """A test for each entry: it has all that is said of a fault, in order, and what it names as its remedy is there."""
+    sections = SECTION.split(text_of(page))[2::2]
+    for section, (title, text) in ((section, it) for section in sections for it in ENTRY.findall(section)):
+        faults = faults_of_entry(" ".join(text.split()), section, known)
+        count(f"{page}: {title}", not faults, f"not there: {', '.join(faults)}")
+
+
+def count_shown(count, page, known):
+    """A test for each row of three cells, which tells what is believed: what would show it false is there."""
+    for believed, _, shown in (cells for cells in rows_of(text_of(page)) if len(cells) == 3):
+        missing = [span for span in SPAN.findall(shown) if not is_known(span, known)]
+        count(f"{page}: {believed}", not missing, f"not there: {', '.join(missing)}")
+
+
+def count_sections(count, page):
+    """A test that the first table of a page of faults has each section, and how many entries that has."""
+    first, *rest = SECTION.split(text_of(page))
+    counts = [[name, str(len(ENTRY.findall(text)))] for name, text in zip(rest[::2], rest[1::2])]
+    count(f"{page}: counts", counts == [row for row in rows_of(first)], f"the sections have {counts}")
+
+
 # ---- lines, the kit, readers, repeated rows
 
 
@@ -233,7 +281,7 @@ def count_kit(count):
     """A test that README and the programs name the logic of the kit that is here."""
     said = subprocess.run(["rt", "version"], capture_output=True, text=True).stdout
     here = LOGIC.findall(said)
-    for path in ("README.md", "crates/mud_command/src/service.rt"):
+    for path in ("README.md", "crates/mud_command/src/build.rt"):
         named = LOGIC.findall(text_of(path))
         count(f"{path}: kit", bool(here) and set(named) == set(here), f"names {named}; rt version says {said.strip()}")
 
@@ -270,3 +318,6 @@ def check_pages(count):
     known = known_names()
     for page in NAMING:
         count_names(count, f"docs/{page}.md", known)
+    count_shown(count, "docs/TRUST.md", known)
+    count_entries(count, "docs/FAULTS.md", known)
+    count_sections(count, "docs/FAULTS.md")

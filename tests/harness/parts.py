@@ -4,7 +4,9 @@
     def prepositions(count):
         count("with", found("put coin with lamp") == "with", "another word is found")
 
-A part on demand is run only where it is named. One that says which words it takes gets those after its name.
+A part on demand is run only where it is named. One that says which words it takes gets those after its name. One that
+wants a proof is about what was proved, or what a proved program costs: without names `tests/run --unproved` leaves it
+out.
 """
 import time
 from dataclasses import dataclass
@@ -27,10 +29,12 @@ class Part:
     run: Callable
     on_demand: bool
     words: str
+    wants_proof: bool
 
     def line(self):
         """How `--list` shows it."""
-        notes = ["on demand"] * self.on_demand + [f"words: {self.words}"] * bool(self.words)
+        notes = ["on demand"] * self.on_demand + ["wants a proof"] * self.wants_proof
+        notes += [f"words: {self.words}"] * bool(self.words)
         return f"{self.name:<26} {self.sentence}" + (f" ({'; '.join(notes)})" if notes else "")
 
 
@@ -51,13 +55,13 @@ class Count:
         return f"{self.passed} passed, {self.failed} failed"
 
 
-def part(name, sentence, on_demand=False, words=""):
+def part(name, sentence, on_demand=False, words="", wants_proof=False):
     """Registers a function as a part of tests/run. `words` shows the words that it takes, if it takes some."""
 
     def register(run):
         if name in PARTS:
             raise ValueError(f"two parts are named {name}")
-        PARTS[name] = Part(name, sentence, run, on_demand, words)
+        PARTS[name] = Part(name, sentence, run, on_demand, words, wants_proof)
         return run
 
     return register

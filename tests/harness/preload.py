@@ -13,7 +13,7 @@ from harness.programs import TOP
 
 # Those by which any program can be tried, call by call; and those for what only a server does.
 LIBRARIES = ("refuse", "fail_ends", "fail_threads")
-SERVER_LIBRARIES = ("fail_files", "note_syncs", "fail_accept", "ceiling")
+SERVER_LIBRARIES = ("fail_files", "note_syncs", "lose_pages", "fail_accept", "ceiling")
 COMPILERS = ("cc", "gcc", "clang")
 
 

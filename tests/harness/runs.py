@@ -68,8 +68,14 @@ def drawn():
     return Run("mud_keep", ["map", "-", proof], read(history), "map journeys")
 
 
+def saved():
+    """The longest front of a journal with a bad line."""
+    lines = history_and_proof(*LOCKED)[0].splitlines(keepends=True)
+    return Run("mud_keep", ["recover", "-", "--front"], b"".join([*lines[:4], b"no line\n", *lines[4:]]), "the front")
+
+
 def few_kept():
-    return [keep("shorten", *LOCKED), keep("show", *LOCKED), drawn()]
+    return [keep("shorten", *LOCKED), keep("show", *LOCKED), drawn(), saved()]
 
 
 def few_scripts():

@@ -137,7 +137,7 @@ class Play:
     def broken_off(self, status, printed):
         """What is wrong where the program ended with an error, as texts."""
         faults, said = [], self.server.said().decode().splitlines()
-        words = [word for word in WORDS if f"mud_serve: {word}" in said]
+        words = [word for word in WORDS if any(line.startswith(f"mud_serve: {word}") for line in said)]
         if status not in (3, 4) or len(words) != 1 or (status == 4) != (words == ["out of memory"]):
             faults.append(f"status {status}, {said[-1:]}")
         whole, _, rest = printed.rpartition(b"\n")

@@ -14,16 +14,19 @@ from harness.parts import part
 from harness.programs import program
 from harness.server import HOST, SECONDS, Client, Server
 from harness.visit import QUICK
-from harness.web_client import BINARY, CLOSE, CONTINUATION, PING, PONG, TEXT, NotLetIn, WebClient
+from harness.web_client import BINARY, CLOSE, CONTINUATION, PING, PONG, TEXT, WebClient
 from harness.web_client import answered, closing, frame, rest_of, status, upgrade
 
 HEAD_SECONDS, MOST_HEADS, PLACES = 10, 32, 64
+# How long a message of the server is at most, and how many texts of some 800 bytes make a history of two such.
+MOST_SENT, LINES = 65_536, 100
 OTHER_HOST, PROXY = "127.0.0.2", "https://mud.example.org"
 GREETING = b"Welcome. Type: connect NAME"
-PAGE = b"GET / HTTP/1.1\r\n\r\n"
+PAGE = f"GET / HTTP/1.1\r\nHost: {HOST}\r\n\r\n".encode()
 NAMED = re.compile(rb"^[\[(]\d+[\])] ")
 # What would load something from elsewhere, or make markup of a text. The name of SVG is one, and loads nothing.
-OUTSIDE = re.compile(rb"(?i)\b(?:src|href)\s*=\s*[\"']|\burl\(|@import|innerHTML|https?://(?!www\.w3\.org/2000/svg)")
+LOADS = rb"(?i)<[a-z][^>]*\s(?:src|href)\b|\b(?:src|href)\s*=\s*[\"']"
+OUTSIDE = re.compile(LOADS + rb"|\burl\(|@import|innerHTML|https?://(?!www\.w3\.org/2000/svg)")
 SAID = b"said"
 
 
@@ -37,9 +40,9 @@ def free_port():
 class WebServer(Server):
     """A server with a door on the web, at its `web_port`; the page's origin is its `origin`."""
 
-    def __init__(self, *words, port=None, **how):
+    def __init__(self, *words, port=None, origin=None, **how):
         self.web_port = port or free_port()
-        self.origin = f"http://{HOST}:{self.web_port}"
+        self.origin = origin or f"http://{HOST}:{self.web_port}"
         door = ["--web-port", str(self.web_port), "--web-origin", self.origin]
         super().__init__(program("mud_serve"), [*door, *words], **how)
         second = self.process.stdout.readline()
@@ -51,13 +54,10 @@ class WebServer(Server):
 
     def come(self, _port=None):
         """A client on the web, which comes again while the server is full. It stands for `Client` where that dials."""
-        while True:
-            try:
-                return self.dial()
-            except NotLetIn as refused:
-                if refused.status != 503:
-                    raise
-                time.sleep(QUICK)
+        while (client := self.dial()).turned_away():
+            client.close()
+            time.sleep(QUICK)
+        return client
 
     def player(self, name, **how):
         """A client on the web that has come in by this name."""
@@ -67,9 +67,14 @@ class WebServer(Server):
             pass
         return client
 
-    def ask(self, request):
+    def ask(self, request, **how):
         """All that is answered to these bytes."""
-        return answered(self.web_port, request)
+        return answered(self.web_port, request, **how)
+
+    def has_place(self):
+        """Whether one more who asks to play, and closes at once, has a place."""
+        with contextlib.closing(self.dial(first=closing(1000))) as client:
+            return client.turned_away() is None
 
 
 def plain(line):
@@ -121,6 +126,7 @@ ENDS = [
     ("a text inside fragments", [frame(TEXT, b"say two", final=False), frame(TEXT, b"say two")], 1002),
     ("a ping in fragments", [frame(PING, b"x", final=False)], 1002),
     ("a ping of 126 bytes", [frame(PING, b"x" * 126)], 1002),
+    ("a ping of 4,097 bytes", [frame(PING, b"x" * 4097)], 1009),
     ("a length that is not the shortest", [frame(TEXT, b"say two", longest=True)], 1002),
     ("a close of one byte", [frame(CLOSE, b"\x03")], 1002),
     ("a close that is not UTF-8", [closing(1000, b"\xff")], 1007),
@@ -128,6 +134,7 @@ ENDS = [
     ("a close without a code", [frame(CLOSE)], 1005),
     ("a close with a code of its own", [closing(3000)], 3000),
     ("a close with a code that is never sent", [closing(1005)], 1002),
+    ("a close with a gateway's code", [closing(1014)], 1002),
     ("a text behind a close", [closing(1000) + frame(TEXT, b"say two")], 1000),
 ]
 
@@ -178,19 +185,79 @@ def web_frames(count):
 
 # ---- what a head is answered
 
-def head(*lines):
-    return "\r\n".join(lines).encode() + b"\r\n\r\n"
+def head(first, *lines, host=f"Host: {HOST}"):
+    """The head of a request, with this field `Host`; with none where that is empty."""
+    return "\r\n".join([first, *[host] * bool(host), *lines]).encode() + b"\r\n\r\n"
 
 
 def long_head(length):
     """The head of a request for the page, of so many bytes."""
-    return b"GET / HTTP/1.1\r\nA: " + b"x" * (length - 23) + b"\r\n\r\n"
+    return PAGE[:-2] + b"A: " + b"x" * (length - len(PAGE) - 5) + b"\r\n\r\n"
+
+
+def other(request, *changes):
+    """A request with each of these texts, which stands in it once, as the other text."""
+    for old, new in changes:
+        if request.count(old) != 1:
+            raise ValueError(f"not once in the request: {old}")
+        request = request.replace(old, new)
+    return request
+
+
+# What of an upgrade may be written otherwise. Each try: its name, and the changes.
+CONNECTION, UPGRADE = b"Connection: keep-alive, Upgrade", b"Upgrade: websocket"
+LET_IN = [
+    ("a list with tabs", [(CONNECTION, b"Connection:\tkeep-alive\t,\tUpgrade\t")]),
+    ("a list without spaces", [(CONNECTION, b"Connection: keep-alive,Upgrade")]),
+    ("empty members", [(CONNECTION, b"Connection: , ,Upgrade,")]),
+    ("two fields Connection", [(CONNECTION, b"Connection: keep-alive\r\nconnection: upgrade")]),
+    ("Upgrade first", [(CONNECTION, b"Connection: Upgrade, keep-alive")]),
+    ("other protocols", [(UPGRADE, b"Upgrade: h2c, WebSocket, foo/1.1")]),
+    ("two fields Upgrade", [(UPGRADE, b"Upgrade: h2c\r\nUPGRADE: websocket")]),
+    ("names in capitals", [(b"Sec-WebSocket-Key", b"SEC-WEBSOCKET-KEY"), (b"Host", b"HOST")]),
+    ("a host without a port", [(b"Host: " + HOST.encode(), b"Host: mud.example.org")]),
+    ("a host with a port", [(b"Host: " + HOST.encode(), b"Host: mud.example.org:8000")]),
+    ("an address in brackets", [(b"Host: " + HOST.encode(), b"Host: [::1]:8000")]),
+    ("the absolute form", [(b"GET /play ", b"GET http://localhost:8000/play ")]),
+    ("the absolute form of https", [(b"GET /play ", b"GET HTTPS://mud.example.org/play ")]),
+    ("line ends in front", [(b"GET ", b"\r\n\r\nGET ")]),
+]
+NOT_LET_IN = [
+    ("a list without a comma", [(CONNECTION, b"Connection: keep-alive Upgrade")], 400),
+    ("no Connection", [(CONNECTION + b"\r\n", b"")], 400),
+    ("another Connection", [(CONNECTION, b"Connection: keep-alive, Upgrades")], 400),
+    ("another protocol", [(UPGRADE, b"Upgrade: h2c")], 400),
+    ("a protocol with a version", [(UPGRADE, b"Upgrade: websocket/13")], 400),
+    ("no Host", [(b"Host: " + HOST.encode() + b"\r\n", b"")], 400),
+    ("an empty Host", [(b"Host: " + HOST.encode(), b"Host:")], 400),
+    ("two fields Host", [(b"Host: ", b"Host: a\r\nHost: ")], 400),
+    ("the Host twice", [(b"Host: " + HOST.encode(), f"Host: {HOST}\r\nHost: {HOST}".encode())], 400),
+    ("a space in Host", [(b"Host: ", b"Host: loc alhost ")], 400),
+    ("a user in Host", [(b"Host: ", b"Host: a@")], 400),
+    ("a path in Host", [(b"Host: " + HOST.encode(), b"Host: a/b")], 400),
+    ("a port of letters", [(b"Host: " + HOST.encode(), b"Host: a:x")], 400),
+    ("a bracket that stays open", [(b"Host: " + HOST.encode(), b"Host: [::1")], 400),
+    ("no version", [(b"Sec-WebSocket-Version: 13\r\n", b"")], 426),
+    ("the version 8", [(b"Version: 13", b"Version: 8")], 426),
+    ("the version twice", [(b"Version: 13", b"Version: 13\r\nSec-WebSocket-Version: 13")], 426),
+    ("two versions", [(b"Version: 13", b"Version: 13\r\nSec-WebSocket-Version: 8")], 426),
+    ("a list of versions", [(b"Version: 13", b"Version: 13, 8")], 426),
+    ("a fraction of a version", [(b"Version: 13", b"Version: 13.0")], 426),
+    ("the absolute form of nothing", [(b"GET /play ", b"GET http:///play ")], 404),
+    ("the absolute form of ftp", [(b"GET /play ", b"GET ftp://localhost/play ")], 404),
+    ("a query", [(b"GET /play ", b"GET /play?x ")], 404),
+    ("HEAD to play", [(b"GET /play ", b"HEAD /play ")], 400),
+]
+# Of the note in RFC 6455, section 4.1: its last symbol has bits beyond the 16 bytes.
+NOTE_KEY = b"AQIDBAUGBwgJCgsMDQ4PEC=="
 
 
 def refusals(origin):
     """Each try: its name, what is sent, and the status."""
     own = f"Origin: {origin}\r\n".encode()
-    old = upgrade(origin, key=b"A" * 22 + b"==").replace(b"HTTP/1.1", b"HTTP/1.0")
+    key = b"A" * 22 + b"=="
+    old = upgrade(origin, key=key).replace(b"HTTP/1.1", b"HTTP/1.0")
+    again = b"Sec-WebSocket-Key: " + key + b"\r\n"
     return [
         ("no Origin", upgrade(None), 403),
         ("another Origin", upgrade("http://evil.example"), 403),
@@ -201,21 +268,55 @@ def refusals(origin):
         ("another Origin first", upgrade("http://evil.example", extra=own), 403),
         ("a key that is too short", upgrade(origin, key=b"AAAA"), 400),
         ("a key that is no base64", upgrade(origin, key=b"!" * 22 + b"=="), 400),
-        ("another version", upgrade(origin).replace(b"Version: 13", b"Version: 8"), 400),
-        ("no upgrade", head("GET /play HTTP/1.1", f"Origin: {origin}"), 400),
+        ("a key of 17 bytes", upgrade(origin, key=b"A" * 23 + b"="), 400),
+        ("two keys", upgrade(origin, extra=again), 400),
+        ("a key twice", upgrade(origin, key=key, extra=again), 400),
+        ("no key", other(upgrade(origin, key=key), (again, b"")), 400),
+        ("no upgrade", head("GET /play HTTP/1.1", f"Origin: {origin}"), 426),
+        ("no upgrade but the version",
+         head("GET /play HTTP/1.1", f"Origin: {origin}", "Sec-WebSocket-Version: 13"), 400),
         ("HTTP/1.0", old, 400),
+        ("HTTP/1.0 for the page", head("GET / HTTP/1.0"), 200),
+        ("HTTP/1.0 without a host", head("GET / HTTP/1.0", host=""), 200),
+        ("the page without a host", head("GET / HTTP/1.1", host=""), 400),
+        ("POST without a host", head("POST / HTTP/1.1", host=""), 400),
         ("an unknown path", upgrade(origin, path="/x"), 404),
         ("a path behind the page's", head("GET /index.html HTTP/1.1"), 404),
+        ("the page's absolute form", head("GET http://localhost:8000/ HTTP/1.1"), 200),
+        ("an absolute form without a path", head("GET http://localhost:8000 HTTP/1.1"), 200),
         ("POST", head("POST / HTTP/1.1"), 405),
-        ("HEAD", head("HEAD / HTTP/1.1"), 405),
+        ("a method that has HEAD in front", head("HEADER / HTTP/1.1"), 405),
+        ("OPTIONS of all", head("OPTIONS * HTTP/1.1"), 405),
+        ("HEAD", head("HEAD / HTTP/1.1"), 200),
+        ("HEAD of an unknown path", head("HEAD /x HTTP/1.1"), 404),
         ("no request", b"\x16\x03\x01\x02\x00\x01\x00\x01\xfc\r\n\r\n", 400),
         ("a head of 8,192 bytes", long_head(8192), 200),
         ("a head of 8,193 bytes", long_head(8193), 431),
         ("9 KB, and no end", long_head(9000)[:-4], 431),
-        ("65 fields", head("GET / HTTP/1.1", *["A: b"] * 65), 431),
-        ("64 fields", head("GET / HTTP/1.1", *["A: b"] * 64), 200),
-        ("LF alone", b"GET / HTTP/1.1\n\n", 200),
+        ("65 fields", head("GET / HTTP/1.1", *["A: b"] * 64), 431),
+        ("64 fields", head("GET / HTTP/1.1", *["A: b"] * 63), 200),
+        ("LF alone", PAGE.replace(b"\r\n", b"\n"), 200),
+        *[(name, other(upgrade(origin), *changes), wanted) for name, changes, wanted in NOT_LET_IN],
+        *[(name, other(upgrade(origin), *changes), 101) for name, changes in LET_IN],
+        ("the key of the note", upgrade(origin, key=NOTE_KEY), 101),
     ]
+
+
+def wrong_fields(server):
+    """Which answers lack a field that a standard asks for, or have a body where none may be."""
+    tries = [("the page", PAGE), ("404", head("GET /x HTTP/1.1")), ("400", head("GET / HTTP/1.1", host=""))]
+    tries += [("426", head("GET /play HTTP/1.1", f"Origin: {server.origin}")), ("431", long_head(9000))]
+    faults = []
+    for name, request in tries:
+        top, _, body = server.ask(request.replace(b"GET", b"HEAD", 1)).partition(b"\r\n\r\n")
+        if body or top != server.ask(request).partition(b"\r\n\r\n")[0]:
+            faults.append(f"HEAD of {name}: {top[:40]} {body[:40]}")
+    top = server.ask(other(upgrade(server.origin), (b"Version: 13", b"Version: 8"))).partition(b"\r\n\r\n")[0]
+    for field in (b"Sec-WebSocket-Version: 13", b"Upgrade: websocket", b"Connection: close, Upgrade"):
+        faults += [f"426 without {field}"] * (field not in top.split(b"\r\n"))
+    foreign = server.ask(upgrade("http://evil.example"))
+    faults += ["403 without the origin"] * (not foreign.endswith(f" is played at {server.origin}\r\n".encode()))
+    return faults
 
 
 def hashed(text):
@@ -262,38 +363,37 @@ def in_pieces(server, request):
 def web_heads(count):
     with WebServer() as server:
         for name, request, wanted in refusals(server.origin):
-            given = status(server.ask(request))
+            given = status(server.ask(request + closing(1000)))  # So that who is let in is not waited for.
             count(name, given == wanted, f"{given}")
-        page = server.ask(head("GET / HTTP/1.1", f"Host: {HOST}"))
+        page = server.ask(PAGE)
         count("the page", status(page) == 200 and not why_no_page(page), why_no_page(page))
         count("the page in pieces", in_pieces(server, PAGE) == page)
         count("one answer a connection", server.ask(PAGE * 2) == page)
-        count("405 names GET", b"\r\nAllow: GET\r\n" in server.ask(head("POST / HTTP/1.1")))
+        count("405 names GET and HEAD", b"\r\nAllow: GET, HEAD\r\n" in server.ask(head("POST / HTTP/1.1")))
+        faults = wrong_fields(server)
+        count("bodies and fields", not faults, "; ".join(faults))
         given, seconds = timed_out(server)
         is_timely = HEAD_SECONDS - 1 < seconds < HEAD_SECONDS + 3
         count("a slow head", given == 408 and is_timely, f"{given} after {seconds:.1f} s")
     why = why_not_bounded()
-    count("no more than 32 heads at once", not why, why)
+    count("one more than 32 heads at once", not why, why)
 
 
 def why_not_bounded():
-    """What went otherwise where 32 heads are begun, one more gets no answer, and an answer once those are gone; nothing
-    where it is so.
-
-    The server gives chairs to browsers in the order in which they come, and who has read his answer may keep his for a
-    moment (docs/SERVER.md). So nobody was heard at this server before; and once the one more has got its end, each of
-    the 32 has a chair, or has got something, too.
+    """What went otherwise where 32 heads are begun and one more comes; nothing where he is answered, and one of the 32
+    was sent away for him, the one that had waited longest.
     """
     with WebServer() as server:
-        heads = [socket.create_connection((HOST, server.web_port)) for _ in range(MOST_HEADS)]
-        for one in heads:
-            one.sendall(b"G")
+        heads = []
+        for _ in range(MOST_HEADS):
+            heads.append(socket.create_connection((HOST, server.web_port)))
+            heads[-1].sendall(b"G")
+            time.sleep(QUICK)
         beyond = server.ask(PAGE)
-        unheard, _, _ = select.select(heads, [], [], 0)
+        sent_away, _, _ = select.select(heads, [], [], QUICK)
+        given = status(beyond), [heads.index(one) for one in sent_away]
         close_all(heads)
-        is_heard_later = is_soon(lambda: status(server.ask(PAGE)) == 200, SECONDS)
-    given = beyond[:40], len(unheard), is_heard_later
-    return "" if given == (b"", 0, True) else f"{given}"
+    return "" if given == (200, [0]) else f"{given}"
 
 
 def close_all(some):
@@ -336,26 +436,33 @@ def why_not_full():
     """What went otherwise where all places are taken; nothing where one more is told, and can come in later."""
     with WebServer() as server:
         taken = [server.player(b"P%d" % number, seconds=30) for number in range(PLACES)]
-        beyond = server.ask(upgrade(server.origin))
+        beyond = server.dial()
+        told = beyond.rest(), beyond.closed, beyond.reason
+        beyond.close()
         taken.pop().close()
-        is_free = is_soon(lambda: status(server.ask(upgrade(server.origin) + closing(1000))) == 101, SECONDS)
-        given = status(beyond), beyond.endswith(b"(server full)\r\n"), is_free
+        is_free = is_soon(server.has_place, SECONDS)
         close_all(taken)
-    return "" if given == (503, True, True) else f"{given}"
+    given = told, is_free
+    return "" if given == (([], 1013, b"server full"), True) else f"{given}"
 
 
 def why_not_one_message_each():
-    """What went otherwise where each answer is to leave as one message, however long; nothing where it does."""
+    """What went otherwise where an answer is to leave as one message, and one of more than 65,536 bytes as several of
+    at most so many; nothing where it does.
+    """
     with WebServer() as server:
         ann = server.player(b"Ann")
-        for number in range(200):
-            ann.send(b"@dig n%d to Room %d" % (number, number))
+        for number in range(LINES):
+            ann.send(b"say %d" % number + b"x" * 800)
             ann.line()
         before = ann.messages
+        ann.send(b"inventory nothing")
+        answer = ann.line(), ann.messages - before
+        before = ann.messages
         ann.send(b"@history")
-        lines = [ann.line() for _ in range(1 + 1 + 201 + 1)]
-        given = ann.messages - before, plain(lines[0]), lines[-1]
-    return "" if given == (1, b"history", b"end 201") else f"{given}"
+        lines = [ann.line() for _ in range(1 + 1 + 1 + LINES + 1)]
+        given = answer[1], ann.messages - before, plain(lines[0]), lines[-1], ann.longest <= MOST_SENT
+    return "" if given == (1, 2, b"history", b"end %d" % (1 + LINES), True) else f"{given}"
 
 
 def why_not_behind_a_proxy():

@@ -11,6 +11,7 @@ from harness.server import HOST, SECONDS, received
 
 GUID = b"258EAFA5-E914-47DA-95CA-C5AB0DC85B11"
 CONTINUATION, TEXT, BINARY, CLOSE, PING, PONG = 0, 1, 2, 8, 9, 10
+TRY_AGAIN = 1013  # The code of a close for want of a place.
 SHORT, LONG = 126, 65_536  # From so many bytes on a length takes two bytes more, or eight.
 
 
@@ -83,13 +84,14 @@ def status(answer):
 
 class WebClient:
     """A web socket to a server that let it in: lines are sent and read as those of `server.Client` are. The frames that
-    are no text are kept in `others`, as opcodes with payloads, and the code of the server's close in `closed`.
+    are no text are kept in `others`, as opcodes with payloads, the code and the reason of the server's close in
+    `closed` and `reason`. How many `messages` came is counted, and how long the `longest` was.
     """
 
     def __init__(self, port, origin, seconds=SECONDS, first=b""):
-        self.socket = socket.create_connection((HOST, port), timeout=seconds)
+        self.socket = self.connection(port, seconds)
         self.frames = self.kept = b""
-        self.others, self.closed, self.messages = [], None, 0
+        self.others, self.closed, self.reason, self.messages, self.longest = [], None, None, 0, 0
         key = base64.b64encode(os.urandom(16))
         self.give(upgrade(origin, key=key) + first)
         while b"\r\n\r\n" not in self.frames:
@@ -103,6 +105,10 @@ class WebClient:
         if b"sec-websocket-accept: " + accept.lower() not in lines or accept not in head:
             raise Broken(f"not let in rightly: {head}")
         self.read_frames()
+
+    def connection(self, port, seconds):
+        """What carries the web socket."""
+        return socket.create_connection((HOST, port), timeout=seconds)
 
     def give(self, some):
         """Sends these bytes as they are."""
@@ -160,10 +166,18 @@ class WebClient:
             payload.decode()
             self.kept += payload
             self.messages += 1
+            self.longest = max(self.longest, len(payload))
             return
         self.others.append((first & 0x0F, payload))
         if first & 0x0F == CLOSE:
             self.closed = struct.unpack(">H", payload[:2])[0] if payload else 1005
+            self.reason = payload[2:]
+
+    def turned_away(self):
+        """The reason for which there is no place; None where it is greeted."""
+        while not self.messages and self.closed is None and self.more():
+            pass
+        return self.reason if self.closed == TRY_AGAIN else None
 
     def line(self):
         """The next whole line; None at the end, and what is `kept` is then a front of a line, or nothing."""

@@ -2,20 +2,26 @@
 often, breaks the frames, or begins a request and does not end it.
 """
 import contextlib
+import select
 import socket
 import time
+from concurrent.futures import ThreadPoolExecutor
 
-from harness.guests import NOTICED, SOON, is_refused, is_soon, parting
+from harness.guests import NOTICED, OTHER_HOST, SOON, is_refused, is_soon, parting
 from harness.parts import part
 from harness.server import HOST, Client
 from harness.visit import QUICK
 from harness.web import PAGE, WebServer
-from harness.web_client import BINARY, PING, TEXT, NotLetIn, closing, frame, upgrade
+from harness.web_client import BINARY, PING, TEXT, closing, frame, upgrade
 
 # How long a server may take to end that is stopped while requests are begun.
 STOPPED = 4
-# How the answer begins that lets a browser in.
-LET_IN = b"HTTP/1.1 101"
+# How a text message begins.
+TEXT_BEGINS = b"\x81"
+# How many browsers are heard at once, how many of one address at least, and how many come again and again.
+CHAIRS, FEW_CHAIRS, DIALLERS = 32, 6, 48
+# How many talk without a pause.
+TALKERS = 12
 # How often browsers of one address come at once, and how many.
 TIMES, AT_ONCE = 12, 24
 
@@ -72,28 +78,146 @@ def why_per_address():
     with WebServer("--per-address", "2") as server:
         by_telnet, on_web = Client(server.port), server.player(b"Ann")
         by_telnet.line()
-        answer = server.ask(upgrade(server.origin))
+        refused = server.dial()
+        told = refused.rest(), refused.closed, refused.reason
         on_web.close()
-        is_free = is_soon(lambda: b" 101 " in server.ask(upgrade(server.origin) + closing(1000)))
-        given = answer.split(b"\r\n")[0], answer.endswith(b"(too many sessions)\r\n"), is_free
-        return "" if given == (b"HTTP/1.1 429 Too Many Requests", True, True) else f"{given}"
+        given = told, is_soon(server.has_place)
+        return "" if given == (([], 1013, b"too many sessions"), True) else f"{given}"
+
+
+def is_greeted(dialled):
+    """Whether the session of one who was let in began: a text comes, and no close."""
+    got = b""
+    with contextlib.suppress(ConnectionError):
+        while len(got.partition(b"\r\n\r\n")[2]) < 2 and (piece := dialled.recv(1024)):
+            got += piece
+    return got.partition(b"\r\n\r\n")[2][:1] == TEXT_BEGINS
 
 
 def why_address_at_once():
-    """Of browsers of one address that end their heads at once never too many are let in."""
+    """Of browsers of one address that end their heads at once never too many play."""
     with WebServer("--per-address", "1") as server, contextlib.ExitStack() as stack:
         for _ in range(TIMES):
             heads = [upgrade(server.origin) for _ in range(AT_ONCE)]
             dialled = [stack.enter_context(socket.create_connection((HOST, server.web_port), SOON)) for _ in heads]
             for begin, end in [(0, -1), (-1, None)]:
                 for one, head in zip(dialled, heads):
-                    one.sendall(head[begin:end])
-            let_in = sum(one.recv(len(LET_IN)) == LET_IN for one in dialled)
-            if let_in > 1:
-                return f"{let_in} are let in"
+                    with contextlib.suppress(ConnectionError):
+                        one.sendall(head[begin:end])
+            playing = sum(map(is_greeted, dialled))
+            if playing > 1:
+                return f"{playing} play"
             stack.close()
-            is_soon(lambda: LET_IN in server.ask(upgrade(server.origin) + closing(1000)))
+            is_soon(server.has_place)
         return ""
+
+
+def why_idle_place():
+    """Who was closed for `--idle` has no place any more, also while he does not end his connection."""
+    with WebServer("--idle", "1", "--per-address", "1") as server:
+        silent = server.player(b"Ann")
+        while silent.closed is None and silent.more():
+            pass
+        began = time.monotonic()
+        has_place = server.has_place()
+        given = silent.closed, has_place
+        took = time.monotonic() - began
+        return "" if given == (1000, True) and took < 1 else f"{given} after {took} s"
+
+
+def silent_heads(server, number):
+    """So many begin a head, and say no more."""
+    heads = [socket.create_connection((HOST, server.web_port), timeout=10) for _ in range(number)]
+    for one in heads:
+        one.sendall(b"GET / HTTP/1.1\r\nX: ")
+    return heads
+
+
+def seconds_for_page(server, host=OTHER_HOST):
+    """How long somebody of another address waits for the page; None where he does not get it."""
+    began = time.monotonic()
+    with contextlib.suppress(OSError), socket.create_connection((HOST, server.web_port), 5, (host, 0)) as one:
+        one.sendall(PAGE)
+        if one.recv(12) == b"HTTP/1.1 200":
+            return time.monotonic() - began
+    return None
+
+
+def why_silent_heads():
+    """Heads of one address that are begun and not ended keep the page from nobody else."""
+    with WebServer() as server:
+        heads = silent_heads(server, CHAIRS + 8)
+        took = [seconds_for_page(server) for _ in range(3)]
+        for one in heads:
+            one.close()
+        return "" if None not in took and max(took) < 1 else f"{took}"
+
+
+def dial_again(server, until):
+    """Begins a head, again and again, as soon as the last is over."""
+    while time.monotonic() < until:
+        with contextlib.suppress(OSError), socket.create_connection((HOST, server.web_port), timeout=5) as one:
+            one.sendall(b"GET / HTTP/1.1\r\nX: ")
+            one.recv(1)
+
+
+def why_dialled_again():
+    """Forty-eight of one address that come again and again keep the page from nobody else for a second."""
+    with WebServer() as server, ThreadPoolExecutor(DIALLERS) as threads:
+        until = time.monotonic() + 3
+        for _ in range(DIALLERS):
+            threads.submit(dial_again, server, until)
+        served = [time.monotonic()]
+        while time.monotonic() < until - 0.5:
+            if seconds_for_page(server) is not None:
+                served.append(time.monotonic())
+            time.sleep(0.1)
+        server.kill()
+        longest = max((after - before for before, after in zip(served, served[1:])), default=None)
+        return "" if len(served) > 5 and longest < 1 else f"{len(served) - 1} pages, {longest} s"
+
+
+def why_chairs_of_an_address():
+    """With `--per-address 1` an address has six chairs: of more heads those that have waited longest are sent away."""
+    with WebServer("--per-address", "1") as server:
+        heads = []
+        for _ in range(FEW_CHAIRS + 2):
+            heads += silent_heads(server, 1)
+            time.sleep(QUICK)
+        took = seconds_for_page(server)
+        sent_away, _, _ = select.select(heads, [], [], QUICK)
+        given = [heads.index(one) for one in sent_away], took is not None
+        for one in heads:
+            one.close()
+        return "" if given == ([0, 1], True) else f"{given}"
+
+
+def why_talk_at_stop():
+    """Who talks without a pause is told of a stop as anybody is."""
+    with WebServer(console=True) as server, ThreadPoolExecutor(TALKERS) as threads:
+        players = [server.player(b"P%d" % number) for number in range(TALKERS)]
+        talking = [threads.submit(talk, one) for one in players]
+        time.sleep(0.5)
+        server.type(b"stop\n")
+        told = [one.result() for one in talking]
+        status, _ = server.end()
+        untold = [one for one in told if one != (True, 1001)]
+        return "" if (untold, status) == ([], 0) else f"{untold}, {status}"
+
+
+def talk(player):
+    """Says something over and over, and reads what comes; whether the last that came is the stop, and the close."""
+    player.socket.settimeout(0.001)
+    came = unsent = b""
+    while player.closed is None:
+        unsent = unsent or frame(TEXT, b"say hello") * 20
+        with contextlib.suppress(TimeoutError, ConnectionError):
+            unsent = unsent[player.socket.send(unsent):]
+        with contextlib.suppress(TimeoutError):
+            if not player.more():
+                break
+        came, player.kept = (came + player.kept)[-100:], b""
+    return came.endswith(b"(server stops)\r\n"), player.closed
 
 
 def why_total():
@@ -112,22 +236,21 @@ def why_total_at_once():
     with WebServer("--total", "3") as server:
         asked = [socket.create_connection((HOST, server.web_port), timeout=10) for _ in range(20)]
         for one in asked:
-            one.sendall(upgrade(server.origin))
-        statuses = []
+            with contextlib.suppress(ConnectionError):  # the listener may be closed by now
+                one.sendall(upgrade(server.origin))
+        begun = 0
         for one in asked:
-            with contextlib.suppress(ConnectionError):
-                statuses.append(one.recv(12))
+            begun += is_greeted(one)
             one.close()
         status, _ = server.end()
-        given = statuses.count(b"HTTP/1.1 101"), status
-        return "" if given == (3, 0) else f"{given}, {statuses}"
+        return "" if (begun, status) == (3, 0) else f"{begun}, {status}"
 
 
 def why_counted():
     """Who looks at the page, is refused or leaves unnamed does not count with `--count-players`."""
     with WebServer("--total", "1", "--count-players") as server:
         for _ in range(5):
-            server.ask(b"GET / HTTP/1.1\r\n\r\n")
+            server.ask(PAGE)
             server.ask(upgrade("http://evil.example"))
             server.dial().close()
         goes_on = not is_refused(server.web_port)
@@ -190,18 +313,8 @@ def why_many_at_once():
             while (line := one.line()) is not None and b"all of you" not in line:
                 pass
             heard += line is not None
-        given = heard, refused(server)
-        return "" if given == (63, 503) else f"{given}"
-
-
-def refused(server):
-    """The status that one more gets."""
-    try:
-        server.dial().close()
-    except NotLetIn as told:
-        return told.status
-    time.sleep(QUICK)
-    return 101
+        given = heard, server.dial().turned_away()
+        return "" if given == (63, b"server full") else f"{given}"
 
 
 @part("web-guests", "guests on the web who would hold up a server hold nobody")
@@ -218,7 +331,12 @@ def web_guests(count):
         ("many come at the total's end", why_total_at_once),
         ("those who leave unnamed don't count", why_counted),
         ("the log names what ended a session", why_partings),
+        ("one was closed for a limit and stays", why_idle_place),
+        ("heads of one address are begun", why_silent_heads),
+        ("heads of one address are begun again and again", why_dialled_again),
+        ("an address has as many chairs as it may", why_chairs_of_an_address),
         ("requests are begun at a stop", why_slow_at_stop),
+        ("all talk at a stop", why_talk_at_stop),
         ("sixty-four play at once", why_many_at_once),
     ]:
         why = tried()

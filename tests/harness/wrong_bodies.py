@@ -143,7 +143,7 @@ def count_refusals(count, chosen):
         count(f"as it stands: {chosen[0].function}", right.result().is_proved(), right.result().shown())
 
 
-@part("wrong-bodies", "the prover refuses each wrong body of tests/wrong-bodies that is tried in the gate")
+@part("wrong-bodies", "the prover refuses each wrong body that is tried in the gate", wants_proof=True)
 def wrong_bodies(count):
     try:
         count_refusals(count, in_gate())

@@ -1,5 +1,5 @@
-// Fails calls by which the program that it is preloaded into has files: `open`, `flock`, `ftruncate`, `fsync`,
-// `fdatasync`, and `write` to a file (counted.h). The kind of such a call is its name.
+// Fails calls by which the program that it is preloaded into has files: `open`, `flock`, `fchmod`, `unlink`, `rename`,
+// `fsync`, `fdatasync`, and `write` to a file (counted.h). The kind of such a call is its name.
 
 #define _GNU_SOURCE
 #include <dlfcn.h>
@@ -41,9 +41,19 @@ int flock(int file, int how) {
     return is_failed("flock", EIO) ? -1 : call(file, how);
 }
 
-int ftruncate(int file, off_t length) {
-    int (*call)(int, off_t) = (int (*)(int, off_t))dlsym(RTLD_NEXT, "ftruncate");
-    return is_failed("ftruncate", EIO) ? -1 : call(file, length);
+int fchmod(int file, mode_t mode) {
+    int (*call)(int, mode_t) = (int (*)(int, mode_t))dlsym(RTLD_NEXT, "fchmod");
+    return is_failed("fchmod", EIO) ? -1 : call(file, mode);
+}
+
+int unlink(const char *path) {
+    int (*call)(const char *) = (int (*)(const char *))dlsym(RTLD_NEXT, "unlink");
+    return is_failed("unlink", EIO) ? -1 : call(path);
+}
+
+int rename(const char *from, const char *to) {
+    int (*call)(const char *, const char *) = (int (*)(const char *, const char *))dlsym(RTLD_NEXT, "rename");
+    return is_failed("rename", EIO) ? -1 : call(from, to);
 }
 
 int fsync(int file) {

@@ -1,0 +1,197 @@
+"""What docs/HOSTING.md gives a host to copy: a unit for systemd, and proxies with TLS before the door on the web."""
+import contextlib
+import os
+import re
+import shutil
+import socket
+import ssl
+import subprocess
+import tempfile
+import time
+
+from harness.inputs import read
+from harness.parts import Skipped, part
+from harness.programs import TOP
+from harness.server import HOST, SECONDS
+from harness.web import WebServer, free_port
+from harness.web_client import NotLetIn, WebClient
+
+NAME = "mud.example.org"
+ORIGIN = f"https://{NAME}"
+UNIT = f"{TOP}/examples/mud_serve.service"
+# What systemd-analyze says of a unit: up to 10, where 10 has no protection at all.
+EXPOSURE, MOST_EXPOSURE = re.compile(r"exposure level for \S+: ([\d.]+)"), 2
+MOST_SESSIONS = 4
+# How nginx is run on its own by whoever tries it, in a folder.
+NGINX = """daemon off;
+pid FOLDER/pid;
+error_log FOLDER/error.log;
+events {}
+http {
+    access_log off;
+    client_body_temp_path FOLDER/body;
+    proxy_temp_path FOLDER/proxy;
+    fastcgi_temp_path FOLDER/fastcgi;
+    uwsgi_temp_path FOLDER/uwsgi;
+    scgi_temp_path FOLDER/scgi;
+RECIPE
+}
+"""
+LIFETIMES = {"nginx": ("proxy_read_timeout 1d;", "proxy_send_timeout 1d;"), "haproxy": ("timeout tunnel 1d",)}
+
+
+def wanted(*programs):
+    """Skips the part where one of these is not installed. Debian has nginx and haproxy in /usr/sbin."""
+    os.environ["PATH"] += ":/usr/sbin"
+    for name in programs:
+        if not shutil.which(name):
+            raise Skipped(f"there is no {name}")
+
+
+def recipe(kind):
+    """The recipe of this kind in the page."""
+    page = read(f"{TOP}/docs/HOSTING.md").decode()
+    return re.search(rf"^```{kind}\n(.*?)^```$", page, re.M | re.S)[1]
+
+
+@part("unit", "the unit for systemd is understood, and leaves a server few rights", on_demand=True)
+def unit(count):
+    wanted("systemd-analyze")
+    how = {"capture_output": True, "text": True, "check": False}
+    verified = subprocess.run(["systemd-analyze", "verify", UNIT], **how)
+    said = verified.stdout + verified.stderr
+    count("unit: understood", (verified.returncode, said) == (0, ""), said)
+    judged = subprocess.run(["systemd-analyze", "security", "--offline=true", UNIT], **how)
+    found = EXPOSURE.search(judged.stdout)
+    count("unit: exposure", found and float(found[1]) <= MOST_EXPOSURE, found and found[0])
+
+
+def make_certificate(folder):
+    """A certificate of the proxy's name, signed by itself, and its key; and both in one file."""
+    words = ["openssl", "req", "-x509", "-newkey", "rsa:2048", "-nodes", "-days", "2", "-subj", f"/CN={NAME}"]
+    words += ["-addext", f"subjectAltName=DNS:{NAME}", "-keyout", f"{folder}/key.pem", "-out", f"{folder}/chain.pem"]
+    subprocess.run(words, check=True, capture_output=True)
+    with open(f"{folder}/both.pem", "wb") as both:
+        both.write(read(f"{folder}/chain.pem") + read(f"{folder}/key.pem"))
+
+
+class Proxy:
+    """A proxy that the page's recipe makes in front of a server, with other ports and files, below a folder."""
+
+    def __init__(self, kind, server, folder):
+        self.kind, self.folder, self.plain, self.secure = kind, folder, free_port(), free_port()
+        text = recipe(kind)
+        for old, new in {
+            **{f"listen {port}": f"listen {HOST}:{ours}" for port, ours in ((80, self.plain), (443, self.secure))},
+            **{f"bind :{port}": f"bind {HOST}:{ours}" for port, ours in ((80, self.plain), (443, self.secure))},
+            f"/etc/letsencrypt/live/{NAME}/fullchain.pem": f"{folder}/chain.pem",
+            f"/etc/letsencrypt/live/{NAME}/privkey.pem": f"{folder}/key.pem",
+            f"/etc/haproxy/certs/{NAME}.pem": f"{folder}/both.pem",
+            "127.0.0.1:8000": f"{HOST}:{server.web_port}",
+        }.items():
+            text = text.replace(old, new)
+        if kind == "nginx":
+            text = NGINX.replace("FOLDER", folder).replace("RECIPE", text)
+        self.file = f"{folder}/{kind}"
+        with open(self.file, "w") as file:
+            file.write(text)
+
+    def words(self):
+        """The command that runs it."""
+        own = ["-p", self.folder, "-c", self.file, "-e", f"{self.folder}/error.log"]
+        return ["nginx", *own] if self.kind == "nginx" else ["haproxy", "-db", "-f", self.file]
+
+    def faults(self):
+        """What it says of its file before it runs; nothing where that is well."""
+        check = "-t" if self.kind == "nginx" else "-c"
+        ran = subprocess.run([*self.words(), check], capture_output=True, text=True, check=False)
+        said = ran.stdout + ran.stderr
+        is_bad = ran.returncode or "[warn" in said.lower() or "[emerg" in said.lower()
+        return said if is_bad else ""
+
+    @contextlib.contextmanager
+    def running(self):
+        """Runs it, once its two ports answer."""
+        process = subprocess.Popen(self.words(), stdout=subprocess.DEVNULL, stderr=subprocess.DEVNULL)
+        try:
+            for port in (self.plain, self.secure):
+                wait_for(port)
+            yield
+        finally:
+            process.terminate()
+            process.wait()
+
+    def dial(self, origin):
+        """A web socket through it."""
+        return SecureClient(self.secure, origin, f"{self.folder}/chain.pem")
+
+
+def wait_for(port):
+    """Waits until somebody listens there."""
+    began = time.monotonic()
+    while time.monotonic() - began < SECONDS:
+        with contextlib.suppress(OSError), socket.create_connection((HOST, port), timeout=SECONDS):
+            return
+        time.sleep(0.05)
+    raise TimeoutError(f"nobody listens on {port}")
+
+
+class SecureClient(WebClient):
+    """A web socket over TLS, to whom this certificate shows to be the proxy."""
+
+    def __init__(self, port, origin, certificate):
+        self.context = ssl.create_default_context(cafile=certificate)
+        super().__init__(port, origin)
+
+    def connection(self, port, seconds):
+        return self.context.wrap_socket(super().connection(port, seconds), server_hostname=NAME)
+
+
+def refused(proxy, origin):
+    """With which status a web socket is refused; None where it is let in."""
+    try:
+        proxy.dial(origin).close()
+        return None
+    except NotLetIn as refusal:
+        return refusal.status
+
+
+def redirected(proxy):
+    """Where who comes without TLS is sent."""
+    with socket.create_connection((HOST, proxy.plain), timeout=SECONDS) as plain:
+        plain.sendall(f"GET /?a=b HTTP/1.1\r\nHost: {NAME}\r\nConnection: close\r\n\r\n".encode())
+        answer = plain.recv(65_536)
+    found = re.search(rb"(?i)\r\nlocation: ([^\r]*)", answer)
+    return answer.split(b" ")[1], found and found[1].decode()
+
+
+def play_through(count, kind, proxy):
+    """One plays, a page of elsewhere is refused, and so is one session more than an address may have."""
+    player = proxy.dial(ORIGIN)
+    said = [player.line()]
+    for line in (b"connect Ann", b"say Hello"):
+        player.send(line)
+        said.append(player.line())
+    count(f"{kind}: plays", said == [b"Welcome. Type: connect NAME", b"[1] welcome #2", b"[2] said"], said)
+    count(f"{kind}: a foreign page", refused(proxy, "https://elsewhere.example.org") == 403)
+    others = [proxy.dial(ORIGIN) for _ in range(MOST_SESSIONS - 1)]
+    found = refused(proxy, ORIGIN)
+    count(f"{kind}: one session more", found == 429, found)
+    for client in (player, *others):
+        client.close()
+    count(f"{kind}: from port 80", redirected(proxy) == (b"301", f"{ORIGIN}/?a=b"), redirected(proxy))
+
+
+@part("proxies", "nginx and haproxy start by the recipes of docs/HOSTING.md, and players come through", on_demand=True)
+def proxies(count):
+    wanted("nginx", "haproxy", "openssl")
+    for kind, lifetimes in LIFETIMES.items():
+        with tempfile.TemporaryDirectory() as folder, WebServer(origin=ORIGIN) as server:
+            os.chmod(folder, 0o755)
+            make_certificate(folder)
+            proxy = Proxy(kind, server, folder)
+            faults = proxy.faults()
+            count(f"{kind}: its file", not faults, faults)
+            count(f"{kind}: long silence", all(line in recipe(kind) for line in lifetimes))
+            with proxy.running():
+                play_through(count, kind, proxy)

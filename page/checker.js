@@ -136,6 +136,23 @@ function statement(proof) {
   return certificate && { version: certificate.version, says: replyOf(certificate) };
 }
 
+// What a history's text tells: each object of its world, with its first name. An object is { number, name, isRoom,
+// isExit, from, to, place }. Undefined where the text is not all of a history, or a change of it is not legal.
+function told(text) {
+  const realm = new Realm(), names = new Map();
+  let isLegal = true;
+  const fault = atOnce(new History((change, said) => {
+    const first = change.kind === "rename" ? change.object : realm.next;
+    isLegal &&= realm.act(change);
+    said.forEach((one, at) => names.set(first + at, one.split(",")[0]));
+  }).read(text));
+  if (fault || !isLegal) return undefined;
+  const { kind, from, to, place } = realm;
+  return [...kind.keys()].filter((number) => kind[number]).map((number) => ({ number, name: names.get(number),
+    isRoom: kind[number] === ROOM, isExit: kind[number] === EXIT, from: from[number], to: to[number],
+    place: place[number] }));
+}
+
 // ---- records: a history's text with certificates behind it
 
 // How long a text is up to its first line of this kind, with its line feed; all of it, where no line is.

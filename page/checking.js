@@ -5,12 +5,12 @@ const MOST_BY_ITSELF = 20000; // Versions up to which an answer is checked witho
 const HISTORY_GAP = 10000; // Milliseconds between two histories at least.
 
 // Whether an answer has a certificate: a route, a meeting, or that there is none.
-function isProvable({ kind, line, lines, quiet }) {
-  return kind === "reply" && !quiet && /^(route|meet)\b/i.test(line) && /^(route|meet) #\d/.test(lines[0]);
+function isProvable(entry) {
+  return !entry.quiet && ["route", "noWay", "meeting"].includes(headOf(entry));
 }
 
-function isProof({ kind, line, lines }) {
-  return kind === "reply" && /^proof\b/i.test(line) && lines[0] === "proof" && lines[lines.length - 1] === "end";
+function isProof(entry) {
+  return headOf(entry) === "proof" && isWhole(entry);
 }
 
 // What the checker says (docs/CHECKER.md) in words.
@@ -94,7 +94,7 @@ class Checks {
     if (wait > 0) await new Promise((go) => this.act.later(go, wait));
     const answer = await this.ask("@history");
     this.learnedAt = this.act.now();
-    if (answer.lines[0] !== "history") throw new Error(answer.lines[0]);
+    if (headOf(answer) !== "history") throw new Error(answer.lines[0]);
     const found = await this.judge.history(answer.lines.slice(1).join("\n") + "\n", show);
     return found.verdict ? found : undefined;
   }

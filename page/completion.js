@@ -5,9 +5,10 @@ const MOST_TYPED_LINES = 200; // Lines that the arrow keys go through.
 // The names that may stand after these words of a line.
 function namesAfter(world, first, exits) {
   const rooms = [...world.rooms.values()].filter(Boolean), things = [...world.things.values()];
-  if (/^(proof +)?route\b/i.test(first)) return rooms;
-  if (/^(proof +)?meet\b/i.test(first)) return [...world.people, ...things];
-  return /^go\b/i.test(first) ? exits : [...exits, ...things, ...world.people, ...rooms];
+  const line = behind("proof", first) ?? first, has = (verb) => behind(verb, line) !== undefined;
+  if (has("route")) return rooms;
+  if (has("meet")) return [...world.people, ...things];
+  return has("go") ? exits : [...exits, ...things, ...world.people, ...rooms];
 }
 
 // The ways to complete a line, each the whole line: where its end, from some word on, is the beginning of a name. The

@@ -78,7 +78,7 @@ class Connection {
   }
 }
 
-// The server's own origin, where a text names one: that of a page under another name is refused.
+// The server's own origin, as its refusal of a page from elsewhere names it; undefined in any other text.
 function originIn(text) {
-  return text.match(/\bhttps?:\/\/[^\s()"'<>,;]+/)?.[0].replace(/[.\/]+$/, "");
+  return text.trim().match(SAID.elsewhere)?.[1];
 }

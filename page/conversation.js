@@ -55,12 +55,11 @@ class Conversation {
   }
 
   takeLine(text) {
-    const notice = text.match(/^\((\d+)\) (.*)$/);
+    const notice = text.match(SAID.notice), reply = text.match(SAID.reply);
     if (notice) return this.takeNotice(text, Number(notice[1]), notice[2]);
-    const reply = text.match(/^\[(\d+)\] (.*)$/);
     if (reply) return this.takeReply(Number(reply[1]), reply[2]);
-    if (/^\(host: .*\)$/.test(text)) return { kind: "host", lines: [text] };
-    if (/^\([a-z ]+\)$/.test(text)) return this.takeRefusal(text);
+    if (SAID.failed.test(text)) return this.takeRefusal(text);
+    if (SAID.host.test(text) || SAID.ended.test(text)) return { kind: "host", lines: [text] };
     if (!this.answer) return { kind: "greeting", lines: [text] };
     this.answer.lines.push(text);
     return this.answer;
@@ -91,7 +90,7 @@ class Conversation {
 
   // All that was sent so far is here. The answer is whole, unless its end is still to come.
   finish() {
-    if (this.answer && isWhole(this.answer.lines)) this.done(this.answer);
+    if (this.answer && isWhole(this.answer)) this.done(this.answer);
   }
 
   // An answer is read, and told once. One that has grown after all is read again.
@@ -108,14 +107,14 @@ class Conversation {
   // What an answer tells, unless it was cut. A history that the page asked for itself shows no more of the world than
   // the player saw.
   read(answer) {
-    const { line, lines, quiet } = answer;
-    if (isWhole(lines) && !(quiet && /^(@history|proof)\b/i.test(line))) readAnswer(this.world, line, lines);
-    if (/^quit$/i.test(line) && lines[0] === "bye") this.hasLeft = true;
-    if (!/^welcome #\d+$/.test(lines[0])) return;
+    const { line, lines, quiet } = answer, head = headOf(answer);
+    if (!quiet && isWhole(answer)) readAnswer(this.world, answer);
+    if (head === "bye") this.hasLeft = true;
+    if (head !== "welcome") return;
     if (answer.version < this.before) this.world.clear();
     this.isIn = true;
     this.connectLine = line;
-    this.name = firstName(line.replace(/^connect +/i, "").replace(/^([^" ]+) .*$/, "$1"));
+    this.name = firstName(behind("connect", line)?.replace(/^([^" ]+) .*$/, "$1"));
   }
 
   // An answer ends where the next begins, or the connection.
@@ -125,18 +124,17 @@ class Conversation {
   }
 
   // A history and a proof are kept, to be saved, if they came whole.
-  keep({ version, line, lines }) {
-    const text = lines.slice(1).join("\n") + "\n";
-    if (/^@history$/i.test(line) && /^end \d+$/.test(lines[lines.length - 1])) this.history = { version, text };
-    if (!/^proof /i.test(line) || lines[lines.length - 1] !== "end") return;
+  keep(answer) {
+    const { version, lines } = answer, text = lines.slice(1).join("\n") + "\n", head = headOf(answer);
+    if (!isWhole(answer)) return;
+    if (head === "history") this.history = { version, text };
+    if (head !== "proof") return;
     this.proofs.push({ version, text });
     if (this.proofs.length > MOST_PROOFS) this.proofs.shift();
   }
 }
 
-// Whether the last line of an answer is here, as far as its first ones say.
-function isWhole(lines) {
-  if (/^mud history /.test(lines[1] ?? "")) return /^end \d+$/.test(lines[lines.length - 1]);
-  if (/^mud proof /.test(lines[1] ?? "")) return lines[lines.length - 1] === "end";
-  return !(lines.length === 1 && (lines[0] === "history" || lines[0] === "proof"));
+// Whether the last line of an answer is here: a history and a proof have one of their own.
+function isWhole(answer) {
+  return SAID[`${headOf(answer)}End`]?.test(answer.lines.at(-1)) ?? true;
 }

@@ -14,16 +14,12 @@ function lineFor(world, number, verbs) {
   return isPlain && !isCommand(verbs, name) && world.exitNamed(name, true) === number ? name : `go #${number}`;
 }
 
-function isRoute(entry) {
-  return entry.kind === "reply" && /^route #\d+ to #\d+ /.test(entry.lines[0]);
-}
-
 // A route that was asked for, and how far it was walked.
 class Trip {
   constructor(entry) {
-    const [, from, to] = entry.lines[0].match(/^route #(\d+) to #(\d+)/);
-    Object.assign(this, { entry, from: Number(from), to: Number(to), exits: exitsOnWay(entry.lines[0]) });
-    Object.assign(this, { isNoWay: / no way$/.test(entry.lines[0]), isRunning: false, fault: "" });
+    const head = headOf(entry), [text] = entry.lines, [from, to, cost] = text.match(SAID[head]).slice(1).map(Number);
+    Object.assign(this, { entry, from, to, cost, exits: exitsOnWay(text), isNoWay: head === "noWay" });
+    Object.assign(this, { isRunning: false, fault: "" });
   }
 
   isThere(world) {
@@ -40,7 +36,7 @@ class Trip {
 
   // The answer to a step has come, or undefined where the connection was lost. The exit to take next by itself, if any.
   stepped(world, entry) {
-    const isOn = entry !== undefined && /^went by /.test(entry.lines[0]);
+    const isOn = entry !== undefined && headOf(entry) === "walked";
     if (!isOn) this.fault = entry ? entry.lines[0] : "the connection was lost";
     const exit = isOn && this.isRunning ? this.next(world) : undefined;
     this.isRunning = exit !== undefined;
@@ -52,8 +48,7 @@ class Trip {
     const name = `${world.rooms.get(this.to) ?? "room"} #${this.to}`, count = this.exits.length;
     if (this.isNoWay) return `No way to ${name}`;
     if (this.isThere(world)) return `You are at ${name}`;
-    const [, cost] = this.entry.lines[0].match(/ cost (\d+)/);
-    const way = `cost ${cost}, exit ${world.walked + 1} of ${count}`;
+    const way = `cost ${this.cost}, exit ${world.walked + 1} of ${count}`;
     return `To ${name}: ${way}` + (this.fault ? `. Stopped: ${this.fault}` : "");
   }
 }
@@ -71,7 +66,7 @@ class Hands {
 
   // An answer is whole: a route begins a trip.
   answered(entry) {
-    if (isRoute(entry) && !entry.quiet) this.trip = new Trip(entry);
+    if (["route", "noWay"].includes(headOf(entry))) this.trip = new Trip(entry);
     this.soon();
   }
 

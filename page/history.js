@@ -108,6 +108,7 @@ class Lines {
     this.at = feed + 1;
     this.count += 1;
     line.at = at;
+    line.told = [];
     line.end = feed > at && text.charCodeAt(feed - 1) === CR ? feed - 1 : feed;
     return line;
   }
@@ -125,9 +126,11 @@ class Lines {
   }
 }
 
-// The entries of a history's text. `front` is the part of the text that has their lines.
+// The entries of a history's text. `front` is the part of the text that has their lines. `hear`, if it is given, is
+// called with each change and the texts of names in its line; the history itself keeps no names but those of players.
 class History {
-  constructor() {
+  constructor(hear) {
+    this.hear = hear;
     this.front = "";
     this.format = 0;
     this.changes = [];
@@ -136,7 +139,7 @@ class History {
   // Reads a text, and yields now and then how far it is: up to a half, since all is replayed then. The fault, or
   // undefined. A text that begins as the one before did is read from there on.
   *read(text) {
-    if (this.front === "" || !text.startsWith(this.front)) Object.assign(this, new History());
+    if (this.front === "" || !text.startsWith(this.front)) Object.assign(this, new History(this.hear));
     const lines = new Lines(text, this.front.length, this.format ? this.changes.length + 1 : 0);
     if (!this.format) {
       const first = lines.next()?.match(/^mud history ([12])$/);
@@ -158,6 +161,7 @@ class History {
         return false;
       }
       this.changes.push(change);
+      this.hear?.(change, line.told);
     }
     return true;
   }

@@ -34,9 +34,8 @@ function saveFile(name, text) {
   setTimeout(() => URL.revokeObjectURL(link.href), GIVEN_UP);
 }
 
-// The record of a conversation, as one file: its name, its text, and how it is checked.
-function recordOf({ history, proofs }, checker) {
-  const text = checker ? checker.record(history.text, proofs.map((proof) => proof.text)) :
-    history.text + proofs.map((proof) => proof.text).join("");
+// The record of a conversation, as one file: its name and its text.
+function recordOf({ history, proofs }) {
+  const text = checker.record(history.text, proofs.map((proof) => proof.text));
   return { name: `record-${history.version}.txt`, text };
 }

@@ -14,6 +14,7 @@ class Cursor {
     this.text = text;
     this.at = at;
     this.end = end;
+    this.told = []; // The texts of names that were taken.
   }
 
   get isAtEnd() {
@@ -71,7 +72,9 @@ class Cursor {
       at = to + 1;
       if (this.text.charCodeAt(to) === COMMA) continue;
       this.at = at;
-      return this.text.slice(begin, to);
+      const names = this.text.slice(begin, to);
+      this.told.push(names);
+      return names;
     }
     return undefined;
   }

@@ -13,7 +13,7 @@ const SIGNS = { mine: "> ", page: "-- " };
 
 // Whether an answer is folded: one of many lines, and a history or a proof, whose lines may be long.
 function isLong({ kind, lines }) {
-  return lines.length >= FOLDED || (kind === "reply" && /^(history|proof)$/.test(lines[0]));
+  return lines.length >= FOLDED || (kind === "reply" && (SAID.history.test(lines[0]) || SAID.proof.test(lines[0])));
 }
 
 function timeOf(entry) {
@@ -186,10 +186,10 @@ function classesOf({ kind, line, lines }) {
 function nodeOf(entry) {
   const { kind, version, lines, mark } = entry, isFolded = isLong(entry);
   const node = element(isFolded ? "details" : "p", classesOf(entry)), head = isFolded ? element("summary", "") : node;
-  const heard = kind === "notice" ? lines[0].match(/^(\(\d+\) )(.*)$/) : undefined;
+  const heard = kind === "notice" ? lines[0].match(SAID.notice) : undefined;
   node.dataset.time = timeOf(entry);
   if (kind === "reply" && version !== undefined) head.append(element("span", "version", `[${version}] `));
-  if (heard) head.append(element("span", "version", heard[1]));
+  if (heard) head.append(element("span", "version", `(${heard[1]}) `));
   if (isFolded) node.append(head, ...folded(node, lines));
   head.append(isFolded ? `${lines[0]} ` : heard ? heard[2] : (SIGNS[kind] ?? "") + lines.join("\n"));
   if (isFolded) head.append(element("b", "", `${lines.length.toLocaleString("en")} lines`));

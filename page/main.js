@@ -58,7 +58,7 @@ let lookedAt, isBack = false;
 
 function opened() {
   talk.begin();
-  if (checker) checks.judge = new checker.Checker();
+  checks.judge = new checker.Checker();
   lookedAt = undefined;
   const { connectLine } = talk;
   if (connectLine) isBack = say(connectLine, { answered: () => (isBack = false) });
@@ -83,8 +83,9 @@ function takeAnswers() {
 function answered(entry) {
   entry.answered?.(entry);
   if (entry.quiet || entry.kind !== "reply") return;
-  if (/^welcome #\d+$/.test(entry.lines[0])) welcomed();
-  else if (/^went by /.test(entry.lines[0]) && !hands.trip?.isRunning) arrived();
+  const head = headOf(entry);
+  if (head === "welcome") welcomed();
+  else if (head === "walked" && !hands.trip?.isRunning) arrived();
   if (isLook(entry.line)) lookedAt = world.here;
   hands.answered(entry);
   checks.answered(entry);
@@ -183,16 +184,16 @@ async function save() {
   const needed = Math.max(0, ...talk.proofs.map(({ version }) => version));
   if (!talk.history || talk.history.version < needed) {
     const answer = await checks.act.ask("@history");
-    if (answer?.lines[0] !== "history") return log.tell(`not saved: ${answer?.lines[0] ?? "not connected"}`);
+    if (!answer || headOf(answer) !== "history") return log.tell(`not saved: ${answer?.lines[0] ?? "not connected"}`);
   }
-  const { name, text } = recordOf(talk, checker), count = talk.proofs.length;
+  const { name, text } = recordOf(talk), count = talk.proofs.length;
   saveFile(name, text);
   const how = count === 1 ? `mud_check < ${name}` : "docs/CHECKER.md, Records, or Check a saved file in the menu";
   log.tell(`saved ${name}, with ${count} ${count === 1 ? "proof" : "proofs"}. To check it: ${how}`);
 }
 
 async function checkFile(file) {
-  if (!file || !checker) return;
+  if (!file) return;
   const found = await new checker.Checker().judgeRecord(await file.text());
   const lines = found.map(({ text, version, says }) => (version ? `[${version}] ${says}: ` : "") + inWords(text));
   log.show({ kind: "page", lines: [`${file.name}:`, ...lines] });

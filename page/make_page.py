@@ -2,9 +2,15 @@
 """make_page.py: writes the page into crates/mud_page/src/page.rt, as the whole answer that a browser gets.
 
 The page is page.html, with page.css as its style and the files of SCRIPTS and main.js as its script, behind the
-checker, which has a scope of its own. The commands of its help are the table of docs/COMMANDS.md. Comments and spaces
-that nothing needs are left out. The content policy allows that style and that script alone, by their SHA-256,
-connections to the page's own origin, and no text as a script: nothing else is loaded from anywhere.
+checker, which has a scope of its own. Comments and spaces that nothing needs are left out. The content policy allows
+that style and that script alone, by their SHA-256, connections to the page's own origin, and no text as a script:
+nothing else is loaded from anywhere.
+
+Two tables go into the script. COMMANDS is the table of docs/COMMANDS.md, for the help. texts.json has what the server
+says, as far as the page looks for it: a row has a name, the files below crates/ that define the text, and the text, or
+several; `%d` stands for a number there and `%s` for any text. SAID has each row of "lines" as a pattern of a whole
+line, and WORDS each row of "words" as the words themselves. The part `page-texts` of tests/run compares the rows with
+the definitions and with what the programs say.
 
 `make_page.py --check` writes nothing, and fails where the file is not what it would write. `make_page.py --logic`
 prints the script without main.js, as tests take it.
@@ -19,8 +25,9 @@ import sys
 HERE = pathlib.Path(__file__).resolve().parent
 TARGET = HERE.parent / "crates" / "mud_page" / "src" / "page.rt"
 COMMANDS = HERE.parent / "docs" / "COMMANDS.md"
+TEXTS = HERE / "texts.json"
 CHECKER = ["keys.js", "history.js", "rules.js", "certificate.js", "verdict.js", "checker.js"]
-CHECKER_NAMES = "Checker, statement, record, parts"
+CHECKER_NAMES = "Checker, statement, record, parts, told"
 SCRIPTS = ["world.js", "answers.js", "conversation.js", "map-layout.js", "map-picture.js", "connection.js",
            "completion.js", "checking.js", "frame.js", "log.js", "map-paint.js", "map-view.js", "hands.js", "line.js",
            "help.js", "keep.js"]
@@ -28,28 +35,51 @@ NAMED = {"\\": "\\\\", '"': '\\"', "\n": "\\n", "\r": "\\r"}
 # The tokens of a script. A slash begins a regular expression where a value may stand: after a sign but `)`, `]`, `}`.
 TOKENS = re.compile(r"""
     (?P<space>\s+)|(?P<comment>//[^\n]*)
-    |(?P<text>"(?:[^"\\\n]|\\.)*"|'(?:[^'\\\n]|\\.)*'|`(?:[^`\\]|\\.)*`)
+    |(?P<text>"(?:[^"\\\n]|\\.)*"|'(?:[^'\\\n]|\\.)*'|`(?:[^`\\$]|\\.|\$(?!\{)|\$\{(?:[^`{}]|`[^`]*`|\{[^{}]*\})*\})*`)
     |(?P<pattern>(?:(?<=[(,=:\[!&|?{;\s])(?<![\w)\]]\s)|(?<=\breturn\s))
         /(?:[^/\\\[\n]|\\.|\[(?:[^\]\\\n]|\\.)*\])+/[a-z]*)
     |(?P<word>[\w$@#]+)|(?P<sign>.)""", re.X)
 WORD = frozenset("abcdefghijklmnopqrstuvwxyzABCDEFGHIJKLMNOPQRSTUVWXYZ0123456789_$#@")
-CLOSES = ("}", ")", "]")
-SHORTER = {"const": "let", "undefined": "void 0", "true": "!0", "false": "!1"}
+OPENS, CLOSES = ("{", "(", "["), ("}", ")", "]")
+# `$` is declared without a value in front of the script.
+SHORTER = {"const": "let", "undefined": "$", "true": "!0", "false": "!1"}
+NO_VALUE = "let $;\n"
+VARIABLES = {"%d": r"(\d+)", "%s": "(.*?)"}
 PRINTABLE = range(32, 127)
 LONGEST_LINE = 110  # Signs of a line of the byte string, without what closes it.
+
+
+def statement_ends(piece, begins):
+    """Whether a piece of a script ends a declaration. `begins` has what the statement begins with in each open bracket,
+    and is kept up to date.
+    """
+    if piece in CLOSES:
+        begins.pop()
+    begins[-1] = begins[-1] or piece
+    if piece in OPENS:
+        begins.append("")
+    if piece != ";":
+        return False
+    is_declaration = begins[-1] == "let"
+    begins[-1] = ""
+    return is_declaration
 
 
 def squeezed_script(text):
     """A script without comments, and without the spaces that no two of its words need between them. All statements end
     with a semicolon or a brace, so a line feed is kept only where the next line begins at the left edge. Some words are
-    put in place of longer ones.
+    put in place of longer ones, and declarations in a row are one.
     """
-    kept, last = [], "\n"
+    kept, last, begins, is_declared = [], "\n", [""], False
     for token in TOKENS.finditer(text):
         piece, kind = token.group(), token.lastgroup
         if kind in ("space", "comment"):
             continue
         piece = SHORTER.get(piece, piece)
+        if piece == "let" and last == ";" and is_declared:
+            kept[-1] = last = ","
+            begins[-1] = piece
+            continue
         is_apart = last[-1] in WORD and piece[0] in WORD or last[-1] == piece[0] and piece[0] in "+-"
         is_left = text[token.start() - 1 : token.start()] == "\n" and piece not in CLOSES
         if is_left or (is_apart and text[token.start() - 1] in " \n"):
@@ -58,6 +88,7 @@ def squeezed_script(text):
             kept.pop()
         kept.append(piece)
         last = piece
+        is_declared = statement_ends(piece, begins)
     return re.sub(r"(?<=[(,=:?!&|{;])\(([a-zA-Z]+)\)=>", r"\1=>", "".join(kept)) + "\n"
 
 
@@ -94,18 +125,34 @@ def commands():
     return [[typed.strip(), comes.strip().replace(", see below", "")] for typed, _, comes in rows]
 
 
+def pattern_of(texts):
+    """The regular expression of a line that is one of these texts."""
+    signs = [re.sub("%[ds]", lambda it: VARIABLES[it[0]], re.sub(r"[][().?]", r"\\\g<0>", text)) for text in texts]
+    return f"/^{signs[0]}$/" if len(signs) == 1 else f"/^(?:{'|'.join(signs)})$/"
+
+
+def short_json(value):
+    """JSON without the spaces that nothing needs."""
+    return json.dumps(value, separators=(",", ":"))
+
+
+def tables():
+    """The tables of the script."""
+    texts = json.loads(TEXTS.read_text(encoding="ascii"))
+    said = ",".join(f"{name}:{pattern_of(row)}" for name, _, *row in texts["lines"])
+    words = ",".join(f"{name}:{short_json(row)}" for name, _, *row in texts["words"])
+    return f"let COMMANDS={short_json(commands())};\nlet SAID={{{said}}};\nlet WORDS={{{words}}};\n"
+
+
 def checker():
-    """The checker, in a scope of its own; nothing, where it is not there."""
-    if not all((HERE / name).exists() for name in CHECKER):
-        return "const checker = undefined;\n"
+    """The checker, in a scope of its own."""
     source = "".join(squeezed(name) for name in CHECKER)
     return f"const checker = (() => {{\n{source}return {{ {CHECKER_NAMES} }};\n}})();\n"
 
 
 def logic():
     """The script but for main.js, which begins to do something."""
-    table = f"const COMMANDS = {json.dumps(commands())};\n"
-    return '"use strict";\n' + checker() + table + "".join(squeezed(name) for name in SCRIPTS)
+    return '"use strict";\n' + NO_VALUE + checker() + tables() + "".join(squeezed(name) for name in SCRIPTS)
 
 
 def parts():

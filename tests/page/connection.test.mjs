@@ -115,8 +115,9 @@ test("the reason of a refusal is told", () => {
   assert.deepEqual(lost.told, ["open", "the connection was lost"]);
 });
 
-test("the server's own origin is read where a text names it", () => {
-  for (const [text, origin] of [["403 Forbidden (played at http://localhost:8000)\n", "http://localhost:8000"],
-    ["played at https://mud.example.org.", "https://mud.example.org"], ["403 Forbidden", undefined]])
-    assert.equal(logic.originIn(text), origin);
+test("the server's own origin is read where its refusal names it, and in no other text", () => {
+  const refusal = "403 Forbidden: this world is played at http://localhost:8000\r\n";
+  assert.equal(logic.originIn(refusal), "http://localhost:8000");
+  for (const text of ["403 Forbidden\r\n", `<a href="https://proxy.example.org">${refusal}</a>`])
+    assert.equal(logic.originIn(text), undefined);
 });

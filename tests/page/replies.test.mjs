@@ -151,6 +151,29 @@ test("what the page asks quietly is not shown, and tells no more than the player
   assert.deepEqual([told, rooms(talk), talk.history.version], [[14], ["#4 Yard"], 11]);
 });
 
+test("what is looked at may be named as any other answer begins", () => {
+  const names = ["welcome", "went by #3 to", "dug room", "route #0 to #2 cost 1 by #3", "recycled", "proof", "history"];
+  for (const name of names) {
+    const talk = after(["connect Ann", "[1] welcome #9"], HALL), told = [];
+    talk.onAnswer = (answer) => told.push(logic.headOf(answer));
+    tell(talk, "look box", `[5] ${name} #12`);
+    tell(talk, "l", `[5] ${name} #0`, "  exits north #3");
+    assert.deepEqual(told, ["named", "named"]);
+    assert.deepEqual([talk.connectLine, talk.world.me, talk.world.here, talk.world.route], ["connect Ann", 9, 0, []]);
+    assert.deepEqual([talk.world.things.get(12), rooms(talk), exits(talk)],
+      [name, [`#0 ${name}`], ["#3 north 0-undefined"]]);
+  }
+});
+
+test("what the server says of itself answers nothing", () => {
+  const talk = after(HALL);
+  talk.say("north");
+  const lines = ["(host: back in 5 minutes)", "(not stored)", "(server stops)"];
+  const shown = talk.take(lines.map((line) => line + "\r\n").join(""));
+  assert.deepEqual(shown.map(({ kind, line }) => [kind, line]),
+    [["host", undefined], ["refusal", "north"], ["host", undefined]]);
+});
+
 test("a history that is cut changes nothing", () => {
   const talk = after(HALL), before = [rooms(talk), exits(talk)];
   tell(talk, "@history", "[11] history", ...TALE.slice(0, 5));

@@ -207,13 +207,15 @@ fn first_doubt(world: &World, cert: &Cert) -> Result<Option<Doubt>, AllocError>
     }
 }
 
-// What is true of every world and of every certificate, for the prover: the call and the field that is read say it.
-fn are_kept(world: &World, cert: &Cert)
+// Tells the prover that the world is sound and the certificate is one. It does nothing when it runs.
+fn know_both(world: &World, cert: &Cert)
     ensures world { IsSound world.now }
     ensures certificate { IsCertificate cert.now }
 {
-    let _next = world.next_number();
-    let _ = &cert.members;
+    // for the prover: `next_number` says that the world is sound
+    let _known = world.next_number();
+    // for the prover: a field that is read makes the type's invariant known
+    let _known = &cert.members;
 }
 
 /// Tests the certificate in this world: member by member, then the conclusion. The first doubt is
@@ -230,7 +232,7 @@ pub fn check(world: &World, cert: &Cert) -> Result<(), Doubt>
     ensures optimal { IsOk result → Optimal world.now cert.now }
 {
     // for the prover: the world is sound, and the certificate keeps its invariant
-    are_kept(world, cert);
+    know_both(world, cert);
     match first_doubt(world, cert)? {
         None => Ok(()),
         Some(doubt) => Err(doubt),

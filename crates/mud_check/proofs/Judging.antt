@@ -1,7 +1,7 @@
 -- What is judged where the source's bytes are known.
 use Rattle.std.proofs.Common.{◌≡◌, ℕ, List, Option, Some, None, IfSome, subst}
-use Rattle.mud_verdict.specs.declared.outcome.Outcome.{Outcome}
-use Rattle.mud_verdict.specs.Verdict.{IsVerdict}
+use Rattle.mud_checker.specs.declared.outcome.Outcome.{Outcome}
+use Rattle.mud_checker.specs.Verdict.{IsVerdict}
 use Rattle.mud_check.specs.Input.{IsSplit}
 use Rattle.mud_check.specs.Judgement.{IsJudged}
 

@@ -3,10 +3,10 @@ use Rattle.std.specs.Prelude.{◌≡◌, ◌⊎◌, ℕ, Bool, true, false, List
 use mathlib.Core.List.{IsPrefix}
 use Rattle.std.specs.Io.KnownBytes.{Appends}
 use Rattle.mud_key.specs.declared.codes.TheConstants.{LF}
-use Rattle.mud_verdict.specs.declared.outcome.Outcome.{Outcome}
+use Rattle.mud_checker.specs.declared.outcome.Outcome.{Outcome}
 use Rattle.mud_check.specs.declared.judge.Unread.{Unread}
 use Rattle.mud_check.specs.declared.judge.Unread.TheVariants.{OutOfMemory, File}
-use Rattle.mud_verdict.specs.Verdict.{IsVerdict}
+use Rattle.mud_checker.specs.Verdict.{IsVerdict}
 use Rattle.mud_check.specs.Input.{IsSplit}
 
 -- the outcome is the verdict on the two texts that the bytes hold

@@ -6,8 +6,8 @@ ghost use Rattle.std.specs.IoError.{error_kind};
 ghost use Rattle.mud_check.specs.Judgement.{IsJudged, IsInputFault, IsFileFault};
 
 use crate::input::split;
-use mud_ends::Source;
-use mud_verdict::{Outcome, verdict};
+use mud_checker::{Outcome, verdict};
+use mud_io::Source;
 use std::alloc::{AllocError, Global};
 use std::fs;
 use std::io::{self, ErrorKind, Read};

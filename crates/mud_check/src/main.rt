@@ -12,9 +12,9 @@ mod writing;
 
 use crate::judge::{Unread, judge_files, judge_input};
 use crate::writing::write_outcome;
-use mud_command::{CommandFault, Sources, show, sources_of, words_of};
-use mud_ends::{Sink, Source};
-use mud_verdict::Outcome;
+use mud_checker::Outcome;
+use mud_cli::{CommandFault, Sources, show, sources_of, words_of};
+use mud_io::{Sink, Source};
 use std::io::{self, Write};
 use std::process::ExitCode;
 

@@ -2,7 +2,7 @@
 
 ghost use Rattle.mud_check.specs.Judgement.{Says};
 
-use mud_ends::Sink;
+use mud_io::Sink;
 use std::io::Write;
 
 /// Writes the line, and answers the status that it has; where it can't be written the status is 2.

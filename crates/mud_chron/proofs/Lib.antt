@@ -11,3 +11,4 @@ pub mod Spellable
 mod Returns
 pub mod Fronts
 pub mod Zeros
+pub mod BeforeZero

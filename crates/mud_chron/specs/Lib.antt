@@ -5,4 +5,5 @@ pub mod Faults
 pub mod Replay
 pub mod Laws
 pub mod Fronts
+pub mod Zeros
 pub mod inner

@@ -1,7 +1,7 @@
 -- What a write that failed leaves.
 use Rattle.std.proofs.Common.{◌≡◌, ℕ, List, take, drop, Option, Some, None, IfSome, subst, take-append-drop}
 use Rattle.std.specs.Io.KnownBytes.{Appends}
-use Rattle.mud_command.specs.declared.subject.Subject.{Subject}
+use Rattle.mud_cli.specs.declared.subject.Subject.{Subject}
 use Rattle.mud_explain.specs.Explanation.{Explains, WritesFront}
 
 -- a front of what explains the input was written

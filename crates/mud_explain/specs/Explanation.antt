@@ -7,10 +7,10 @@ use Rattle.mud_nvt.specs.Units.{units}
 use Rattle.mud_words.specs.Words.{words}
 use Rattle.mud_words.specs.Parse.{parse_of}
 use Rattle.mud_key.specs.Finds.{names_in}
-use Rattle.mud_command.specs.declared.subject.Reading.{Reading}
-use Rattle.mud_command.specs.declared.subject.Reading.TheVariants.{Words, Parse, Names, Key}
-use Rattle.mud_command.specs.declared.subject.Subject.{Subject}
-use Rattle.mud_command.specs.declared.subject.Subject.TheVariants.{Units, Lines}
+use Rattle.mud_cli.specs.declared.subject.Reading.{Reading}
+use Rattle.mud_cli.specs.declared.subject.Reading.TheVariants.{Words, Parse, Names, Key}
+use Rattle.mud_cli.specs.declared.subject.Subject.{Subject}
+use Rattle.mud_cli.specs.declared.subject.Subject.TheVariants.{Units, Lines}
 use Rattle.mud_explain.specs.Lines.{Answers}
 use Rattle.mud_explain.specs.Brackets.{bracket_all}
 use Rattle.mud_explain.specs.Line.{line_text}

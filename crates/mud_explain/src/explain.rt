@@ -6,9 +6,9 @@ ghost use Rattle.mud_explain.specs.Explanation.{Explains, Writes, WritesFront};
 
 use crate::lines::explained_lines;
 use crate::units::explained_units;
-use mud_command::Subject;
-use mud_ends::{Sink, Source};
-use mud_load::Unloaded;
+use mud_cli::Subject;
+use mud_history_file::Unloaded;
+use mud_io::{Sink, Source};
 use std::alloc::{AllocError, Global};
 use std::io::{ErrorKind, Read, Write};
 use thiserror::Error;

@@ -8,10 +8,10 @@ use crate::explain::{ExplainFault, input_of};
 use crate::opening::open_hall;
 use crate::play::Play;
 use memchr::memchr;
-use mud_command::Opening;
-use mud_ends::{Sink, Source};
+use mud_cli::Opening;
 use mud_hall::{HallName, NewHall};
-use mud_load::Unloaded;
+use mud_history_file::Unloaded;
+use mud_io::{Sink, Source};
 use std::alloc::{AllocError, Global};
 use std::io::{Read, Write};
 use std::marker::Brand;
@@ -53,7 +53,7 @@ fn told_in<J: HallName, R: Wait>(
     Ok(out)
 }
 
-// The same in a hall that has no name yet.
+// What is told of the lines of an input, in a hall that gets its name here.
 fn play_unnamed<R: Wait>(
     rt: &R,
     alloc: Global,
@@ -63,7 +63,7 @@ fn play_unnamed<R: Wait>(
     told_in::<Brand, R>(rt, alloc, hall, input)
 }
 
-// The same of all that the source has left.
+// What is told of all the lines that the source has left.
 fn told_input<R: Wait, S: Read>(
     rt: &R,
     alloc: Global,

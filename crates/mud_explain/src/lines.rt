@@ -17,7 +17,7 @@ ghost use Rattle.mud_key.specs.Finds.{names_in};
 use crate::grouped::push_grouped;
 use crate::listed::push_listed;
 use memchr::memchr;
-use mud_command::Reading;
+use mud_cli::Reading;
 use mud_key::{KeyFault, Names, NamesFault};
 use mud_words::{Parsed, Prep};
 use std::alloc::{AllocError, Global};

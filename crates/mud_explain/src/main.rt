@@ -21,8 +21,8 @@ mod units;
 
 use crate::explain::{ExplainFault, explain};
 use crate::hall::explain_hall;
-use mud_command::{CommandFault, Opening, Subject, Task, show, task_of, words_of};
-use mud_ends::{Sink, Source};
+use mud_cli::{CommandFault, Opening, Subject, Task, show, task_of, words_of};
+use mud_io::{Sink, Source};
 use std::io::{self, Eprint, Print};
 use std::process::ExitCode;
 use std::rt::Runtime;

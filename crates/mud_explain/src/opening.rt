@@ -4,9 +4,9 @@ ghost use Rattle.std.specs.Prelude.{◌≤◌};
 ghost use Rattle.mud_world.specs.declared.limits.TheConstants.{MOST_ENTRIES};
 
 use mud_chron::Entry;
-use mud_command::Opening;
+use mud_cli::Opening;
 use mud_hall::NewHall;
-use mud_load::{Unloaded, load};
+use mud_history_file::{Unloaded, load};
 use std::alloc::Global;
 use std::rt::Files;
 

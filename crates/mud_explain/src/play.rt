@@ -14,6 +14,7 @@ use crate::told::{
     push_answer, push_fault, push_reply, push_seen, push_settled, push_told, push_unsettled,
 };
 use mud_hall::{Desk, Hall, HallName, NewHall};
+use mud_words::parse;
 use std::alloc::{AllocError, Global};
 use std::sync::Wait;
 
@@ -106,7 +107,7 @@ impl<J: HallName> Play<J> {
             return not_understood(out);
         };
         match place_of(&self.desks, number) {
-            Some(at) => turn_at(rt, hall, &mut self.desks[at], turn, out),
+            Some(at) => turn_at(rt, self.alloc, hall, &mut self.desks[at], turn, out),
             None => not_understood(out),
         }
     }
@@ -238,6 +239,7 @@ fn learn_at<J: HallName>(desks: &mut [Desk<J>], at: usize, from: usize)
 // What a desk does by itself, and what is told of it.
 fn turn_at<J: HallName, R: Wait>(
     rt: &R,
+    alloc: Global,
     hall: &Hall<J>,
     desk: &mut Desk<J>,
     turn: Turn<'_>,
@@ -247,11 +249,11 @@ fn turn_at<J: HallName, R: Wait>(
         × Turns (length J.cells) turn.entry desk.old desk.new told) }
 {
     match turn {
-        Turn::Act(line) => match hall.act(rt, desk, line) {
+        Turn::Act(line) => match hall.act(rt, desk, &parse(alloc, line)?) {
             Ok(reply) => push_reply(out, &reply),
             Err(fault) => push_fault(out, fault),
         },
-        Turn::Ask(line) => match desk.ask(hall, line) {
+        Turn::Ask(line) => match desk.ask(hall, &parse(alloc, line)?) {
             Ok(answer) => push_answer(out, &answer),
             Err(fault) => push_fault(out, fault),
         },

@@ -28,7 +28,7 @@ pub(crate) fn last_step(
     ensures { IsLast (roads_of world.now traveller.now.player) (label_in labels.now member) to result }
 {
     // for the prover: `next_number` says that the world is sound
-    let _next = world.next_number();
+    let _known = world.next_number();
     for exit in world.arriving(to) {
         let arrival = arrival_by(world, traveller, labels, member, *exit);
         if arrival.is_some() {
@@ -50,7 +50,7 @@ fn arrival_by(
     ensures { IsBy (roads_of world.now traveller.now.player) (label_in labels.now member) exit result }
 {
     // for the prover: `next_number` says that the world is sound
-    let _next = world.next_number();
+    let _known = world.next_number();
     let passage = world.passage(exit)?;
     let label = labels.get(member, passage.source)?;
     if !ends(label, passage.cost, labels.get(member, passage.destination)) {

@@ -39,4 +39,4 @@ mod workers;
 
 pub use answer::Answer;
 pub use ask::{meet_alone, route_alone, route_of_alone};
-pub use workers::{meet, route, route_of};
+pub use workers::{Workers, meet, route, route_of};

@@ -76,7 +76,7 @@ impl<'a, R: Threads + Sync> Lister for Crew<'a, R> {
         labels: &Labels,
         to: Option<u32>,
     ) -> Result<Listing, AllocError> {
-        listing_with(self.rt, alloc, world, party, labels, 0, to, self.workers)
+        listing_with(self, alloc, world, party, labels, 0, to)
     }
 }
 
@@ -103,20 +103,19 @@ fn listing_of(
 // there are two members and two workers.
 #[tactic(auto, using(crate::proofs::Parts::members_front, crate::proofs::Parts::members_back))]
 fn listing_with<R: Threads + Sync>(
-    rt: &R,
+    crew: &Crew<'_, R>,
     alloc: Global,
     world: &World,
     party: &[Traveller],
     labels: &Labels,
     first: usize,
     to: Option<u32>,
-    workers: usize,
 ) -> Result<Listing, AllocError>
     requires members { AreMembers world.now (label_in labels.now) first party.now }
     requires bounded { AreBounded (label_in labels.now) }
     ensures { IfOk result (IsListing world.now (label_in labels.now) first to party.now) }
 {
-    let members = party.len();
+    let (rt, workers, members) = (crew.rt, crew.workers, party.len());
     if members < 2 || workers < 2 {
         return listing_of(alloc, world, party, labels, first, to);
     }
@@ -132,13 +131,36 @@ fn listing_with<R: Threads + Sync>(
                 × AreBounded (label_in labels.now) }
             ensures { IfOk result
                 (IsListing world.entry.now (label_in labels.entry.now) behind to back.entry.now) }
-        { listing_with(rt, alloc, world, back, labels, behind, to, after) },
+        {
+            listing_with(
+                &Crew { rt, workers: after },
+                alloc,
+                world,
+                back,
+                labels,
+                behind,
+                to,
+            )
+        },
         || -> Result<Listing, AllocError>
             requires { IsSync R.row × AreMembers world.now (label_in labels.now) first front.now
                 × AreBounded (label_in labels.now) }
             ensures { IfOk result
                 (IsListing world.entry.now (label_in labels.entry.now) first to front.entry.now) }
-        { listing_with(rt, alloc, world, front, labels, first, to, before) },
+        {
+            listing_with(
+                &Crew {
+                    rt,
+                    workers: before,
+                },
+                alloc,
+                world,
+                front,
+                labels,
+                first,
+                to,
+            )
+        },
     );
     let mut listing = listing?;
     let mut others = others?;

@@ -20,18 +20,24 @@ use std::slice;
 use std::sync::Wait;
 use std::thread::{Threads, join};
 
-/// Answers as [`route_alone`](crate::route_alone), by N workers, who share the rooms and pass the gate with each; the
-/// caller's thread is the first (see [`labels`]). It may wait, and ends if the gate lets all pass. The only error is
-/// out of memory.
+/// Workers: what starts their threads, how many there are, the caller's thread among them, and the gate that each
+/// passes with each room.
+#[derive(Drop)]
+pub struct Workers<'a, R, G> {
+    pub rt: &'a R,
+    pub count: usize,
+    pub gate: &'a G,
+}
+
+/// Answers as [`route_alone`](crate::route_alone), by workers that share the rooms (see [`labels`]). It may wait, and
+/// ends if the gate lets all pass. The only error is out of memory.
 pub fn route<R: Threads + Wait + Sync, G: Gate + Sync>(
-    rt: &R,
+    by: &Workers<'_, R, G>,
     alloc: Global,
     world: &World,
     version: u32,
     player: u32,
     room: u32,
-    workers: usize,
-    gate: &G,
 ) -> Result<Answer, AllocError>
     requires player { IsTrue (is_player world.now player) }
     requires room { IsTrue (is_room world.now room) }
@@ -39,40 +45,36 @@ pub fn route<R: Threads + Wait + Sync, G: Gate + Sync>(
     ensures { IfOk result (IsRouteAnswer world.now version player room) }
 {
     let traveller = Traveller::of(alloc, world, player)?;
-    route_of(rt, alloc, world, version, &traveller, room, workers, gate)
+    route_of(by, alloc, world, version, &traveller, room)
 }
 
 /// Answers as [`route`] for a traveller of this world who is at hand.
 pub fn route_of<R: Threads + Wait + Sync, G: Gate + Sync>(
-    rt: &R,
+    by: &Workers<'_, R, G>,
     alloc: Global,
     world: &World,
     version: u32,
     traveller: &Traveller,
     room: u32,
-    workers: usize,
-    gate: &G,
 ) -> Result<Answer, AllocError>
     requires traveller { IsTraveller world.now traveller.now }
     requires room { IsTrue (is_room world.now room) }
     requires version { version ≤ MOST_ENTRIES }
     ensures { IfOk result (IsRouteAnswer world.now version traveller.now.player room) }
 {
-    let labels = labels(rt, alloc, world, slice::from_ref(traveller), workers, gate)?;
+    let party = slice::from_ref(traveller);
+    let labels = labels(by.rt, alloc, world, party, by.count, by.gate)?;
     route_from(alloc, world, version, traveller, &labels, room)
 }
 
-/// Answers as [`meet_alone`](crate::meet_alone), by N workers, who search for the members apart and pass the gate with
-/// each room; the caller's thread is the first (see [`labels`]). It may wait, and ends if the gate lets all pass. The
-/// only error is out of memory.
+/// Answers as [`meet_alone`](crate::meet_alone), by workers that search for the members apart (see [`labels`]). It may
+/// wait, and ends if the gate lets all pass. The only error is out of memory.
 pub fn meet<R: Threads + Wait + Sync, G: Gate + Sync>(
-    rt: &R,
+    by: &Workers<'_, R, G>,
     alloc: Global,
     world: &World,
     version: u32,
     party: &[u32],
-    workers: usize,
-    gate: &G,
 ) -> Result<Answer, AllocError>
     requires players { All (λ p. IsTrue (is_player world.now p)) party.now }
     requires distinct { AllPairs (λ p q. p ≢ q) party.now }
@@ -81,9 +83,19 @@ pub fn meet<R: Threads + Wait + Sync, G: Gate + Sync>(
     requires version { version ≤ MOST_ENTRIES }
     ensures { IfOk result (IsMeetAnswer world.now version party.now) }
 {
-    let travellers = party_with(rt, alloc, world, party, workers)?;
-    let labels = labels(rt, alloc, world, travellers.as_slice(), workers, gate)?;
-    let crew = Crew { rt, workers };
+    let travellers = party_with(by.rt, alloc, world, party, by.count)?;
+    let labels = labels(
+        by.rt,
+        alloc,
+        world,
+        travellers.as_slice(),
+        by.count,
+        by.gate,
+    )?;
+    let crew = Crew {
+        rt: by.rt,
+        workers: by.count,
+    };
     meet_from(&crew, alloc, world, version, travellers.as_slice(), &labels)
 }
 

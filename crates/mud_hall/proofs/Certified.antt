@@ -17,8 +17,8 @@ use Rattle.mud_cert.specs.Text.{cert_text}
 use Rattle.mud_cert.specs.TextLaws.{HasNoReturn}
 use Rattle.mud_cert.specs.Valid.{IsValid, Optimal}
 use Rattle.mud_cert.specs.Laws.{ValidIsOptimal}
-use Rattle.mud_verdict.specs.Finding.{IsHistory, without_returns}
-use Rattle.mud_verdict.specs.Laws.{DropsNothing}
+use Rattle.mud_checker.specs.Finding.{IsHistory, without_returns}
+use Rattle.mud_checker.specs.Laws.{DropsNothing}
 use Rattle.mud_hall.specs.Notices.{world_after}
 use Rattle.mud_hall.specs.Steps.{AreLoadable}
 use Rattle.mud_hall.specs.Right.{IsAcceptedWith, IsCertified}

@@ -8,8 +8,8 @@ use Rattle.mud_key.specs.contracts.key.Key as Key
 use Rattle.mud_world.specs.contracts.record.Record as Record
 use Rattle.mud_world.specs.contracts.world.World as World
 use Rattle.mud_world.proofs.links.Links.TheSendSync as links
-use Rattle.mud_lists.proofs.lists.Lists.TheSendSync as lists
-use Rattle.mud_lists.proofs.owners.Owners.TheSendSync as owners
+use Rattle.mud_index.proofs.lists.Lists.TheSendSync as lists
+use Rattle.mud_index.proofs.owners.Owners.TheSendSync as owners
 use Rattle.mud_chron.specs.contracts.entry.Entry as Entry
 use Rattle.mud_roads.proofs.traveller.Traveller.TheSendSync as traveller
 use Rattle.mud_row.proofs.pass.Pass.TheSendSync as pass

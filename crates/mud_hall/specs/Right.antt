@@ -18,8 +18,8 @@ use Rattle.mud_cert.specs.declared.cert.Conclusion.{Conclusion}
 use Rattle.mud_cert.specs.declared.cert.Conclusion.TheVariants.{Route, Meet}
 use Rattle.mud_cert.specs.Text.{cert_text}
 use Rattle.mud_cert.specs.declared.cert.Meeting.{Meeting}
-use Rattle.mud_verdict.specs.declared.finding.Finding.TheVariants as finding
-use Rattle.mud_verdict.specs.Finding.{IsFinding}
+use Rattle.mud_checker.specs.declared.finding.Finding.TheVariants as finding
+use Rattle.mud_checker.specs.Finding.{IsFinding}
 use Rattle.mud_cert.specs.Valid.{IsPlace}
 use Rattle.mud_guide.specs.Ways.{cost_of}
 use Rattle.mud_guide.specs.Accounts.{IsMemberFor}

@@ -124,7 +124,7 @@ impl<J: HallName> Desk<J> {
         Ok(Box::new(alloc, Entry::new(self.number, change))?)
     }
 
-    // The same with an entry of this desk.
+    // Makes an entry of this desk the next one of the history, which has its version.
     fn publish(&mut self, row: &Row, entry: Box<Entry>) -> Result<u32, Fault>
         requires row { row.now ≡ J.cells }
         requires all { self.old.at ≡ length self.old.state.seen }

@@ -78,7 +78,7 @@ impl<J: HallName> Hall<J> {
         let Hall { row, loaded, .. } = self;
         let history = History::new(row, whole);
         // for the prover: `len` says that they are at most 65,536
-        let _ = history.len();
+        let _known = history.len();
         Settled {
             history,
             accepted,

@@ -166,7 +166,7 @@ impl<J: HallName> Desk<J> {
         self.take_in_to(alloc, row, u32::MAX)
     }
 
-    // The same for those of the first `most` cells.
+    // Takes those of the first `most` cells that are found set into what it knows and into its world.
     pub(crate) fn take_in_to(
         &mut self,
         alloc: Global,

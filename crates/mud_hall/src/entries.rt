@@ -57,7 +57,7 @@ impl<'r> Made<'r> {
         ensures desk { (e : Entry) × (slice_get self.old i ≡ Some e) × (result ≡ e.desk) }
     {
         // for the prover: `known` says that they are at most 65,536, so that the sum below fits
-        let _ = self.pass.known();
+        let _known = self.pass.known();
         match self.row.entry(&mut self.pass, self.loaded + i + 1) {
             Some(entry) => entry.desk(),
             None => unreachable!(),

@@ -7,7 +7,7 @@ ghost use Rattle.mud_world.specs.declared.limits.TheConstants.{MOST_ENTRIES};
 ghost use Rattle.mud_hall.specs.Answers.{IsGuided};
 ghost use Rattle.mud_hall.specs.inner.Desks.{Travels};
 
-use mud_guide::{Answer, meet, meet_alone, route, route_alone, route_of, route_of_alone};
+use mud_guide::{Answer, Workers, meet, meet_alone, route, route_alone, route_of, route_of_alone};
 use mud_roads::Traveller;
 use mud_rules::Journey;
 use mud_search::Gate;
@@ -94,12 +94,10 @@ impl<
     }
 }
 
-/// The guide's answer to a player's question about a journey, by N workers, who pass a gate. The traveller, if
-/// there is one, is he.
+/// The guide's answer to a player's question about a journey, by workers. The traveller, if there is one, is that
+/// player.
 pub(crate) fn by_workers<R: Threads + Wait + Sync, G: Gate + Sync>(
-    rt: &R,
-    workers: usize,
-    gate: &G,
+    by: &Workers<'_, R, G>,
     alloc: Global,
     world: &World,
     version: u32,
@@ -116,11 +114,9 @@ pub(crate) fn by_workers<R: Threads + Wait + Sync, G: Gate + Sync>(
 {
     match journey {
         Journey::Route { to } => match traveller {
-            Some(traveller) => {
-                route_of(rt, alloc, world, version, traveller, *to, workers, gate)
-            }
-            None => route(rt, alloc, world, version, player, *to, workers, gate),
+            Some(traveller) => route_of(by, alloc, world, version, traveller, *to),
+            None => route(by, alloc, world, version, player, *to),
         },
-        Journey::Meet(party) => meet(rt, alloc, world, version, party.members(), workers, gate),
+        Journey::Meet(party) => meet(by, alloc, world, version, party.members()),
     }
 }

@@ -9,7 +9,6 @@ ghost use Rattle.mud_hall.specs.Answers.{IsGuided};
 ghost use Rattle.std.specs.List.{AllByRecursion};
 ghost use mathlib.Core.List.{IsPrefix};
 ghost use Rattle.mud_words.specs.Line.{line_of};
-ghost use Rattle.mud_words.specs.Parse.{parse_of};
 ghost use Rattle.mud_world.specs.declared.limits.TheConstants.{MOST_ENTRIES};
 ghost use Rattle.mud_chron.specs.Entry.{IsEntry};
 ghost use Rattle.mud_hall.specs.Desk.{IsNew, TakesIn, pending};
@@ -26,12 +25,12 @@ use crate::kept::{Fresh, Kept};
 use crate::name::HallName;
 use crate::reply::Reply;
 use mud_chron::{ChronFault, Entry, replay};
-use mud_guide::Answer;
+use mud_guide::{Answer, Workers};
 use mud_roads::Traveller;
 use mud_row::{FillFault, Pass, Replica, Row};
 use mud_rules::Journey;
 use mud_search::Gate;
-use mud_words::{Parsed, parse};
+use mud_words::Parsed;
 use mud_world::World;
 use std::alloc::{AllocError, Global};
 use std::hint::spin_loop;
@@ -167,16 +166,17 @@ fn is_loadable(alloc: Global, capacity: u32, entries: &[Entry]) -> Result<(), Lo
         return Err(LoadFault::OverCapacity);
     }
     // for the prover: each of them keeps the invariant of an entry
-    are_entries(entries);
+    know_entries(entries);
     Ok(())
 }
 
-// What is true of every entry is true of each of these, for the prover: `desk` says it.
-fn are_entries(entries: &[Entry])
+// Tells the prover that each of these keeps the invariant of an entry. It changes nothing when it runs.
+fn know_entries(entries: &[Entry])
     ensures { AllByRecursion IsEntry entries.now }
 {
     for entry in entries {
-        let _ = entry.desk();
+        // for the prover: `desk` says that an entry keeps its invariant
+        let _known = entry.desk();
     }
 }
 
@@ -272,19 +272,10 @@ impl<J: HallName> Hall<J> {
         }
     }
 
-    /// Takes in all entries, and then replies to the line in the world that they lead to. A change
-    /// is added to the history: `HistoryFull` where it takes no more, `Unpublished` where it did not
-    /// take the entry. After a fault the history has no entry of this call.
-    pub fn act<R: Wait>(&self, rt: &R, desk: &mut Desk<J>, line: &str) -> Result<Reply, Fault>
-        ensures acts { Acts (length J.cells) desk.old.state (parse_of line.now) (reply_shown result) desk.new.state }
-        ensures told { reply_shown result ≢ Failed Fault.OutOfMemory → pending desk.new ≡ [] }
-    {
-        let said = parse(self.alloc, line)?;
-        self.act_on(rt, desk, &said)
-    }
-
-    /// Acts on what a line says, as [`Hall::act`] on the line.
-    pub fn act_on<R: Wait>(&self, rt: &R, desk: &mut Desk<J>, said: &Parsed) -> Result<Reply, Fault>
+    /// Takes in all entries, and then replies to what a line says in the world that they lead to. A change is added to
+    /// the history: `HistoryFull` where it takes no more, `Unpublished` where it did not take the entry. After a fault
+    /// the history has no entry of this call.
+    pub fn act<R: Wait>(&self, rt: &R, desk: &mut Desk<J>, said: &Parsed) -> Result<Reply, Fault>
         ensures acts { Acts (length J.cells) desk.old.state (line_of said.now) (reply_shown result) desk.new.state }
         ensures told { reply_shown result ≢ Failed Fault.OutOfMemory → pending desk.new ≡ [] }
     {
@@ -318,20 +309,9 @@ impl<J: HallName> Desk<J> {
         Ok(())
     }
 
-    /// Answers a line by exactly what it has seen. A line that asks nothing is not understood. It
-    /// waits for nobody.
-    pub fn ask(&mut self, hall: &Hall<J>, line: &str) -> Result<Answer, Fault>
-        ensures same { self.new.state ≡ self.old.state }
-        ensures told { OnOk result (pending self.new ≡ []) }
-        ensures ok { IfOk result (λ a. Answers self.old.state (parse_of line.now) (answer_shown a)) }
-        ensures fault { IfErr result (λ f. f ≡ Fault.OutOfMemory) }
-    {
-        let said = parse(hall.alloc, line)?;
-        self.ask_on(hall, &said)
-    }
-
-    /// Answers what a line says, as [`Desk::ask`] the line.
-    pub fn ask_on(&mut self, hall: &Hall<J>, said: &Parsed) -> Result<Answer, Fault>
+    /// Answers what a line says by exactly what it has seen. A line that asks nothing is not understood. It waits for
+    /// nobody.
+    pub fn ask(&mut self, hall: &Hall<J>, said: &Parsed) -> Result<Answer, Fault>
         ensures same { self.new.state ≡ self.old.state }
         ensures told { OnOk result (pending self.new ≡ []) }
         ensures ok { IfOk result (λ a. Answers self.old.state (line_of said.now) (answer_shown a)) }
@@ -345,24 +325,6 @@ impl<J: HallName> Desk<J> {
     /// each room; the caller's thread is the first (see [`mud_search::labels`]). It waits only for
     /// those, and ends if the gate lets all pass.
     pub fn ask_with<R: Threads + Wait + Sync, G: Gate + Sync>(
-        &mut self,
-        rt: &R,
-        hall: &Hall<J>,
-        line: &str,
-        workers: usize,
-        gate: &G,
-    ) -> Result<Answer, Fault>
-        ensures same { self.new.state ≡ self.old.state }
-        ensures told { OnOk result (pending self.new ≡ []) }
-        ensures ok { IfOk result (λ a. Answers self.old.state (parse_of line.now) (answer_shown a)) }
-        ensures fault { IfErr result (λ f. f ≡ Fault.OutOfMemory) }
-    {
-        let said = parse(hall.alloc, line)?;
-        self.ask_on_with(rt, hall, &said, workers, gate)
-    }
-
-    /// Answers what a line says, as [`Desk::ask_with`] the line.
-    pub fn ask_on_with<R: Threads + Wait + Sync, G: Gate + Sync>(
         &mut self,
         rt: &R,
         hall: &Hall<J>,
@@ -385,9 +347,12 @@ impl<J: HallName> Desk<J> {
                 ensures version { IfOk result (λ a. a.version ≡ version) }
                 ensures guided { IfOk result (IsGuided world.now version (Some player) journey.now) }
             {
-                by_workers(
-                    rt, workers, gate, alloc, world, version, player, traveller, journey,
-                )
+                let by = Workers {
+                    rt,
+                    count: workers,
+                    gate,
+                };
+                by_workers(&by, alloc, world, version, player, traveller, journey)
             },
         };
         let answer = self.answer(&by, hall.alloc, &hall.row, said)?;

@@ -12,10 +12,10 @@ ghost use Rattle.mud_hall.specs.Desk.{DeskState};
 
 use mud_cert::laws::valid_is_optimal;
 use mud_cert::text_laws::no_return;
+use mud_checker::laws::drops_nothing;
 use mud_chron::laws::{again, no_returns};
 use mud_guide::laws::routes;
 use mud_roads::laws::meeting_cost;
-use mud_verdict::laws::drops_nothing;
 
 /// In every run of a hall an answer about a journey is right in the world of which it speaks, and
 /// the checker accepts its certificate.

@@ -1,4 +1,4 @@
-//! Many desks over one history: who acts, asks and hears, and what is settled at the end.
+//! A hall: many desks that act, ask and hear over one history, which is settled at the end.
 //!
 //! A [`Hall`] has one history of accepted changes. Each caller has a [`Desk`] of it: a number, a player or none, the
 //! entries that it has seen, and a world of its own to which they lead. A desk acts under the lock of the hall; it sees
@@ -10,22 +10,23 @@
 //! | `NewHall::with_name` | the same hall by its [`HallName`], which its type and those of its desks carry |
 //! | `Hall::capacity`, `loaded_count` | how many entries the history can have, and how many it began with |
 //! | `Hall::desk` | a guest's desk of the next number: [`Fault`] |
-//! | `Hall::act` | takes all entries in, and replies to a line in that world: [`Reply`], [`Fault`] |
+//! | `Hall::act` | takes all entries in, and replies to a parsed line in that world: [`Reply`], [`Fault`] |
 //! | `Desk::see`, `see_to` | takes in all entries that are found, or those of the first so many |
-//! | `Desk::ask`, `ask_with` | the answer to a line by exactly what the desk has seen; the guide by several workers |
-//! | `Hall::act_on`, `Desk::ask_on`, `ask_on_with` | the same for what a line says, where it was parsed before |
+//! | `Desk::ask`, `ask_with` | answers a parsed line by exactly what the desk has seen; `ask_with` by several workers |
 //! | `Desk::take_told` | the lines that tell what others did, each once |
 //! | `Desk::learn`, `guest` | knows what another desk knows; is a guest's desk again |
 //! | `Desk::number`, `seen`, `accepted_count` | its number, and how many entries it has seen and made |
 //! | `Hall::reader` | a [`Reader`], which reads the entries in order and makes none |
 //! | `Hall::close` | the one history that the desks made, [`Settled`], or all of it back: [`CloseFault`] |
-//! | `Solo::open`, `act`, `ask`, `act_on`, .. | the same for one caller, who begins as the wizard |
+//! | `Solo::open`, `act`, `ask`, .. | these for one caller, who begins as the wizard |
 //!
 //! ```text
 //! let hall = NewHall::open(alloc, 65536)?.with_name::<J>();
 //! let mut desk = hall.desk(&rt)?;
-//! let reply = hall.act(&rt, &mut desk, "connect wizard")?; // Became { version: 0, text: "welcome #1" }
-//! let answer = desk.ask(&hall, "route to #0")?; // its text is "route #0 to #0 cost 0 by nothing"
+//! let line = parse(alloc, "connect wizard")?;
+//! let reply = hall.act(&rt, &mut desk, &line)?; // Became { version: 0, text: "welcome #1" }
+//! let line = parse(alloc, "route to #0")?;
+//! let answer = desk.ask(&hall, &line)?; // its text is "route #0 to #0 cost 0 by nothing"
 //! ```
 //!
 //! A desk and its hall fit by their types: a function that opens a hall picks the name where it calls the one that goes

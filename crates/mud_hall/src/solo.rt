@@ -9,7 +9,6 @@ ghost use Rattle.mud_roads.specs.Passable.{IsTraveller};
 ghost use Rattle.mud_world.specs.declared.limits.TheConstants.{MOST_ENTRIES};
 ghost use Rattle.mud_chron.specs.inner.Texts.{written_text};
 ghost use Rattle.mud_words.specs.Line.{line_of};
-ghost use Rattle.mud_words.specs.Parse.{parse_of};
 ghost use Rattle.mud_rules.specs.Outcome.{IsLawful};
 ghost use Rattle.mud_rules.specs.inner.Outcome.{IsJourney};
 ghost use Rattle.mud_rules.specs.Replies.{reply_text};
@@ -27,11 +26,11 @@ use crate::guide::{Through, by_workers};
 use crate::reply::Reply;
 use crate::texts::history_answer;
 use mud_chron::Entry;
-use mud_guide::Answer;
+use mud_guide::{Answer, Workers};
 use mud_roads::Traveller;
 use mud_rules::{Journey, Verdict, decide, refusal_text, reply_text, welcome_text};
 use mud_search::OpenGate;
-use mud_words::{Parsed, parse};
+use mud_words::Parsed;
 use mud_world::{Change, World};
 use std::alloc::{AllocError, Global};
 use std::marker::Model;
@@ -94,20 +93,9 @@ impl Solo {
         self.workers = workers;
     }
 
-    /// Replies to a line, as `Hall::act`. A change is made, or it is `HistoryFull`; after a fault the
-    /// desk is as it was.
-    pub fn act(&mut self, line: &str) -> Result<Reply, Fault>
-        ensures capacity { self.new.capacity ≡ self.old.capacity }
-        ensures replies { Replies self.old.capacity self.old.state (parse_of line.now) (reply_shown result)
-            self.new.state }
-        ensures stored { IfErr result (λ f. f ≢ Fault.Unpublished) }
-    {
-        let said = parse(self.alloc, line)?;
-        self.act_on(&said)
-    }
-
-    /// Acts on what a line says, as [`Solo::act`] on the line.
-    pub fn act_on(&mut self, said: &Parsed) -> Result<Reply, Fault>
+    /// Replies to what a line says, as `Hall::act`. A change is made, or it is `HistoryFull`; after a fault the desk is
+    /// as it was.
+    pub fn act(&mut self, said: &Parsed) -> Result<Reply, Fault>
         ensures capacity { self.new.capacity ≡ self.old.capacity }
         ensures replies { Replies self.old.capacity self.old.state (line_of said.now) (reply_shown result)
             self.new.state }
@@ -152,7 +140,7 @@ impl Solo {
         ensures limit { result ≤ MOST_ENTRIES }
     {
         // for the prover: reading the field says that the history has at most 65,536 entries
-        let _capacity = self.capacity;
+        let _known = self.capacity;
         self.history.len() as u32
     }
 
@@ -207,29 +195,9 @@ impl Solo {
         Ok(())
     }
 
-    /// Answers a line, as `Desk::ask_with` at an open gate.
-    pub fn ask<R: Threads + Wait + Sync>(&self, rt: &R, line: &str) -> Result<Answer, AllocError>
-        ensures { IfOk result (λ a. Answers self.now.state (parse_of line.now) (answer_shown a)) }
-    {
-        let said = parse(self.alloc, line)?;
-        let (workers, version, mut traveller) = (self.workers, self.version(), None);
-        match respond(
-            rt,
-            workers,
-            self.alloc,
-            &self.world,
-            version,
-            self.player,
-            &mut traveller,
-            &said,
-        )? {
-            Some(answer) => Ok(answer),
-            None => self.told_history(),
-        }
-    }
-
-    /// Answers what a line says, as [`Solo::ask`] the line. What is open to its player is kept for the next route.
-    pub fn ask_on<R: Threads + Wait + Sync>(
+    /// Answers what a line says, as `Desk::ask_with` at an open gate. What is open to its player is kept for the next
+    /// route.
+    pub fn ask<R: Threads + Wait + Sync>(
         &mut self,
         rt: &R,
         said: &Parsed,
@@ -237,17 +205,14 @@ impl Solo {
         ensures same { self.new ≡ self.old }
         ensures answers { IfOk result (λ a. Answers self.old.state (line_of said.now) (answer_shown a)) }
     {
-        let (workers, version, traveller) = (self.workers, self.version(), &mut self.traveller);
-        match respond(
+        let by = Workers {
             rt,
-            workers,
-            self.alloc,
-            &self.world,
-            version,
-            self.player,
-            traveller,
-            said,
-        )? {
+            count: self.workers as usize,
+            gate: &OpenGate,
+        };
+        let (alloc, version, player) = (self.alloc, self.version(), self.player);
+        let (world, traveller) = (&self.world, &mut self.traveller);
+        match respond(&by, alloc, world, version, player, traveller, said)? {
             Some(answer) => Ok(answer),
             None => self.told_history(),
         }
@@ -292,8 +257,7 @@ fn apply(history: &mut Vec<Entry>, world: &mut World, change: &Change) -> Result
 // Answers what a line says at the version of a world; nothing where it asks for the history. What is open to a player
 // who asks for a route is kept in `traveller`.
 fn respond<R: Threads + Wait + Sync>(
-    rt: &R,
-    workers: u32,
+    by: &Workers<'_, R, OpenGate>,
     alloc: Global,
     world: &World,
     version: u32,
@@ -308,8 +272,7 @@ fn respond<R: Threads + Wait + Sync>(
     ensures response { IfOk result
         (IsResponse world.now version (Some player) (decision world.now (Some player) (line_of said.now))) }
 {
-    let workers = workers as usize;
-    let by = Through {
+    let through = Through {
         find: |alloc: Global, world: &World, version: u32, player: u32, traveller: Option<
             &Traveller,
         >, journey: &Journey| -> Result<Answer, AllocError>
@@ -318,11 +281,15 @@ fn respond<R: Threads + Wait + Sync>(
                 × IsJourney world.now journey.now }
             ensures version { IfOk result (λ a. a.version ≡ version) }
             ensures guided { IfOk result (IsGuided world.now version (Some player) journey.now) }
-        {
-            by_workers(
-                rt, workers, &OpenGate, alloc, world, version, player, traveller, journey,
-            )
-        },
+        { by_workers(by, alloc, world, version, player, traveller, journey) },
     };
-    answering::respond(&by, alloc, world, version, Some(player), traveller, said)
+    answering::respond(
+        &through,
+        alloc,
+        world,
+        version,
+        Some(player),
+        traveller,
+        said,
+    )
 }

@@ -22,7 +22,8 @@ pub(crate) fn history_answer(alloc: Global, history: &[Entry]) -> Result<String,
     Ok(without_last_line_end(text))
 }
 
-/// The same of the entries that a replica knows, which stays as it was. They are not copied.
+/// The answer to `@history`, written from the entries that a replica knows. They are not copied, and the replica stays
+/// as it was.
 pub(crate) fn known_answer(
     alloc: Global,
     row: &Row,

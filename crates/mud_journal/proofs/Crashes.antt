@@ -22,10 +22,11 @@ use Rattle.mud_chron.proofs.Zeros.{journal_has_no_zeros}
 use Rattle.mud_chron.proofs.Fronts as fronts
 use Rattle.mud_journal.specs.declared.fault.OpenFault.TheVariants as fault
 use Rattle.mud_journal.specs.Disk.{AreThere}
-use Rattle.mud_journal.specs.Found.{up_to_zero, HasJournal, Finds}
+use Rattle.mud_chron.specs.Zeros.{up_to_zero}
+use Rattle.mud_journal.specs.Found.{HasJournal, Finds}
 use Rattle.mud_journal.specs.Laws.{IsLeftOf, IsAlwaysRead, NothingIsLost, WhateverFollows}
 use Rattle.mud_journal.specs.OpenFaults.{IsRefusedAs}
-use Rattle.mud_journal.proofs.Zeros.{to_zero, past, behind_text}
+use Rattle.mud_chron.proofs.BeforeZero.{to_zero, past, behind_text}
 use Rattle.mud_journal.proofs.Finding.{head_text, blank_begins_nothing}
 
 -- a front of a text that has at least so many bytes

@@ -21,9 +21,10 @@ use Rattle.mud_chron.specs.Fronts.{Recovers, EndsInHead, EndsInLine}
 use Rattle.mud_chron.proofs.Zeros.{journal_has_no_zeros}
 use Rattle.mud_journal.specs.declared.fault.OpenFault.{OpenFault}
 use Rattle.mud_journal.specs.declared.fault.OpenFault.TheVariants as fault
-use Rattle.mud_journal.specs.Found.{up_to_zero, IsBlank, HasJournal, Finds}
+use Rattle.mud_chron.specs.Zeros.{up_to_zero}
+use Rattle.mud_journal.specs.Found.{IsBlank, HasJournal, Finds}
 use Rattle.mud_journal.specs.OpenFaults.{IsRefusedIn, IsRefusedAs, IsUnfoundAs}
-use Rattle.mud_journal.proofs.Zeros.{HasNoZero, begin, behind_text}
+use Rattle.mud_chron.proofs.BeforeZero.{HasNoZero, begin, behind_text}
 
 -- ---- the first line
 

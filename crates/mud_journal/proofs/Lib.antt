@@ -1,5 +1,4 @@
 mod Grown
 pub mod Disks
-mod Zeros
 mod Finding
 mod Crashes

@@ -1,15 +1,11 @@
 -- What is found in the bytes of a file: a journal, or none yet.
-use Rattle.std.specs.Prelude.{◌≡◌, ◌⊎◌, ◌==◌, if◌then◌else◌, ℕ, List, [], ◌∷◌, ◌++◌, length, take, drop, All}
+use Rattle.std.specs.Prelude.{◌≡◌, ◌⊎◌, ℕ, List, [], ◌++◌, length, take, drop, All}
 use Rattle.mud_chron.specs.declared.format.Format.TheVariants.{Two}
 use Rattle.mud_chron.specs.Entry.{Entry}
 use Rattle.mud_chron.specs.Text.{line_feed, head_line, journal_text}
 use Rattle.mud_chron.specs.History.{AreEntriesOf}
+use Rattle.mud_chron.specs.Zeros.{up_to_zero}
 use Rattle.mud_key.specs.Lines.{HasNoLineFeed}
-
--- the bytes before the first zero
-abbrev pub up_to_zero : List ℕ → List ℕ
-up_to_zero [] = []
-up_to_zero (b ∷ bytes) = if b == 0 then [] else (b ∷ up_to_zero bytes)
 
 -- no journal was begun: there is no line feed among as many bytes as a first line has, and behind them are only zeros
 pub record IsBlank (bytes : List ℕ) : Type 0 where

@@ -6,7 +6,8 @@ use Rattle.mud_chron.specs.Entry.{Entry}
 use Rattle.mud_chron.specs.History.{SpellsHistory}
 use Rattle.mud_chron.specs.Faults.{IsNoHistory, IsTooLong, HasOtherLine}
 use Rattle.mud_chron.specs.Fronts.{Recovers}
-use Rattle.mud_journal.specs.Found.{up_to_zero, IsBlank}
+use Rattle.mud_chron.specs.Zeros.{up_to_zero}
+use Rattle.mud_journal.specs.Found.{IsBlank}
 use Rattle.mud_journal.specs.declared.fault.OpenFault.{OpenFault}
 use Rattle.mud_journal.specs.declared.fault.OpenFault.TheVariants.{OutOfMemory, NotHistory, Whole, Old, Line, TooLong}
 use Rattle.mud_journal.specs.declared.fault.OpenFault.TheVariants.{File}

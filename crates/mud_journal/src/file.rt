@@ -53,7 +53,7 @@ fn check_kind(about: &Metadata) -> Result<(), OpenFault> {
     Ok(())
 }
 
-// The same of what has a name, if there is something: to open it may wait without end.
+// Whether what has this name, if there is something, can be a journal. It is not opened: that may wait without end.
 fn check_name(rt: &impl Files, name: &str) -> Result<(), OpenFault> {
     match fs::metadata(rt, name) {
         Ok(about) => check_kind(&about),

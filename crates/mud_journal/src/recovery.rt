@@ -8,13 +8,14 @@ ghost use Rattle.mud_chron.specs.declared.format.Format.TheVariants.{Two};
 ghost use Rattle.mud_chron.specs.Text.{journal_text};
 ghost use Rattle.mud_chron.specs.Faults.{IsNoHistory};
 ghost use Rattle.mud_chron.specs.Fronts.{Recovers, HasFrontFault};
-ghost use Rattle.mud_journal.specs.Found.{up_to_zero, IsBlank, Finds};
+ghost use Rattle.mud_chron.specs.Zeros.{up_to_zero};
+ghost use Rattle.mud_journal.specs.Found.{IsBlank, Finds};
 ghost use Rattle.mud_journal.specs.OpenFaults.{IsRefusedIn, IsRefusedAs, IsUnfoundAs};
 
 use crate::disk::Disk;
 use crate::fault::OpenFault;
 use crate::journal::Found;
-use mud_chron::{ChronFault, Entry, Format, Front, read_front, read_history};
+use mud_chron::{ChronFault, Entry, Format, Front, before_zero, read_front, read_history};
 use mud_key::codes::LF;
 use std::alloc::Global;
 use std::io::{ErrorKind, Read};
@@ -38,18 +39,6 @@ fn is_blank(bytes: &[u8]) -> bool
     true
 }
 
-// The bytes before the first zero.
-fn before_zero(bytes: &[u8]) -> &[u8]
-    ensures { result.now ≡ up_to_zero bytes.now }
-{
-    for (i, b) in bytes.iter().enumerate() {
-        if *b == 0 {
-            return &bytes[..i];
-        }
-    }
-    bytes
-}
-
 // The fault of bytes that are no journal cut at a byte.
 fn refusal(alloc: Global, bytes: &[u8], fault: ChronFault) -> OpenFault
     requires { fault ≢ ChronFault.OutOfMemory → HasFrontFault bytes.now fault }
@@ -62,7 +51,9 @@ fn refusal(alloc: Global, bytes: &[u8], fault: ChronFault) -> OpenFault
         },
         ChronFault::TooLong => OpenFault::TooLong,
         ChronFault::NotHistory => OpenFault::NotHistory,
-        _ => OpenFault::OutOfMemory,
+        ChronFault::OutOfMemory => OpenFault::OutOfMemory,
+        // a prefix is not asked for its end, nor whether its changes are legal
+        ChronFault::NoEnd | ChronFault::BadChange(_) => unreachable!(),
     }
 }
 

@@ -1,10 +1,9 @@
 //! `mud_keep`: recovers, shortens, shows and draws the history of a world.
 //!
-//! `mud_keep recover JOURNAL` prints the history that a journal holds, `mud_keep shorten HISTORY` a shorter history of
-//! the same world, `mud_keep show HISTORY` the world as a table, and
-//! `mud_keep map HISTORY [PROOF]` its rooms and exits as a graph. With `--journal` a journal is read in place of a
-//! history. What is told beside the text goes to standard error, and the status says whether the file could be read (0)
-//! or not (2). docs/KEEPING.md has the lines.
+//! `mud_keep recover JOURNAL` prints the history that a journal holds, `mud_keep shorten HISTORY` a shorter one that
+//! leads to the same world, `mud_keep show HISTORY` the world as a table, and `mud_keep map HISTORY [PROOF]` its rooms
+//! and exits as a graph. With `--journal` a journal is read in place of a history. What is told beside the text goes to
+//! standard error, and the status says whether the file could be read (0) or not (2). docs/KEEPING.md has the lines.
 #![tactic(auto)]
 
 mod input;
@@ -12,11 +11,11 @@ mod unkept;
 
 use crate::input::read_input;
 use crate::unkept::Unkept;
-use mud_command::{CommandFault, Keeping, KeptFile, Wish, keeping_of, show, words_of};
-use mud_ends::Sink;
-use mud_keeping::{
+use mud_cli::{CommandFault, Keeping, KeptFile, Wish, keeping_of, show, words_of};
+use mud_compact::{
     Answer, KeptFault, Note, TextKind, front_text, recovered_text, shorter_text, world_table,
 };
+use mud_io::Sink;
 use mud_map::{map_of, mapped_with};
 use std::alloc::Global;
 use std::io;

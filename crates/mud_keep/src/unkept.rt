@@ -2,7 +2,7 @@
 
 use mud_cert::CertFault;
 use mud_chron::ChronFault;
-use mud_keeping::KeptFault;
+use mud_compact::KeptFault;
 use mud_map::NoMap;
 use thiserror::Error;
 

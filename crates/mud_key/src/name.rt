@@ -59,7 +59,7 @@ impl Name {
         ensures { IfOk result (λ name. name ≡ self.now) }
     {
         // for the prover: reading the field says that the text is a name
-        let _ = &self.text;
+        let _known = &self.text;
         Ok(Name {
             text: self.text.clone()?,
         })

@@ -7,10 +7,10 @@ use Rattle.mud_cert.specs.declared.fault.CertFault.TheVariants.{BadLine}
 use Rattle.mud_cert.specs.Certificate.{Certificate, IsCertificate}
 use Rattle.mud_cert.specs.Text.{cert_text}
 use Rattle.mud_cert.specs.Faults.{IsBadLine}
-use Rattle.mud_verdict.specs.Finding.{without_returns}
-use Rattle.mud_keeping.specs.declared.reading.TextKind.{TextKind}
-use Rattle.mud_keeping.specs.Recovery.{KeepsEntries}
-use Rattle.mud_keeping.specs.Answer.{KeepsNoWorld}
+use Rattle.mud_checker.specs.Finding.{without_returns}
+use Rattle.mud_compact.specs.declared.reading.TextKind.{TextKind}
+use Rattle.mud_compact.specs.Recovery.{KeepsEntries}
+use Rattle.mud_compact.specs.Answer.{KeepsNoWorld}
 use Rattle.mud_map.specs.Map.{map_text, drawing_of, blank}
 use Rattle.mud_map.specs.declared.mapping.NoMap.{NoMap}
 use Rattle.mud_map.specs.declared.mapping.NoMap.TheVariants.{History, Proof, Version}

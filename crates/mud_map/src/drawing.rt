@@ -6,7 +6,7 @@ ghost use Rattle.std.specs.List.{flat_map};
 ghost use Rattle.std.specs.Option.{option_map_or};
 ghost use Rattle.mud_world.specs.State.{record_at};
 ghost use Rattle.mud_key.specs.Printed.{number_text};
-ghost use Rattle.mud_map.specs.Map.{drawing, title_text, lock_text, cost_text, label_text, room_text, exit_text};
+ghost use Rattle.mud_map.specs.Map.{title_text, lock_text, cost_text, label_text, room_text, exit_text};
 ghost use Rattle.mud_map.specs.Map.{meeting_text, label_part, walks, is_walked, walk_text, ends_text, node_text};
 ghost use Rattle.mud_map.specs.Map.{edge_text, node_of, edge_of, map_text, meeting_of, drawing_of, blank};
 
@@ -17,6 +17,7 @@ use mud_key::{Key, print};
 use mud_roads::Label;
 use mud_world::{Kind, Passage, Record, World};
 use std::alloc::{AllocError, Global};
+use std::marker::Model;
 
 fn push(out: &mut Vec<u8>, text: &str) -> Result<(), AllocError>
     ensures { OnOk result (out.new.items ≡ out.old.items ++ text.now) }
@@ -99,10 +100,18 @@ fn push_labels(out: &mut Vec<u8>, room: u32, members: &[Member]) -> Result<(), A
 }
 
 // What is drawn into a map.
-#[derive(Clone, Copy)]
+#[derive(Drop)]
 struct Drawn<'a> {
     members: &'a [Member],
     meeting: Option<u32>,
+}
+
+impl<'a> Model for Drawn<'a> {
+    ghost use Rattle.mud_map.specs.Map.{Drawing, drawing};
+
+    ghost Value = { Drawing };
+
+    ghost view = { λ m. drawing m.members.now m.meeting };
 }
 
 // What is read in a room.
@@ -164,12 +173,12 @@ fn push_label_part(out: &mut Vec<u8>, label: &[u8]) -> Result<(), AllocError>
 fn push_node(
     alloc: Global,
     out: &mut Vec<u8>,
-    drawn: Drawn<'_>,
+    drawn: &Drawn<'_>,
     number: u32,
     kept: &Record,
 ) -> Result<(), AllocError>
     ensures { OnOk result (out.new.items
-        ≡ out.old.items ++ node_text (drawing drawn.entry.members.now drawn.entry.meeting) number kept.now) }
+        ≡ out.old.items ++ node_text drawn.now number kept.now) }
 {
     let label = room_label(alloc, drawn.members, number, kept)?;
     push_decimal(out, number)?;
@@ -224,14 +233,14 @@ fn push_ends(out: &mut Vec<u8>, passage: Passage) -> Result<(), AllocError>
 fn push_edge(
     alloc: Global,
     out: &mut Vec<u8>,
-    drawn: Drawn<'_>,
+    drawn: &Drawn<'_>,
     number: u32,
     kept: &Record,
     passage: Passage,
 ) -> Result<(), AllocError>
     ensures { OnOk result (out.new.items
         ≡ out.old.items
-        ++ edge_text (drawing drawn.entry.members.now drawn.entry.meeting) number kept.now passage) }
+        ++ edge_text drawn.now number kept.now passage) }
 {
     let label = exit_label(alloc, number, kept, passage)?;
     push_ends(out, passage)?;
@@ -245,12 +254,12 @@ fn push_edge(
 fn push_room(
     alloc: Global,
     out: &mut Vec<u8>,
-    drawn: Drawn<'_>,
+    drawn: &Drawn<'_>,
     number: u32,
     kept: &Record,
 ) -> Result<(), AllocError>
     ensures { OnOk result (out.new.items
-        ≡ out.old.items ++ node_of (drawing drawn.entry.members.now drawn.entry.meeting) number kept.now) }
+        ≡ out.old.items ++ node_of drawn.now number kept.now) }
 {
     match kept.kind {
         Kind::Room => push_node(alloc, out, drawn, number, kept),
@@ -262,12 +271,12 @@ fn push_room(
 fn push_exit(
     alloc: Global,
     out: &mut Vec<u8>,
-    drawn: Drawn<'_>,
+    drawn: &Drawn<'_>,
     number: u32,
     kept: &Record,
 ) -> Result<(), AllocError>
     ensures { OnOk result (out.new.items
-        ≡ out.old.items ++ edge_of (drawing drawn.entry.members.now drawn.entry.meeting) number kept.now) }
+        ≡ out.old.items ++ edge_of drawn.now number kept.now) }
 {
     match kept.kind.passage() {
         Some(passage) => push_edge(alloc, out, drawn, number, kept, passage),
@@ -280,12 +289,12 @@ fn push_room_at(
     alloc: Global,
     out: &mut Vec<u8>,
     world: &World,
-    drawn: Drawn<'_>,
+    drawn: &Drawn<'_>,
     number: u32,
 ) -> Result<(), AllocError>
     ensures { OnOk result (out.new.items
         ≡ out.old.items
-        ++ option_map_or (node_of (drawing drawn.entry.members.now drawn.entry.meeting) number)
+        ++ option_map_or (node_of drawn.now number)
         (record_at world.now number) []) }
 {
     match world.get(number) {
@@ -299,12 +308,12 @@ fn push_exit_at(
     alloc: Global,
     out: &mut Vec<u8>,
     world: &World,
-    drawn: Drawn<'_>,
+    drawn: &Drawn<'_>,
     number: u32,
 ) -> Result<(), AllocError>
     ensures { OnOk result (out.new.items
         ≡ out.old.items
-        ++ option_map_or (edge_of (drawing drawn.entry.members.now drawn.entry.meeting) number)
+        ++ option_map_or (edge_of drawn.now number)
         (record_at world.now number) []) }
 {
     match world.get(number) {
@@ -318,11 +327,11 @@ fn push_rooms(
     alloc: Global,
     out: &mut Vec<u8>,
     world: &World,
-    drawn: Drawn<'_>,
+    drawn: &Drawn<'_>,
 ) -> Result<(), AllocError>
     ensures { OnOk result (out.new.items
         ≡ out.old.items
-        ++ flat_map (λ e. node_of (drawing drawn.entry.members.now drawn.entry.meeting) e.0 e.1) world.now.objects) }
+        ++ flat_map (λ e. node_of drawn.now e.0 e.1) world.now.objects) }
 {
     for number in 0..world.next_number() {
         push_room_at(alloc, out, world, drawn, number)?;
@@ -335,11 +344,11 @@ fn push_exits(
     alloc: Global,
     out: &mut Vec<u8>,
     world: &World,
-    drawn: Drawn<'_>,
+    drawn: &Drawn<'_>,
 ) -> Result<(), AllocError>
     ensures { OnOk result (out.new.items
         ≡ out.old.items
-        ++ flat_map (λ e. edge_of (drawing drawn.entry.members.now drawn.entry.meeting) e.0 e.1) world.now.objects) }
+        ++ flat_map (λ e. edge_of drawn.now e.0 e.1) world.now.objects) }
 {
     for number in 0..world.next_number() {
         push_exit_at(alloc, out, world, drawn, number)?;
@@ -348,9 +357,9 @@ fn push_exits(
 }
 
 // The graph of the world.
-fn drawn_map(alloc: Global, world: &World, drawn: Drawn<'_>) -> Result<Vec<u8>, AllocError>
+fn drawn_map(alloc: Global, world: &World, drawn: &Drawn<'_>) -> Result<Vec<u8>, AllocError>
     ensures { IfOk result (λ out. out.items
-        ≡ map_text world.now (drawing drawn.entry.members.now drawn.entry.meeting)) }
+        ≡ map_text world.now drawn.now) }
 {
     let mut out = Vec::new(alloc);
     push(&mut out, "digraph world {\nnode [shape=box];\n")?;
@@ -378,12 +387,12 @@ pub fn map(alloc: Global, world: &World) -> Result<Vec<u8>, AllocError>
         members: &[],
         meeting: None,
     };
-    drawn_map(alloc, world, drawn)
+    drawn_map(alloc, world, &drawn)
 }
 
-/// The same with what a certificate claims drawn in: the costs of its labels in the rooms, the exits of its walks in
-/// red, and the room of its meeting with a second line around it. Nothing says here that the certificate is valid. The
-/// only error is out of memory.
+/// The map of a world with the claims of a certificate drawn in: the costs of its labels in the rooms, the exits of its
+/// walks in red, and the room of its meeting with a second line around it. Nothing here says that the certificate is
+/// valid. The only error is out of memory.
 pub fn map_with(alloc: Global, world: &World, cert: &Cert) -> Result<Vec<u8>, AllocError>
     ensures { IfOk result (λ out. out.items ≡ map_text world.now (drawing_of cert.now)) }
 {
@@ -391,5 +400,5 @@ pub fn map_with(alloc: Global, world: &World, cert: &Cert) -> Result<Vec<u8>, Al
         members: cert.members(),
         meeting: meeting_of(cert.conclusion()),
     };
-    drawn_map(alloc, world, drawn)
+    drawn_map(alloc, world, &drawn)
 }

@@ -5,16 +5,16 @@ ghost use Rattle.mud_chron.specs.Replay.{changes_of, AreLegal};
 ghost use Rattle.mud_cert.specs.Certificate.{IsCertificate};
 ghost use Rattle.mud_cert.specs.Text.{cert_text};
 ghost use Rattle.mud_cert.specs.Faults.{IsBadLine};
-ghost use Rattle.mud_verdict.specs.Finding.{without_returns};
-ghost use Rattle.mud_keeping.specs.Recovery.{KeepsEntries};
-ghost use Rattle.mud_keeping.specs.Answer.{KeepsNoWorld};
+ghost use Rattle.mud_checker.specs.Finding.{without_returns};
+ghost use Rattle.mud_compact.specs.Recovery.{KeepsEntries};
+ghost use Rattle.mud_compact.specs.Answer.{KeepsNoWorld};
 ghost use Rattle.mud_map.specs.MapResult.{IsMap, IsMapWith, HasNoMap};
 
 use crate::drawing::{map, map_with};
 use mud_cert::{Cert, CertFault, read};
+use mud_checker::without_returns;
 use mud_chron::{ChronFault, replay};
-use mud_keeping::{Kept, KeptFault, TextKind, read_kept};
-use mud_verdict::without_returns;
+use mud_compact::{Kept, KeptFault, TextKind, read_kept};
 use std::alloc::{AllocError, Global};
 
 /// Why there is no map.
@@ -31,7 +31,7 @@ pub enum NoMap {
 impl From<AllocError> for NoMap {
     ghost use Rattle.std.specs.Prelude.{◌≡◌};
     ghost use Rattle.mud_chron.specs.declared.fault.ChronFault.TheVariants.{OutOfMemory};
-    ghost use Rattle.mud_keeping.specs.declared.fault.KeptFault.TheVariants.{Text};
+    ghost use Rattle.mud_compact.specs.declared.fault.KeptFault.TheVariants.{Text};
     ghost use Rattle.mud_map.specs.declared.mapping.NoMap.TheVariants.{History};
 
     ghost from_gives = { λ _ e. e ≡ History (Text OutOfMemory) };

@@ -1,4 +1,4 @@
--- The same pieces by a grammar: each has its spellings, and the rest is less than a whole one.
+-- The pieces of an input by a grammar: each has its spellings, and the rest is less than a whole one.
 use Rattle.std.specs.Prelude.{ℕ, List, [], ◌∷◌, ◌++◌, ◌==◌, true, false, ◌≡◌, ◌≢◌, ◌||◌, Bool}
 use Rattle.mud_nvt.specs.declared.codes.TheConstants.{IAC, SE, SB, WILL, WONT, DO, DONT}
 use Rattle.mud_nvt.specs.declared.telnet.Piece.{Piece}

@@ -92,7 +92,7 @@ impl Traveller {
         Ok(steps)
     }
 
-    /// The same, as he knows them since he was made. It takes no memory and does not look at the
+    /// The open exits that leave a room, as he knew them when he was made. It takes no memory and does not look at the
     /// world.
     pub fn steps_from(&self, room: u32) -> &[Step]
         ensures { result.now ≡ known_roads self.now room }

@@ -77,8 +77,7 @@ impl Pass {
         );
     }
 
-    /// Knows from then on what the one of the two that knows more knew, of which what the other
-    /// knew is the beginning. The other pass stays as it was. It takes no memory.
+    /// Takes over the longer of the prefixes that the two know. The other pass stays as it was. It takes no memory.
     pub fn learn(&mut self, other: &mut Pass)
         requires { self.old.row ≡ other.old.row }
         ensures other_same { other.new ≡ other.old }

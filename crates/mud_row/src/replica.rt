@@ -220,7 +220,7 @@ impl Replica {
         ensures err { OnErr result (string_bytes out.new ≡ string_bytes out.old) }
     {
         // for the prover: `known` says that they are at most 65,536
-        let _ = self.pass.known();
+        let _known = self.pass.known();
         write_text(alloc, row, &mut self.pass, out)
     }
 

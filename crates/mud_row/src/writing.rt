@@ -29,7 +29,7 @@ pub(crate) fn write_line(
     ensures err { OnErr result (string_bytes out.new ≡ string_bytes out.old) }
 {
     // for the prover: `known` says that they are at most 65,536, so that `n + 1` fits
-    let _ = pass.known();
+    let _known = pass.known();
     match row.entry(pass, n + 1) {
         Some(entry) => write_entry(alloc, n + 1, entry, out),
         None => unreachable!(),

@@ -75,6 +75,6 @@ candidates w player =
 abbrev pub local_match : State → ℕ → List ℕ → Result ℕ Match
 local_match w player text = match_with w player (candidates w player) text
 
--- the same with all objects that pass the test as candidates
+-- the object that a text means, with all objects that pass the test as candidates
 abbrev pub match_among : (ℕ → Bool) → State → ℕ → List ℕ → Result ℕ Match
 match_among test w player text = match_with w player (filter test (range_with_len 0 w.next)) text

@@ -21,11 +21,12 @@ use Rattle.mud_rules.specs.inner.Outcome.{IsActor, IsQuestion}
 unfoldable pub outcome : State → Option Refusal → Change → Verdict
 outcome w own e = option_map_or Refused (lesser own (refusal w e)) (Changes e)
 
--- the same for what player p does
+-- a deed of player p, or its refusal
 abbrev pub does : State → ℕ → Option Refusal → Deed → Verdict
 does w p own deed = outcome w own (record { actor = p; deed = deed })
 
--- the same for a text that may not be readable, in whose place then stands `blank` (law `whatever_is_read`: anything)
+-- what player p does with what was read. Where nothing was read, `own` refuses it, and `blank` stands in for the text
+-- (law `whatever_is_read`: any text does)
 abbrev pub does_read : {A : Type 0} → State → ℕ → Refusal → A → Option A → (A → Deed) → Verdict
 does_read w p own blank read deed = does w p (refused_if (is_none read) own) (deed (unwrap_or read blank))
 

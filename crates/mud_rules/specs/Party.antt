@@ -14,6 +14,6 @@ abbrev pub all_distinct : List ℕ → Bool
 all_distinct [] = true
 all_distinct (p ∷ ps) = not (list_any (λ q. nat_eq q p) ps) && all_distinct ps
 
--- the same as a test
+-- `IsParty` as a test
 abbrev pub is_party : List ℕ → Bool
 is_party party = nat_le 2 (length party) && (nat_le (length party) MOST_PARTY && all_distinct party)

@@ -11,14 +11,34 @@ use Rattle.mud_world.specs.declared.change.Target.{Target}
 use Rattle.mud_world.specs.declared.change.Target.TheVariants.{New, Old}
 use Rattle.mud_world.specs.declared.change.Doors.{Doors}
 use Rattle.mud_world.specs.declared.refusal.Refusal.{Refusal}
-use Rattle.mud_world.specs.Refusals.{refusal_row}
+use Rattle.mud_world.specs.declared.refusal.Refusal.TheVariants.{NotUnderstood, NoSuch, Ambiguous, WrongKind, NotHere}
+use Rattle.mud_world.specs.declared.refusal.Refusal.TheVariants.{Denied, BadName, NameTaken, BadKey, KeyNesting}
+use Rattle.mud_world.specs.declared.refusal.Refusal.TheVariants.{BadCost, RecursiveMove, LockedExit, LockedRoom}
+use Rattle.mud_world.specs.declared.refusal.Refusal.TheVariants.{LockedThing, InUse, WorldFull, PartyBad}
 use Rattle.mud_world.specs.State.{State, place_of, is_number, is_thing, destination_of}
 
 -- ---- refusals
 
 -- what is said of a refusal
 abbrev pub refusal_text : Refusal → List ℕ
-refusal_text f = (refusal_row f).1
+refusal_text NotUnderstood = codes "I couldn't understand that."
+refusal_text NoSuch = codes "There is no such thing."
+refusal_text Ambiguous = codes "Which one do you mean?"
+refusal_text WrongKind = codes "That is the wrong kind of thing."
+refusal_text NotHere = codes "That is not here."
+refusal_text Denied = codes "That is not yours."
+refusal_text BadName = codes "That text is not allowed."
+refusal_text NameTaken = codes "That name is taken."
+refusal_text BadKey = codes "That key is not understood."
+refusal_text KeyNesting = codes "That key nests too deep."
+refusal_text BadCost = codes "That cost is not allowed."
+refusal_text RecursiveMove = codes "It can't hold itself."
+refusal_text LockedExit = codes "That exit is locked."
+refusal_text LockedRoom = codes "That place is locked."
+refusal_text LockedThing = codes "That thing is locked."
+refusal_text InUse = codes "That is in use."
+refusal_text WorldFull = codes "The world is full."
+refusal_text PartyBad = codes "That party is not allowed."
 
 -- ---- accepted changes
 

@@ -67,7 +67,7 @@ fn sentence(
     Ok(line)
 }
 
-// The same, with a third name at the end.
+// A name, words, a second name, more words, a third name and a full stop.
 fn said_of(
     alloc: Global,
     who: &str,

@@ -49,7 +49,7 @@ pub fn decide(
     ensures lawful { IfOk result (IsLawful world.now player) }
 {
     // for the prover: `next_number` says that the world is sound
-    let _next = world.next_number();
+    let _known = world.next_number();
     decision(alloc, world, player, parsed)
 }
 

@@ -35,7 +35,7 @@ fn check_object(world: &World, number: u32) -> Result<u32, Miss>
     ensures number { IfOk result (λ n. n ≤ LAST_NUMBER) }
 {
     // for the prover: `next_number` says that the world is sound
-    let _next = world.next_number();
+    let _known = world.next_number();
     if world.exists(number) {
         Ok(number)
     } else {

@@ -72,7 +72,7 @@ pub fn player_match(world: &World, player: u32, text: &str) -> Result<u32, Match
     sort_match(world, Sort::Players, player, text)
 }
 
-// The same with all objects of a sort as candidates.
+// The object that a text means, with all objects of a sort as candidates.
 fn sort_match(world: &World, sort: Sort, player: u32, text: &str) -> Result<u32, Match>
     ensures { result ≡ match_among (is_sort sort world.now) world.now player text.now }
 {

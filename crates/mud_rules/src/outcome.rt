@@ -115,7 +115,7 @@ macro_rules! on_found {
     };
 }
 
-// The same with what a line gives, where there may be no memory for it.
+// What is done with what a line gives, or its refusal, or out of memory.
 macro_rules! on_given {
     ($given:expr, $object:ident => $meaning:expr) => {
         match $given {

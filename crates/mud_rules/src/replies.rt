@@ -78,7 +78,7 @@ fn about(alloc: Global, words: &str, number: u32) -> Result<String, AllocError>
     Ok(text)
 }
 
-// The same twice.
+// Words and a number, and again words and a number.
 fn about_two(
     alloc: Global,
     words: &str,

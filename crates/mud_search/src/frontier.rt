@@ -113,7 +113,7 @@ impl<J: Job> Frontier<J> {
         self.settle(task, steps)
     }
 
-    // The same; and less is left to do where the room waited or was held.
+    // Finishes the task's room as `put` does, and promises more: less is left to do where the room waited or was held.
     fn settle(&mut self, task: &Task, steps: &[Step]) -> Put
         requires steps { (t : Knowledge) → slice_get J.travellers task.now.member ≡ Some t
             → steps.now ≡ roads_of J.world t.player task.now.room }
@@ -151,7 +151,7 @@ impl<J: Job> Frontier<J> {
         ensures { IsFrontier J.world J.travellers (slot_in self.now) }
     {
         // for the prover: reading the field says what is true of every frontier
-        let _boards = &self.boards;
+        let _known = &self.boards;
     }
 
     /// How many rooms wait and how many are held. Where both are 0, the labels are the least.
@@ -196,7 +196,7 @@ impl<J: Job> Frontier<J> {
         ensures none { IfNone result (AreLeast J.world J.travellers (λ m. labels_of (slot_in self.now m))) }
     {
         // for the prover: reading the field says what is true of every frontier
-        let _boards = &self.boards;
+        let _known = &self.boards;
         match self.first() {
             Some(task) => Some(task),
             None => self.first_held(),
@@ -212,7 +212,7 @@ impl<J: Job> Frontier<J> {
         self.finish_by(travellers, Part::whole(0), &OpenGate);
     }
 
-    // The same as the first worker of a part, who passes the gate with each room.
+    // Does alone what is left to do, as the first worker of a part, who passes the gate with each room.
     pub(crate) fn finish_by<G: Gate>(&mut self, travellers: &[Traveller], part: Part, gate: &G)
         requires travellers { travellers.now ≡ J.travellers }
         requires these { All (IsTraveller J.world) J.travellers }
@@ -234,7 +234,7 @@ impl<J: Job> Frontier<J> {
         self.into_member_labels()
     }
 
-    // The same; there is a list for each member.
+    // The labels as they are, a list for each member.
     pub(crate) fn into_member_labels(self) -> Labels
         ensures labels { (m room : ℕ) → label_in result m room ≡ labels_of (slot_in self m) room }
         ensures count { length (lists_in result) ≡ length J.travellers }

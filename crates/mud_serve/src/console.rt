@@ -1,6 +1,6 @@
 //! The console: what a host types while the server runs.
 
-use mud_listen::StopSign;
+use mud_server::StopSign;
 use std::io::{Eprint, ErrorKind, Read};
 use std::rt::Runtime;
 use std::sync::Wait;

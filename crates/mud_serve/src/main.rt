@@ -1,8 +1,11 @@
 //! `mud_serve`: a server of text worlds.
 //!
 //! `mud_serve script` answers the lines of standard input; `mud_serve listen` serves players who come by Telnet or from
-//! a browser.
-//! docs/SERVER.md has the command lines and the statuses.
+//! a browser. docs/SERVER.md has the command lines and the statuses.
+//!
+//! Threads: the main thread runs the server of `mud_server`. Two more live as long as the program: one writes the log
+//! to standard error, so that no thread of the server blocks on it, and one reads the console from standard input and
+//! sets the sign that stops the server. The log's lines stand in a bounded queue under a lock; the sign is atomic.
 #![tactic(auto)]
 
 mod console;
@@ -15,8 +18,8 @@ use crate::logbook::Logbook;
 use crate::serving::{answer, listen};
 use crate::stop::Stop;
 use log::{Level, Logged};
-use mud_command::{CommandFault, Listening, Service, service_of, show, words_of};
-use mud_listen::StopSign;
+use mud_cli::{CommandFault, Listening, Service, service_of, show, words_of};
+use mud_server::StopSign;
 use std::alloc::Global;
 use std::io::{Eprint, Print};
 use std::process::ExitCode;

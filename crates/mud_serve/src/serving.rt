@@ -4,19 +4,19 @@ ghost use Rattle.std.specs.Prelude.{◌≡◌, ◌≤◌, IfOk, length, take};
 ghost use Rattle.mud_world.specs.declared.limits.TheConstants.{MOST_ENTRIES};
 ghost use Rattle.mud_chron.specs.declared.format.Format.TheVariants.{Two};
 ghost use Rattle.mud_chron.specs.Text.{journal_text};
-ghost use Rattle.mud_command.specs.Service.{AreWithin};
+ghost use Rattle.mud_cli.specs.Service.{AreWithin};
 ghost use Rattle.mud_search.specs.declared.limits.TheConstants.{MOST_WORKERS};
 
 use crate::stop::{NoPort, Stop};
 use log::Log;
 use mud_chron::Entry;
 use mud_chron::limits::MOST_DESKS;
-use mud_command::{ChosenLimits, Listening, WebListening};
-use mud_ends::{Sink, Source};
+use mud_cli::{ChosenLimits, Listening, WebListening};
+use mud_history_file::load;
+use mud_io::{Sink, Source};
 use mud_journal::{Disk, Found, find_journal};
-use mud_listen::{Doors, Site, StopSign, WebDoor, listen_journaled, listen_on};
-use mud_load::load;
 use mud_page::PAGE;
+use mud_server::{Doors, Site, StopSign, WebDoor, listen_journaled, listen_on};
 use mud_session::script;
 use std::fs::File;
 use std::io;
@@ -144,7 +144,7 @@ pub(crate) fn listen<
 >(rt: &R, listening: Listening<'_>, sign: Option<&StopSign>) -> Result<(), Stop>
     requires { AreWithin listening.limits }
 {
-    let limits = mud_listen::Limits {
+    let limits = mud_server::Limits {
         // Each session has a desk of its own.
         sessions: MOST_DESKS,
         per_address: listening.per_address,
@@ -174,7 +174,7 @@ fn keep_nothing<
 >(
     rt: &R,
     listening: Listening<'_>,
-    limits: mud_listen::Limits,
+    limits: mud_server::Limits,
     sign: Option<&StopSign>,
 ) -> Result<(), Stop>
     requires sessions { limits.sessions ≤ MOST_DESKS }
@@ -185,7 +185,7 @@ fn keep_nothing<
     let entries = load_entries(rt, listening.load)?;
     let doors = doors(rt, listening)?;
     let mut sink = Sink::new(io::writer(rt));
-    match listen_on(rt, rt.alloc(), doors, limits, entries, sign, &mut sink) {
+    match listen_on(rt, doors, limits, entries, sign, &mut sink) {
         Ok(()) => Ok(()),
         Err(fault) => Err(Stop::of_listening(&fault)),
     }
@@ -205,7 +205,7 @@ fn keep_journal<
 >(
     rt: &R,
     listening: Listening<'_>,
-    limits: mud_listen::Limits,
+    limits: mud_server::Limits,
     sign: Option<&StopSign>,
     name: &str,
 ) -> Result<(), Stop>
@@ -238,7 +238,7 @@ fn keep_entries<
 >(
     rt: &R,
     listening: Listening<'_>,
-    limits: mud_listen::Limits,
+    limits: mud_server::Limits,
     sign: Option<&StopSign>,
     entries: Vec<Entry>,
     found: Found<D>,
@@ -252,16 +252,7 @@ fn keep_entries<
 {
     let doors = doors(rt, listening)?;
     let mut sink = Sink::new(io::writer(rt));
-    match listen_journaled(
-        rt,
-        rt.alloc(),
-        doors,
-        limits,
-        entries,
-        found,
-        sign,
-        &mut sink,
-    ) {
+    match listen_journaled(rt, doors, limits, entries, found, sign, &mut sink) {
         Ok(_) => Ok(()),
         Err(fault) => Err(Stop::of_listening(&fault)),
     }

@@ -1,8 +1,8 @@
 //! Why the program stopped.
 
+use mud_history_file::Unloaded;
 use mud_journal::OpenFault;
-use mud_listen::ListenFault;
-use mud_load::Unloaded;
+use mud_server::ServerFault;
 use mud_session::ScriptFault;
 use std::io::ErrorKind;
 use thiserror::Error;
@@ -105,15 +105,15 @@ impl Stop {
     }
 
     /// Why a server ended.
-    pub(crate) fn of_listening(fault: &ListenFault) -> Stop {
+    pub(crate) fn of_listening(fault: &ServerFault) -> Stop {
         match fault {
-            ListenFault::OutOfMemory => Stop::OutOfMemory,
-            ListenFault::Write => Stop::Write,
-            ListenFault::Accept => Stop::Listen,
-            ListenFault::Settle(_) => Stop::Settle,
-            ListenFault::Load(fault) => Stop::of_load(Unloaded::of_entries(fault)),
-            ListenFault::Open(fault) => Stop::of_opening(*fault),
-            ListenFault::Journal(_) => Stop::Journal,
+            ServerFault::OutOfMemory => Stop::OutOfMemory,
+            ServerFault::Write => Stop::Write,
+            ServerFault::Accept => Stop::Listen,
+            ServerFault::Settle(_) => Stop::Settle,
+            ServerFault::Load(fault) => Stop::of_load(Unloaded::of_entries(fault)),
+            ServerFault::Open(fault) => Stop::of_opening(*fault),
+            ServerFault::Journal(_) => Stop::Journal,
         }
     }
 

@@ -12,3 +12,4 @@ pub mod ServeLemmas
 pub mod ScriptLemmas
 pub mod Ones
 pub mod Widening
+pub mod Talking

@@ -33,7 +33,7 @@ use Rattle.mud_hall.proofs.Coming.{Plain as Comes, plainly}
 use Rattle.mud_session.specs.State.{SessionState, DoorState}
 use Rattle.mud_session.specs.Session.{Case, Rests, Looks, Fails, Asks, Acts, Turn, Does, Plays}
 use Rattle.mud_session.specs.Session.{unit_of, with_version, reply_line, wire_text, answer_to, text_of}
-use Rattle.mud_session.specs.inner.Wire.{greeting}
+use Rattle.mud_session.specs.Talks.{greeting}
 use Rattle.mud_session.specs.Feeds.{Feeds, Nudges}
 use Rattle.mud_session.specs.Notices.{plain_lines, IsSaidOf, IsNotice, IsPiece, NamesUpTo}
 use Rattle.mud_session.specs.Laws.{IsToldOnce, NamesSeen}

@@ -12,7 +12,7 @@ use Rattle.mud_nvt.specs.Units.{Given, units}
 use Rattle.mud_nvt.specs.History.{StandsAfter}
 use Rattle.mud_hall.specs.Desk.{DeskState}
 use Rattle.mud_session.specs.State.{SessionState, DoorState}
-use Rattle.mud_ends.specs.Ends.{Reader, Writer, new_reader}
+use Rattle.mud_io.specs.Streams.{Reader, Writer, new_reader}
 use Rattle.mud_session.specs.Session.{TakingIn, Turn, Plays, Play, is_over, text_of}
 use Rattle.mud_session.specs.inner.Service.{Serves, ServesInPart}
 use Rattle.mud_session.specs.Script.{Script, IsWhole, IsFront, IsOpen}

@@ -1,14 +1,17 @@
 -- Laws of the definitions: what they say together.
+use mathlib.Core.List.{IsPrefix}
 use Rattle.std.specs.Prelude.{◌≡◌, ◌⊎◌, ℕ, Bool, true, false, Some, List, [], ◌∷◌, ◌++◌, map, All, length}
 use Rattle.std.specs.List.{flat_map}
 use Rattle.mud_nvt.specs.Units.{units}
 use Rattle.mud_nvt.specs.History.{StandsAfter}
 use Rattle.mud_chron.specs.Entry.{Entry}
 use Rattle.mud_hall.specs.Notices.{notices}
-use Rattle.mud_hall.specs.Desk.{DeskState}
-use Rattle.mud_hall.specs.Steps.{Call, See, Act, Ask, Told, Hall, lone_desk, opened_alone, At, IsRun}
+use Rattle.mud_hall.specs.Desk.{DeskState, TakesIn, as_guest}
+use Rattle.mud_hall.specs.Steps.{Call, See, Act, Ask, Told, Hall, lone_desk, opened_alone, At, IsRun, PerformsAll}
 use Rattle.mud_session.specs.Session.{TakesNone, Case, Rests, Looks, Fails, Asks, Acts, Turn, Play, text_of}
-use Rattle.mud_session.specs.State.{SessionState}
+use Rattle.mud_session.specs.State.{SessionState, DoorState}
+use Rattle.mud_session.specs.Feeds.{Feeds, Nudges}
+use Rattle.mud_session.specs.Talks.{IsTalk}
 use Rattle.mud_session.specs.Notices.{NamesUpTo, IsNotice}
 
 -- memory ran out for the line
@@ -52,6 +55,27 @@ pub record AreScript (capacity : ℕ) (turns : List Turn) (new : DeskState) : Ty
   pub hall : Hall
   pub run : IsRun capacity [] opened_alone (map (At 1) (all_calls turns)) hall
   pub desk : hall.desks 1 ≡ Some new
+
+-- ---- what is said from the greeting on
+
+-- a talk begins with its greeting, goes on with what comes and what others did, and loses nothing when it is sent; so
+-- what was sent is a front of the greeting and of the text of turns, and these are calls of its desk
+pub record TalksGoOn (capacity : ℕ) (greeting : List ℕ) : Type 0 where
+  pub begins : (session : SessionState) (desk : DeskState) → StandsAfter session.terminal []
+      → session.has_ended ≡ false → session.out ≡ greeting → IsTalk capacity greeting [] [] session (as_guest desk)
+  pub sends : (typed sent : List ℕ) (session : SessionState) (desk : DeskState)
+      → IsTalk capacity greeting typed sent session desk
+      → IsTalk capacity greeting typed (sent ++ session.out) (record session { out = [] }) desk
+  pub feeds : (typed sent bytes : List ℕ) (old new : SessionState) (was is : DoorState) → was.capacity ≡ capacity
+      → IsTalk capacity greeting typed sent old was.desk → Feeds TakesIn typed bytes old new was is
+      → IsTalk capacity greeting (typed ++ bytes) sent new is.desk
+  pub nudges : (typed sent : List ℕ) (old new : SessionState) (was is : DoorState) → was.capacity ≡ capacity
+      → IsTalk capacity greeting typed sent old was.desk → Nudges TakesIn old new was is
+      → IsTalk capacity greeting typed sent new is.desk
+  pub front : (typed sent : List ℕ) (session : SessionState) (desk : DeskState)
+      → (t : IsTalk capacity greeting typed sent session desk) → IsPrefix sent (greeting ++ text_of t.turns)
+  pub calls : (typed sent : List ℕ) (session : SessionState) (desk : DeskState)
+      → (t : IsTalk capacity greeting typed sent session desk) → PerformsAll capacity t.first (all_calls t.turns) desk
 
 -- ---- versions
 

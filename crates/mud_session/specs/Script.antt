@@ -3,7 +3,7 @@ use Rattle.std.specs.Prelude.{◌≡◌, ◌≤◌, ℕ, true, false, if◌then�
 use Rattle.std.specs.Io.KnownBytes.{Appends, Consumes, IsAtEnd}
 use Rattle.mud_nvt.specs.declared.codes.TheConstants.{LF}
 use Rattle.mud_nvt.specs.Units.{units}
-use Rattle.mud_ends.specs.Ends.{Reader, Writer}
+use Rattle.mud_io.specs.Streams.{Reader, Writer}
 use Rattle.mud_hall.specs.Desk.{DeskState}
 use Rattle.mud_session.specs.Session.{TakingIn, Play, is_over, text_of}
 

@@ -59,7 +59,7 @@ impl Door for Solo {
     ghost takes_in = { TakesNone };
 
     fn act<X: Threads + Wait + Sync>(&mut self, _rt: &X, line: &Parsed) -> Result<Reply, Fault> {
-        self.act_on(line)
+        Solo::act(self, line)
     }
 
     fn see(&mut self) -> Result<(), Fault> {
@@ -67,7 +67,7 @@ impl Door for Solo {
     }
 
     fn ask<X: Threads + Wait + Sync>(&mut self, rt: &X, line: &Parsed) -> Result<Answer, Fault> {
-        Ok(self.ask_on(rt, line)?)
+        Ok(Solo::ask(self, rt, line)?)
     }
 
     fn take_told(&mut self) -> Vec<String> {

@@ -1,6 +1,6 @@
 //! Laws of the definitions: each contract is a law, and its function does nothing.
 
-ghost use Rattle.mud_session.specs.Laws.{ScriptTextIsOne, IsToldOnce, all_calls, AreScript, NamesSeen};
+ghost use Rattle.mud_session.specs.Laws.{ScriptTextIsOne, IsToldOnce, all_calls, AreScript, NamesSeen, TalksGoOn};
 ghost use Rattle.mud_session.specs.Session.{Does, Turn, Plays, TakesNone};
 ghost use Rattle.mud_hall.specs.Desk.{DeskState, TakesIn};
 ghost use Rattle.mud_hall.specs.Steps.{PerformsAll, lone_desk};
@@ -41,4 +41,10 @@ pub fn turns()
 pub fn runs()
     ensures { (capacity : ℕ) (turns : List Turn) (new : DeskState) → Plays TakesNone capacity lone_desk turns new
         → AreScript capacity turns new }
+{}
+
+/// What was sent of a session at a desk of a hall is a front of its greeting and of the text of the turns that it
+/// played from a guest's desk on, whatever comes, and whenever something is sent.
+pub fn talks()
+    ensures { (capacity : ℕ) (greeting : List ℕ) → TalksGoOn capacity greeting }
 {}

@@ -7,6 +7,10 @@
 //!   `nudge`. What is to be sent is taken out by `take_out`.
 //! - A [`script`] is a session of one user over a reader and a writer.
 //!
+//! Memory: a session owns the line that is not yet whole, at most 1,000 characters, and what is to be sent; the desk
+//! belongs to the caller. No thread begins here. A call waits only where its door does: at a [`Seat`] for the
+//! lock of the hall, and for workers of a route.
+//!
 //! A question first sees, then the notices of what others did are sent, and then its answer. Another line acts, which
 //! takes in what others did too, then the notices are sent, and then the reply. An answered `quit` ends the session.
 //!

@@ -2,7 +2,7 @@
 
 ghost use Rattle.std.specs.Prelude.{◌≡◌, ℕ, ◌≤◌, ◌⊎◌, [], true, List, OnOk, OnErr, IfOk, IfErr};
 ghost use Rattle.mud_nvt.specs.History.{StandsAfter};
-ghost use Rattle.mud_ends.specs.Ends.{new_writer, new_reader};
+ghost use Rattle.mud_io.specs.Streams.{new_writer, new_reader};
 ghost use Rattle.mud_world.specs.declared.limits.TheConstants.{MOST_ENTRIES};
 ghost use Rattle.mud_hall.specs.Alone.{alone};
 ghost use Rattle.mud_hall.specs.Steps.{lone_desk};
@@ -12,8 +12,8 @@ ghost use Rattle.mud_session.specs.inner.Service.{Serves, ServesInPart};
 
 use crate::door::Door;
 use crate::session::Session;
-use mud_ends::{MOST_READS, Sink, Source};
 use mud_hall::Solo;
+use mud_io::{MOST_READS, Sink, Source};
 use std::alloc::{AllocError, Global};
 use std::io::{Read, Write};
 use std::sync::Wait;

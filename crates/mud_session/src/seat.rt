@@ -50,8 +50,8 @@ impl<'h, J: HallName> Seat<'h, J> {
         Seat::up_to(hall, desk, workers, u32::MAX)
     }
 
-    /// The same, but where it looks for what others did, or answers a question, it takes in no entry after
-    /// the `most`-th. A line that acts takes in all.
+    /// The desk at its hall, which sees no more than `most` entries: where it looks for what others did, or answers a
+    /// question, it takes in no entry after the `most`-th. A line that acts takes in all.
     pub fn up_to(hall: &'h Hall<J>, desk: Desk<J>, workers: u32, most: u32) -> Seat<'h, J>
         requires { workers ≤ MOST_WORKERS }
         ensures { result ≡ record { capacity = length J.cells; desk = desk.state; pending = pending desk } }
@@ -109,7 +109,7 @@ impl<'h, J: HallName> Door for Seat<'h, J> {
     ghost takes_in = { TakesIn };
 
     fn act<X: Threads + Wait + Sync>(&mut self, rt: &X, line: &Parsed) -> Result<Reply, Fault> {
-        self.hall.act_on(rt, &mut self.desk, line)
+        self.hall.act(rt, &mut self.desk, line)
     }
 
     fn see(&mut self) -> Result<(), Fault> {
@@ -118,8 +118,7 @@ impl<'h, J: HallName> Door for Seat<'h, J> {
 
     fn ask<X: Threads + Wait + Sync>(&mut self, rt: &X, line: &Parsed) -> Result<Answer, Fault> {
         let workers = self.workers as usize;
-        self.desk
-            .ask_on_with(rt, self.hall, line, workers, &OpenGate)
+        self.desk.ask_with(rt, self.hall, line, workers, &OpenGate)
     }
 
     fn take_told(&mut self) -> Vec<String> {

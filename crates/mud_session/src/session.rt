@@ -188,7 +188,7 @@ impl Session {
         }
     }
 
-    // The same for a line.
+    // Gives a line its turn. A blank line has none.
     fn answer_line<X: Threads + Wait + Sync, D: Door>(
         &mut self,
         rt: &X,

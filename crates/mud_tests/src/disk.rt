@@ -242,7 +242,7 @@ fn check_left(
     Ok(())
 }
 
-// The same for each length and some holes that a crash may leave.
+// Sees that all that was told is found, for each length and some holes that a crash may leave.
 fn check_crashes(
     rt: &impl Abort,
     alloc: Global,

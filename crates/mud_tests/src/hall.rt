@@ -5,7 +5,9 @@ ghost use Rattle.std.specs.Prelude.{◌≡◌, ◌≤◌};
 ghost use Rattle.mud_world.specs.declared.limits.TheConstants.{MOST_ENTRIES};
 
 use crate::histories::LAST_VERSION;
+use crate::lines::act;
 use mud_hall::{CloseFault, Desk, Fault, Hall, HallName, NewHall};
+use mud_words::parse;
 use std::alloc::{AllocError, Global};
 use std::marker::{Brand, PhantomData};
 use std::process::Abort;
@@ -15,16 +17,22 @@ use std::thread;
 use std::thread::Threads;
 
 // A desk becomes the wizard's, and then sends a line so many times.
-fn talk<J: HallName, R: Wait>(rt: &R, hall: &Hall<J>, desk: &mut Desk<J>, line: &str, count: u32) {
-    let _ = hall.act(rt, desk, "connect wizard");
+fn talk<J: HallName, R: Wait + AllocGlobal>(
+    rt: &R,
+    hall: &Hall<J>,
+    desk: &mut Desk<J>,
+    line: &str,
+    count: u32,
+) {
+    let _ = act(rt, hall, desk, "connect wizard");
     for _ in 0..count {
-        let _ = hall.act(rt, desk, line);
+        let _ = act(rt, hall, desk, line);
     }
 }
 
 // What a thread does with a hall and a desk of it, whatever their types are.
 trait Talks<H, D> {
-    fn talk<R: Wait>(rt: &R, hall: &H, desk: D, count: u32) -> D;
+    fn talk<R: Wait + AllocGlobal>(rt: &R, hall: &H, desk: D, count: u32) -> D;
 }
 
 // What it does with the hall that `J` names.
@@ -34,7 +42,7 @@ struct OfHall<J: HallName> {
 }
 
 impl<J: HallName> Talks<Hall<J>, Desk<J>> for OfHall<J> {
-    fn talk<R: Wait>(rt: &R, hall: &Hall<J>, desk: Desk<J>, count: u32) -> Desk<J> {
+    fn talk<R: Wait + AllocGlobal>(rt: &R, hall: &Hall<J>, desk: Desk<J>, count: u32) -> Desk<J> {
         let mut desk = desk;
         talk(rt, hall, &mut desk, "say hi", count);
         desk
@@ -42,17 +50,17 @@ impl<J: HallName> Talks<Hall<J>, Desk<J>> for OfHall<J> {
 }
 
 // Each desk talks, on a thread of its own.
-fn talk_all<H: Sync, D: Send + Drop, K: Talks<H, D> + Send + Sync, R: Threads + Wait + Sync>(
-    rt: &R,
-    hall: &H,
-    desks: Vec<D>,
-    count: u32,
-) -> Result<Vec<D>, AllocError> {
+fn talk_all<
+    H: Sync,
+    D: Send + Drop,
+    K: Talks<H, D> + Send + Sync,
+    R: Threads + Wait + AllocGlobal + Sync,
+>(rt: &R, hall: &H, desks: Vec<D>, count: u32) -> Result<Vec<D>, AllocError> {
     thread::map_vec(rt, desks, &|desk| K::talk(rt, hall, desk, count))
 }
 
 // So many desks.
-fn give_desks<J: HallName, R: Wait>(
+fn give_desks<J: HallName, R: Wait + AllocGlobal>(
     rt: &R,
     alloc: Global,
     hall: &Hall<J>,
@@ -66,7 +74,7 @@ fn give_desks<J: HallName, R: Wait>(
 }
 
 // So many desks, which talked at once.
-fn crowd_desks<J: HallName + Send + Sync, R: Threads + Wait + Sync>(
+fn crowd_desks<J: HallName + Send + Sync, R: Threads + Wait + AllocGlobal + Sync>(
     rt: &R,
     alloc: Global,
     hall: &Hall<J>,
@@ -87,15 +95,15 @@ fn count_accepted<J: HallName>(desks: &[Desk<J>]) -> usize {
 }
 
 // Whether a line finds the history full.
-fn is_full<J: HallName, R: Wait>(rt: &R, hall: &Hall<J>, desk: &mut Desk<J>) -> bool {
-    match hall.act(rt, desk, "say hi") {
+fn is_full<J: HallName, R: Wait + AllocGlobal>(rt: &R, hall: &Hall<J>, desk: &mut Desk<J>) -> bool {
+    match act(rt, hall, desk, "say hi") {
         Err(fault) => fault == Fault::HistoryFull,
         Ok(_) => false,
     }
 }
 
 // Closes a hall with these desks and one more; how many entries there are.
-fn close_hall<J: HallName, R: Wait>(
+fn close_hall<J: HallName, R: Wait + AllocGlobal>(
     rt: &R,
     hall: Hall<J>,
     desks: Vec<Desk<J>>,
@@ -110,7 +118,7 @@ fn close_hall<J: HallName, R: Wait>(
 }
 
 // A hall is not closed without this desk, which then finds the history full, or not; how many entries there are then.
-fn closed_at_last<J: HallName, R: Wait + Abort>(
+fn closed_at_last<J: HallName, R: Wait + AllocGlobal + Abort>(
     rt: &R,
     hall: Hall<J>,
     desks: Vec<Desk<J>>,
@@ -129,12 +137,17 @@ fn closed_at_last<J: HallName, R: Wait + Abort>(
 }
 
 // The version at which a desk answers.
-fn version<J: HallName>(hall: &Hall<J>, desk: &mut Desk<J>) -> Result<u32, Fault> {
-    Ok(desk.ask(hall, "@version")?.version)
+fn version<J: HallName, R: AllocGlobal>(
+    rt: &R,
+    hall: &Hall<J>,
+    desk: &mut Desk<J>,
+) -> Result<u32, Fault> {
+    let said = parse(rt.alloc(), "@version")?;
+    Ok(desk.ask(hall, &said)?.version)
 }
 
 // Sees that a desk answers by what it has seen, and that it sees all that another made once it looks.
-fn check_seeing<J: HallName, R: Wait + Abort>(
+fn check_seeing<J: HallName, R: Wait + AllocGlobal + Abort>(
     rt: &R,
     hall: &Hall<J>,
     maker: &mut Desk<J>,
@@ -142,14 +155,17 @@ fn check_seeing<J: HallName, R: Wait + Abort>(
 ) -> Result<(), Fault> {
     talk(rt, hall, other, "", 0);
     talk(rt, hall, maker, "@create x", 7);
-    assert!(rt; version(hall, other)? == 0 && version(hall, maker)? == 7);
+    assert!(rt; version(rt, hall, other)? == 0 && version(rt, hall, maker)? == 7);
     other.see(hall)?;
-    assert!(rt; version(hall, other)? == 7);
+    assert!(rt; version(rt, hall, other)? == 7);
     Ok(())
 }
 
 // How many entries a desk has seen that comes last to a hall, where another made seven things.
-fn seen_at_last<J: HallName, R: Wait + Abort>(rt: &R, hall: &Hall<J>) -> Result<u32, Fault> {
+fn seen_at_last<J: HallName, R: Wait + AllocGlobal + Abort>(
+    rt: &R,
+    hall: &Hall<J>,
+) -> Result<u32, Fault> {
     let mut maker = hall.desk(rt)?;
     let mut other = hall.desk(rt)?;
     check_seeing(rt, hall, &mut maker, &mut other)?;
@@ -158,7 +174,7 @@ fn seen_at_last<J: HallName, R: Wait + Abort>(rt: &R, hall: &Hall<J>) -> Result<
 
 // Sees how many lines of a crowd at a hall are accepted, and whether the history is full after them; how many entries
 // there are. Where there is no crowd, one desk sees another.
-fn check_crowd_in<J: HallName + Send + Sync, R: Threads + Wait + Sync + Abort>(
+fn check_crowd_in<J: HallName + Send + Sync, R: Threads + Wait + AllocGlobal + Sync + Abort>(
     rt: &R,
     alloc: Global,
     hall: NewHall,
@@ -182,8 +198,8 @@ fn check_crowd_in<J: HallName + Send + Sync, R: Threads + Wait + Sync + Abort>(
     }
 }
 
-// The same at a new hall.
-fn check_crowd<R: Threads + Wait + Sync + Abort>(
+// Has a crowd play at a new hall, and sees how many entries it has then.
+fn check_crowd<R: Threads + Wait + AllocGlobal + Sync + Abort>(
     rt: &R,
     alloc: Global,
     capacity: u32,

@@ -9,9 +9,9 @@ use crate::rows::same;
 use log::Log;
 use mud_chron::limits::MOST_DESKS;
 use mud_chron::{ChronFault, Entry, read_front};
-use mud_ends::Sink;
+use mud_io::Sink;
 use mud_journal::{Disk, DiskFault, Found, Journal, JournalFault, OpenFault, recover};
-use mud_listen::{Doors, Limits, ListenFault, listen_journaled};
+use mud_server::{Doors, Limits, ServerFault, listen_journaled};
 use std::alloc::{AllocError, Global};
 use std::io::Write;
 use std::net::{Ipv4Addr, Net, SocketAddr, TcpListener, TcpStream};
@@ -172,7 +172,7 @@ fn check_front(
     Ok(())
 }
 
-// The same in whatever a crash leaves of the disk.
+// Sees that it is so in whatever a crash leaves of the disk.
 fn check_fronts(
     rt: &impl Abort,
     alloc: Global,
@@ -257,24 +257,24 @@ fn serve<
         + Clock
         + Sync,
     W: Write,
->(rt: &R, telnet: TcpListener, store: &mut Store, out: &mut Sink<W>) -> Result<(), ListenFault> {
+>(rt: &R, telnet: TcpListener, store: &mut Store, out: &mut Sink<W>) -> Result<(), ServerFault> {
     let alloc = rt.alloc();
     let Ok((found, had, _)) = recover(alloc, MemoryDisk { store }, Vec::new(alloc)) else {
-        return Err(ListenFault::OutOfMemory);
+        return Err(ServerFault::OutOfMemory);
     };
     let doors = Doors { telnet, web: None };
-    match listen_journaled(rt, alloc, doors, limits(), had, found, None, out) {
+    match listen_journaled(rt, doors, limits(), had, found, None, out) {
         Ok(_) => Ok(()),
         Err(fault) => Err(fault),
     }
 }
 
 // How a server ended.
-fn end_word(served: &Result<(), ListenFault>) -> &'static str {
+fn end_word(served: &Result<(), ServerFault>) -> &'static str {
     match served {
         Ok(()) => "done",
-        Err(ListenFault::Journal(JournalFault::Disk)) => "journal fault: disk",
-        Err(ListenFault::Open(OpenFault::File(DiskFault::Failed))) => "cannot open journal",
+        Err(ServerFault::Journal(JournalFault::Disk)) => "journal fault: disk",
+        Err(ServerFault::Open(OpenFault::File(DiskFault::Failed))) => "cannot open journal",
         Err(_) => "another fault",
     }
 }
@@ -369,7 +369,7 @@ fn check_fault_of<
     check_fronts(rt, rt.alloc(), &store, entries, OF_BOB, told)
 }
 
-// The same where each call from the first to the last of these fails.
+// Sees what a session is told where each call for the disk from the first to the last of these fails in turn.
 fn check_faults<
     R: Net<Listener = TcpListener, Stream = TcpStream>
         + AllocGlobal

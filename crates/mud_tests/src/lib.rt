@@ -19,6 +19,8 @@ mod histories;
 #[cfg(test)]
 mod journal;
 #[cfg(test)]
+mod lines;
+#[cfg(test)]
 mod rows;
 #[cfg(test)]
 mod search;

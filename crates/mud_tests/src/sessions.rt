@@ -3,10 +3,12 @@
 
 ghost use Rattle.std.specs.Prelude.{◌≡◌};
 
+use crate::lines::{act, act_alone};
 use crate::rows::{push_sent, push_text, same, split_word};
-use mud_ends::{Sink, Source};
 use mud_hall::{Desk, Fault, Hall, HallName, NewHall, Reply, Solo};
+use mud_io::{Sink, Source};
 use mud_session::{Seat, Session, SessionFault, script};
+use mud_words::parse;
 use std::alloc::{AllocError, Global};
 use std::marker::Brand;
 use std::process::Abort;
@@ -22,7 +24,7 @@ struct Guest<'h, J: HallName> {
 }
 
 // A guest comes.
-fn greet<'h, J: HallName, R: Wait>(
+fn greet<'h, J: HallName, R: Wait + AllocGlobal>(
     rt: &R,
     alloc: Global,
     hall: &'h Hall<J>,
@@ -35,7 +37,7 @@ fn greet<'h, J: HallName, R: Wait>(
 }
 
 // A guest types a line; for an empty one he types nothing, and what others did is looked for.
-fn type_line<J: HallName, R: Threads + Wait + Sync>(
+fn type_line<J: HallName, R: Threads + Wait + AllocGlobal + Sync>(
     rt: &R,
     alloc: Global,
     guest: &mut Guest<'_, J>,
@@ -50,7 +52,7 @@ fn type_line<J: HallName, R: Threads + Wait + Sync>(
 }
 
 // Appends what a guest is sent for a line.
-fn push_typed<J: HallName, R: Threads + Wait + Sync>(
+fn push_typed<J: HallName, R: Threads + Wait + AllocGlobal + Sync>(
     rt: &R,
     alloc: Global,
     guest: &mut Guest<'_, J>,
@@ -81,7 +83,7 @@ const GUESTS: &str = "
 ";
 
 // Sees that the row `GUEST LINE => TEXT` is answered as it says.
-fn check_row<'h, J: HallName, R: Threads + Wait + Sync + Abort>(
+fn check_row<'h, J: HallName, R: Threads + Wait + AllocGlobal + Sync + Abort>(
     rt: &R,
     alloc: Global,
     first: &mut Guest<'h, J>,
@@ -99,8 +101,8 @@ fn check_row<'h, J: HallName, R: Threads + Wait + Sync + Abort>(
     Ok(())
 }
 
-// The same of all rows.
-fn check_guests<'h, J: HallName, R: Threads + Wait + Sync + Abort>(
+// Sees that all rows are answered as they say.
+fn check_guests<'h, J: HallName, R: Threads + Wait + AllocGlobal + Sync + Abort>(
     rt: &R,
     alloc: Global,
     first: &mut Guest<'h, J>,
@@ -114,7 +116,7 @@ fn check_guests<'h, J: HallName, R: Threads + Wait + Sync + Abort>(
 }
 
 // Two guests of a hall are sent what the rows say.
-fn play_at<J: HallName, R: Threads + Wait + Sync + Abort>(
+fn play_at<J: HallName, R: Threads + Wait + AllocGlobal + Sync + Abort>(
     rt: &R,
     alloc: Global,
     hall: &Hall<J>,
@@ -124,8 +126,8 @@ fn play_at<J: HallName, R: Threads + Wait + Sync + Abort>(
     Ok(check_guests(rt, alloc, &mut first, &mut second)?)
 }
 
-// The same in a new hall.
-fn play<J: HallName, R: Threads + Wait + Sync + Abort>(
+// Two guests of a new hall are sent what the rows say.
+fn play<J: HallName, R: Threads + Wait + AllocGlobal + Sync + Abort>(
     rt: &R,
     alloc: Global,
     hall: NewHall,
@@ -143,27 +145,37 @@ fn guests_at_one_hall(rt: HostRuntime) -> Result<(), Fail> {
 }
 
 // A desk, where one request for memory may be refused.
-fn desk<J: HallName, R: Wait>(rt: &R, hall: &Hall<J>) -> Result<Desk<J>, Fault> {
+fn desk<J: HallName, R: Wait + AllocGlobal>(rt: &R, hall: &Hall<J>) -> Result<Desk<J>, Fault> {
     match hall.desk(rt) {
         Ok(desk) => Ok(desk),
         Err(_) => hall.desk(rt),
     }
 }
 
-// The same for a line.
-fn act<J: HallName, R: Wait>(rt: &R, hall: &Hall<J>, desk: &mut Desk<J>, line: &str) {
-    if hall.act(rt, desk, line).is_err() {
-        let _ = hall.act(rt, desk, line);
+// Acts on a line, where one request for memory may be refused.
+fn act_twice<J: HallName, R: Wait + AllocGlobal>(
+    rt: &R,
+    hall: &Hall<J>,
+    desk: &mut Desk<J>,
+    line: &str,
+) {
+    if act(rt, hall, desk, line).is_err() {
+        let _ = act(rt, hall, desk, line);
     }
 }
 
 // What the wizard does that Bob hears.
-fn act_all<J: HallName, R: Wait>(rt: &R, hall: &Hall<J>, wizard: &mut Desk<J>, bob: &mut Desk<J>) {
-    act(rt, hall, wizard, "connect wizard");
-    act(rt, hall, bob, "connect Bob");
-    act(rt, hall, wizard, "say hi");
-    act(rt, hall, wizard, ":waves.");
-    act(rt, hall, wizard, "say ho");
+fn act_all<J: HallName, R: Wait + AllocGlobal>(
+    rt: &R,
+    hall: &Hall<J>,
+    wizard: &mut Desk<J>,
+    bob: &mut Desk<J>,
+) {
+    act_twice(rt, hall, wizard, "connect wizard");
+    act_twice(rt, hall, bob, "connect Bob");
+    act_twice(rt, hall, wizard, "say hi");
+    act_twice(rt, hall, wizard, ":waves.");
+    act_twice(rt, hall, wizard, "say ho");
 }
 
 // Whether it is each line once, in order; where memory is refused to the session itself it ends, with a front of them.
@@ -186,7 +198,7 @@ fn hears_each_once<J: HallName>(
 }
 
 // Whether Bob hears so what the Wizard does.
-fn is_told_once<J: HallName, R: Threads + Wait + Sync>(
+fn is_told_once<J: HallName, R: Threads + Wait + AllocGlobal + Sync>(
     rt: &R,
     alloc: Global,
     hall: &Hall<J>,
@@ -197,8 +209,8 @@ fn is_told_once<J: HallName, R: Threads + Wait + Sync>(
     Ok(hears_each_once(alloc, hall, bob)?)
 }
 
-// The same in a new hall.
-fn is_told_once_in<J: HallName, R: Threads + Wait + Sync>(
+// Whether Bob hears so in a new hall what the Wizard does.
+fn is_told_once_in<J: HallName, R: Threads + Wait + AllocGlobal + Sync>(
     rt: &R,
     alloc: Global,
     hall: NewHall,
@@ -252,23 +264,29 @@ fn push_reply(reply: &Result<Reply, Fault>, out: &mut String) -> Result<(), Allo
 }
 
 // Appends what a line that acts is replied.
-fn push_acted(solo: &mut Solo, line: &str, out: &mut String) -> Result<(), AllocError> {
-    push_reply(&solo.act(line), out)
-}
-
-// Appends what a line that asks is answered.
-fn push_asked<R: Threads + Wait + Sync>(
+fn push_acted<R: AllocGlobal>(
     rt: &R,
-    alloc: Global,
-    solo: &Solo,
+    solo: &mut Solo,
     line: &str,
     out: &mut String,
 ) -> Result<(), AllocError> {
-    push_text(alloc, solo.ask(rt, line)?.text.as_str(), out)
+    push_reply(&act_alone(rt, solo, line), out)
+}
+
+// Appends what a line that asks is answered.
+fn push_asked<R: Threads + Wait + AllocGlobal + Sync>(
+    rt: &R,
+    alloc: Global,
+    solo: &mut Solo,
+    line: &str,
+    out: &mut String,
+) -> Result<(), AllocError> {
+    let said = parse(alloc, line)?;
+    push_text(alloc, solo.ask(rt, &said)?.text.as_str(), out)
 }
 
 // Sees that a row is answered as it says.
-fn check_solo<R: Threads + Wait + Sync + Abort>(
+fn check_solo<R: Threads + Wait + AllocGlobal + Sync + Abort>(
     rt: &R,
     alloc: Global,
     solo: &mut Solo,
@@ -278,7 +296,7 @@ fn check_solo<R: Threads + Wait + Sync + Abort>(
     if let Some((asked, wanted)) = row.split_once(" => ") {
         found.clear();
         match split_word(asked) {
-            ("act", line) => push_acted(solo, line, found)?,
+            ("act", line) => push_acted(rt, solo, line, found)?,
             (_, line) => push_asked(rt, alloc, solo, line, found)?,
         }
         same(rt, asked, found.as_str(), wanted);
@@ -302,7 +320,10 @@ const LINES: &[u8] = b"@dig north|south to \"Library\"\nroute to #2\n";
 const WRITTEN: &str = "[1] dug room #2, exit #3, exit back #4;[1] route #0 to #2 cost 1 by #3;";
 
 // What a script writes.
-fn script_text<R: Threads + Wait + Sync>(rt: &R, alloc: Global) -> Result<String, Fail> {
+fn script_text<R: Threads + Wait + AllocGlobal + Sync>(
+    rt: &R,
+    alloc: Global,
+) -> Result<String, Fail> {
     let mut bytes = Vec::new(alloc);
     script(
         rt,

@@ -140,7 +140,7 @@ fn see(
     Ok(())
 }
 
-// The same in a row.
+// Sees that two new replicas of a row see what the other publishes.
 fn see_in(rt: &impl Abort, alloc: Global, row: &Row) -> Result<(), ChronFault> {
     let mut writer = Replica::new(alloc, row)?;
     let mut reader = Replica::new(alloc, row)?;

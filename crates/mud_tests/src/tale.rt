@@ -7,7 +7,7 @@ ghost use Rattle.mud_rules.specs.Outcome.{IsLawful};
 ghost use Rattle.mud_rules.specs.inner.Outcome.{IsJourney, IsQuestion};
 
 use crate::rows::{digit, push_text, same, split_word};
-use mud_guide::{Answer, meet, meet_alone, route, route_alone};
+use mud_guide::{Answer, Workers, meet, meet_alone, route, route_alone};
 use mud_rules::{
     Journey, Query, Verdict, View, decide, heard, refusal_text, reply_text, show, welcome_text,
 };
@@ -102,6 +102,15 @@ enum Guide {
     Workers(usize),
 }
 
+// This many workers, who pass an open gate.
+fn crew<R>(rt: &R, count: usize) -> Workers<'_, R, OpenGate> {
+    Workers {
+        rt,
+        count,
+        gate: &OpenGate,
+    }
+}
+
 // The answer to a journey, the version being 0: no answer's text has it.
 fn guide_by<R: Threads + Wait + Sync>(
     rt: &R,
@@ -116,19 +125,13 @@ fn guide_by<R: Threads + Wait + Sync>(
 {
     match (journey, guide) {
         (Journey::Route { to }, Guide::Alone) => route_alone(alloc, world, 0, player, *to),
-        (Journey::Route { to }, Guide::Workers(workers)) => route(
-            rt, alloc, world, 0, player, *to, workers, &OpenGate,
-        ),
+        (Journey::Route { to }, Guide::Workers(count)) => {
+            route(&crew(rt, count), alloc, world, 0, player, *to)
+        }
         (Journey::Meet(party), Guide::Alone) => meet_alone(alloc, world, 0, party.members()),
-        (Journey::Meet(party), Guide::Workers(workers)) => meet(
-            rt,
-            alloc,
-            world,
-            0,
-            party.members(),
-            workers,
-            &OpenGate,
-        ),
+        (Journey::Meet(party), Guide::Workers(count)) => {
+            meet(&crew(rt, count), alloc, world, 0, party.members())
+        }
     }
 }
 

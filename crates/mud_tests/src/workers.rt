@@ -4,6 +4,7 @@ ghost use Rattle.std.specs.Prelude.{◌≡◌};
 ghost use Rattle.mud_roads.specs.Passable.{IsTraveller};
 
 use crate::histories::WAY_ROUND;
+use crate::lines::act;
 use crate::rows::same;
 use crate::search::{CROSSING, LABELS, text_of};
 use crate::village::world;
@@ -11,6 +12,7 @@ use mud_chron::{ChronFault, read_history};
 use mud_hall::{Hall, HallName, NewHall};
 use mud_roads::Traveller;
 use mud_search::{Gate, Labels, labels, labels_alone};
+use mud_words::parse;
 use mud_world::World;
 use std::alloc::{AllocError, Global};
 use std::marker::Brand;
@@ -102,7 +104,7 @@ impl Gate for Barrier {
 }
 
 // The labels of the wizard's rooms that workers find.
-fn wizards_labels<R: Threads + Wait + Sync + Abort>(
+fn wizards_labels<R: Threads + Wait + AllocGlobal + Sync + Abort>(
     rt: &R,
     alloc: Global,
     world: &World,
@@ -114,8 +116,8 @@ fn wizards_labels<R: Threads + Wait + Sync + Abort>(
     labels(rt, alloc, world, slice::from_ref(&wizard), workers, gate)
 }
 
-// The same as a text.
-fn text_by<R: Threads + Wait + Sync + Abort>(
+// The labels that workers find, as a text.
+fn text_by<R: Threads + Wait + AllocGlobal + Sync + Abort>(
     rt: &R,
     alloc: Global,
     world: &World,
@@ -125,8 +127,8 @@ fn text_by<R: Threads + Wait + Sync + Abort>(
     text_of(alloc, &wizards_labels(rt, alloc, world, workers, gate)?)
 }
 
-// The same in the world of a history.
-fn find_labels<R: Threads + Wait + Sync + Abort>(
+// The labels that workers find in the world of a history, as a text.
+fn find_labels<R: Threads + Wait + AllocGlobal + Sync + Abort>(
     rt: &R,
     alloc: Global,
     history: &str,
@@ -137,7 +139,7 @@ fn find_labels<R: Threads + Wait + Sync + Abort>(
 }
 
 // Sees which labels workers find, and that they work at once, if there are several.
-fn check_labels<R: Threads + Wait + Sync + Abort>(
+fn check_labels<R: Threads + Wait + AllocGlobal + Sync + Abort>(
     rt: &R,
     alloc: Global,
     history: &str,
@@ -225,7 +227,7 @@ fn question(room: u32) -> &'static str {
 }
 
 // What a new desk of the wizard's is answered by workers who look for a way.
-fn ask_workers<J: HallName, R: Threads + Wait + Sync>(
+fn ask_workers<J: HallName, R: Threads + Wait + AllocGlobal + Sync>(
     rt: &R,
     hall: &Hall<J>,
     room: u32,
@@ -233,12 +235,13 @@ fn ask_workers<J: HallName, R: Threads + Wait + Sync>(
     gate: &Barrier,
 ) -> Result<String, Fail> {
     let mut desk = hall.desk(rt)?;
-    let _ = hall.act(rt, &mut desk, "connect wizard");
-    Ok(desk.ask_with(rt, hall, question(room), workers, gate)?.text)
+    let _ = act(rt, hall, &mut desk, "connect wizard");
+    let said = parse(rt.alloc(), question(room))?;
+    Ok(desk.ask_with(rt, hall, &said, workers, gate)?.text)
 }
 
-// The same in a new hall.
-fn asked_in<J: HallName, R: Threads + Wait + Sync + Abort>(
+// What a new desk of a new hall is answered by workers who look for a way.
+fn asked_in<J: HallName, R: Threads + Wait + AllocGlobal + Sync + Abort>(
     rt: &R,
     hall: NewHall,
     room: u32,
@@ -254,7 +257,7 @@ fn asked_in<J: HallName, R: Threads + Wait + Sync + Abort>(
 
 // Sees what a desk of a hall that goes on from a history answers by workers, and that these work at once, if there are
 // several.
-fn check_desk<R: Threads + Wait + Sync + Abort>(
+fn check_desk<R: Threads + Wait + AllocGlobal + Sync + Abort>(
     rt: &R,
     alloc: Global,
     history: &str,

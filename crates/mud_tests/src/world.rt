@@ -85,7 +85,7 @@ fn refusal_word(world: &World, change: &Change) -> &'static str {
     }
 }
 
-// The same of a change as it is written.
+// What is said of a change, which is given as it is written, where it is refused.
 fn refusal_of(alloc: Global, world: &World, change: &str) -> Result<&'static str, ChronFault> {
     Ok(refusal_word(world, entry(alloc, change)?.change()))
 }
@@ -122,7 +122,7 @@ const BOX: &str = "mud history 2
 end 7
 ";
 
-// The same, and the box is dropped.
+// The history of `BOX`, at whose end the box is dropped.
 const DROPPED: &str = "mud history 2
 1 1 dig #1 new \"Vault\" out \"north\"
 2 1 make #1 \"key\"

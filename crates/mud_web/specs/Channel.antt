@@ -13,7 +13,7 @@ use Rattle.mud_nvt.specs.declared.codes.TheConstants.{LF}
 use Rattle.mud_web.specs.declared.channel.TheConstants.{MOST_MESSAGE}
 use Rattle.mud_web.specs.Close.{closes_for}
 use Rattle.mud_web.specs.declared.fault.Fault.{Fault}
-use Rattle.mud_web.specs.declared.fault.Fault.TheVariants.{OutOfMemory, Over, Ended}
+use Rattle.mud_web.specs.declared.fault.Fault.TheVariants.{Over}
 
 -- a connection of a server to which no frame came yet: a message and a frame have 4,096 bytes at most, and a frame
 -- without a mask is refused
@@ -82,8 +82,8 @@ pub record TakesIn (old new : Standing) (bytes typed_old typed_new replies_old r
   pub grows : (earlier : List ℕ) → StandsAfter old earlier
       → Grows earlier bytes typed_old typed_new replies_old replies_new []
 
--- the same up to the frame that ends the connection with this error: nothing of that frame is typed, and the close that
--- the error asks for is replied
+-- the channel takes these bytes in up to the frame that ends the connection with this error: nothing of that frame is
+-- typed, and the close that the error asks for is replied
 pub record EndsWith (old : Standing) (bytes typed_old typed_new replies_old replies_new : List ℕ)
     (e : Error) : Type 0 where
   pub ends : (earlier : List ℕ) → StandsAfter old earlier → (read_all new_connection (earlier ++ bytes)).end ≡ Err e
@@ -92,6 +92,5 @@ pub record EndsWith (old : Standing) (bytes typed_old typed_new replies_old repl
 
 -- a fact on the error with which the protocol ended, if that is the fault
 abbrev pub IfOver : Fault → (Error → Type 0) → Type 0
-IfOver OutOfMemory P = Unit {0}
-IfOver Ended P = Unit {0}
 IfOver (Over e) P = P e
+IfOver other P = Unit {0}

@@ -57,7 +57,6 @@ AsksToPlay head = IsFit head × IsPlay head.target
 
 -- a whole head is answered so, at a server whose page has this origin
 abbrev pub Answers : RequestHead → (origin : List ℕ) → Asked → Type 0
-Answers head origin More = ⊥
 Answers head origin Page = IsFit head × IsPage head.target
 Answers head origin (Play accept len) =
     AsksToPlay head × ComesFrom head origin × Has13 (fields_of head)
@@ -71,22 +70,15 @@ Answers head origin (Refused Status.UpgradeRequired) =
 Answers head origin (Refused Status.BadRequest) =
     ¬ (HasHost head.minor (fields_of head))
     ⊎ (AsksToPlay head × ComesFrom head origin × Has13 (fields_of head) × ¬ ((key : List ℕ) × Upgrades head key))
-Answers head origin (Refused Status.RequestTimeout) = ⊥
-Answers head origin (Refused Status.TooLarge) = ⊥
+Answers head origin other = ⊥
 
 -- bytes at whose front there is no whole head are answered so: more are waited for while they are few and a head can
 -- come of them; they are refused where none can, or where they or their fields are too many
 abbrev pub Waits : List ℕ → Asked → Type 0
 Waits bytes More = (length bytes < MOST_HEAD) × MayBecomeRequest bytes
-Waits bytes Page = ⊥
-Waits bytes (Play accept len) = ⊥
 Waits bytes (Refused Status.BadRequest) = NeverHasRequest bytes
 Waits bytes (Refused Status.TooLarge) = (MOST_HEAD ≤ length bytes) ⊎ RequestExceeds MOST_FIELDS bytes
-Waits bytes (Refused Status.MethodNotAllowed) = ⊥
-Waits bytes (Refused Status.NotFound) = ⊥
-Waits bytes (Refused Status.Forbidden) = ⊥
-Waits bytes (Refused Status.RequestTimeout) = ⊥
-Waits bytes (Refused Status.UpgradeRequired) = ⊥
+Waits bytes other = ⊥
 
 -- a whole head is answered, or refused where it is too large
 abbrev pub AnswersWhole : RequestHead → (origin : List ℕ) → Asked → Type 0
@@ -98,13 +90,9 @@ abbrev pub LetsIn : (bytes origin : List ℕ) → Asked → Type 0
 LetsIn bytes origin (Play accept len) =
     (head : RequestHead) × ReadsRequest bytes head (drop len bytes) × IsSmall head
     × Answers head origin (Play accept len)
-LetsIn bytes origin More = Unit {0}
-LetsIn bytes origin Page = Unit {0}
-LetsIn bytes origin (Refused refusal) = Unit {0}
+LetsIn bytes origin other = Unit {0}
 
 -- a fact on the key that is answered, where one is
 abbrev pub IfPlay : Asked → (List ℕ → Type 0) → Type 0
 IfPlay (Play accept len) P = P accept
-IfPlay More P = Unit {0}
-IfPlay Page P = Unit {0}
-IfPlay (Refused refusal) P = Unit {0}
+IfPlay other P = Unit {0}

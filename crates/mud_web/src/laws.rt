@@ -1,5 +1,10 @@
 //! Laws of the definitions: each contract is a law, and its function does nothing.
 
+ghost use Rattle.std.specs.Prelude.{◌≡◌};
+ghost use Rattle.mud_web.specs.declared.asking.TheConstants.{MOST_HEAD, MOST_FIELDS};
+ghost use Rattle.mud_web.specs.declared.channel.TheConstants.{MOST_MESSAGE};
+ghost use Rattle.mud_web.specs.declared.messages.TheConstants.{MOST_SENT};
+ghost use Rattle.mud_web.specs.declared.first_line.TheConstants.{SPACE};
 ghost use Rattle.mud_web.specs.Laws.{Messages, TextsArrive, MessagesType, NothingCommands};
 ghost use Rattle.mud_web.specs.Laws.{OnlyLinesAreTyped};
 ghost use Rattle.mud_web.specs.Laws.{UndecidedEndsNoLine};
@@ -36,4 +41,15 @@ pub fn only_lines_are_typed()
 /// who takes the bytes in as they come plays nothing of a request.
 pub fn undecided_ends_no_line()
     ensures { UndecidedEndsNoLine }
+{}
+
+/// The limits: of the bytes and the fields of a head, of a message that comes, and of one that leaves.
+pub fn limits()
+    ensures heads { (MOST_HEAD ≡ 8192) × (MOST_FIELDS ≡ 64) }
+    ensures messages { (MOST_MESSAGE ≡ 4096) × (MOST_SENT ≡ 65_536) }
+{}
+
+/// The space between the words of a request.
+pub fn codes()
+    ensures { SPACE ≡ 32 }
 {}

@@ -56,8 +56,8 @@ pub(crate) fn first_word<'a>(
     Ok((CowStr::Borrowed(text), ""))
 }
 
-// The same where quotes and backslashes may stand in the word. What lies between two marks is copied
-// at once.
+// The first word of a text and what stands behind it, where quotes and backslashes may stand in the word. What lies
+// between two marks is copied at once.
 fn marked_word(alloc: Global, text: &str) -> Result<(String, &str), AllocError>
     ensures words { IfOk result (λ r. rest_words (Some []) (pieces text.now)
         ≡ string_bytes r.0 ∷ plain_words r.1.now) }

@@ -131,7 +131,7 @@ fn join_words<'a>(
     }
 }
 
-// The same as one new text.
+// The words, joined by one space, in a new text.
 fn joined_text(alloc: Global, words: &[CowStr<'_, Global>]) -> Result<String, AllocError>
     ensures { IfOk result (λ text. string_bytes text ≡ join_words (map cow_str_bytes words.now)) }
 {

@@ -9,9 +9,9 @@ use Rattle.std.proofs.lemmas.List.Folds.{list_any-append}
 use Rattle.mud_key.specs.declared.node.Node.{Node}
 use Rattle.mud_key.specs.Node.{key_of as tree_of}
 use Rattle.mud_key.specs.Tree.{asks_of}
-use Rattle.mud_lists.specs.Rising.{insert, put, without}
-use Rattle.mud_lists.specs.Lists.{list_at, AreSame, AreChanged}
-use Rattle.mud_lists.specs.inner.Lists.{AreBetween}
+use Rattle.mud_index.specs.Rising.{insert, put, without}
+use Rattle.mud_index.specs.Lists.{list_at, AreSame, AreChanged}
+use Rattle.mud_index.specs.inner.Lists.{AreBetween}
 use Rattle.mud_world.specs.declared.record.Kind.{Kind}
 use Rattle.mud_world.specs.declared.links.Links.{Links}
 use Rattle.mud_world.specs.Kinds.{kind_place, kind_passage}

@@ -7,7 +7,7 @@ use Rattle.std.specs.List.{list_any}
 use Rattle.std.specs.Map.{lookup}
 use Rattle.std.specs.Str.{str_to_ascii_lowercase}
 use Rattle.std.proofs.lemmas.Bool.{eqb-true, eqb-false, eq-eqb, ne_eqb, true≢false}
-use Rattle.mud_lists.specs.Owners.{owner_of}
+use Rattle.mud_index.specs.Owners.{owner_of}
 use Rattle.mud_world.specs.declared.record.Record.{Record}
 use Rattle.mud_world.specs.Kinds.{is_player_kind}
 use Rattle.mud_world.specs.State.{State, is_number, is_taken, shares, named_player}

@@ -4,10 +4,10 @@ use Rattle.std.proofs.Common.{sym, ◌∙◌, ap, subst}
 use Rattle.std.specs.Prelude.{nat_eq}
 use Rattle.std.specs.Option.{option_map, option_map_or, option_and_then}
 use Rattle.std.specs.Map.{lookup, set_value, remove_entry}
-use Rattle.mud_lists.specs.Rising.{insert, put, without}
-use Rattle.mud_lists.specs.Lists.{list_at, AreChanged, AreSame}
-use Rattle.mud_lists.specs.Owners.{AreOwnersPassed}
-use Rattle.mud_lists.specs.inner.Views.{HaveSameOwners}
+use Rattle.mud_index.specs.Rising.{insert, put, without}
+use Rattle.mud_index.specs.Lists.{list_at, AreChanged, AreSame}
+use Rattle.mud_index.specs.Owners.{AreOwnersPassed}
+use Rattle.mud_index.specs.inner.Views.{HaveSameOwners}
 use Rattle.mud_world.specs.declared.record.Record.{Record}
 use Rattle.mud_world.specs.declared.links.Links.{Links}
 use Rattle.mud_world.specs.declared.world.World.TheInside.{Inside}

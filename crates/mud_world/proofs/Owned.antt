@@ -7,8 +7,8 @@ use Rattle.std.specs.List.{list_any}
 use Rattle.std.specs.Str.{str_eq_ignore_ascii_case, str_to_ascii_lowercase}
 use Rattle.std.proofs.lemmas.Bool.{cases_eq, eqb-true, eq-eqb, ne_eqb, or_parts, true≢false}
 use Rattle.std.proofs.lemmas.Slice.Eq.{bytes_eq-Decides}
-use Rattle.mud_lists.specs.Owners.{owner_of, AreOwnersPassed}
-use Rattle.mud_lists.specs.inner.Views.{HaveSameOwners}
+use Rattle.mud_index.specs.Owners.{owner_of, AreOwnersPassed}
+use Rattle.mud_index.specs.inner.Views.{HaveSameOwners}
 use Rattle.mud_world.specs.declared.record.Record.{Record}
 use Rattle.mud_world.specs.declared.record.Kind.{Kind}
 use Rattle.mud_world.specs.declared.record.Kind.TheVariants.{Room, Exit, Thing, Player}

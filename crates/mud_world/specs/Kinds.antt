@@ -35,13 +35,13 @@ abbrev pub kind_passage : Kind → Option Passage
 kind_passage (Exit p) = Some p
 kind_passage other = None
 
--- the same kind at this place, where it has one
+-- a thing or a player moved to this place; rooms and exits stay as they are
 abbrev pub kind_at : ℕ → Kind → Kind
 kind_at place (Thing old) = Thing place
 kind_at place (Player old) = Player place
 kind_at place other = other
 
--- the same kind at this cost, where it has one
+-- an exit with this cost; other kinds stay as they are
 abbrev pub kind_costing : ℕ → Kind → Kind
 kind_costing cost (Exit p) = Exit (record p { cost = cost })
 kind_costing cost other = other

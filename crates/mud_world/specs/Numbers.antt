@@ -1,7 +1,7 @@
 -- The numbers of objects, and rising lists of numbers with what keeps them rising.
 use Rattle.std.specs.Prelude.{ℕ, ◌+◌, ◌≤◌, List, [], ◌∷◌}
 use Rattle.mud_key.specs.declared.limits.TheConstants.{LAST_NUMBER}
-pub use Rattle.mud_lists.specs.Rising.{insert, without}
+pub use Rattle.mud_index.specs.Rising.{insert, without}
 
 -- the number of an object
 abbrev pub IsNumber : ℕ → Type 0

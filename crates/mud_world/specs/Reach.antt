@@ -13,6 +13,6 @@ pub record InReach (w : State) (actor o : ℕ) : Type 0 where
   pub here : (last ≡ actor) ⊎ (place_of w actor ≡ Some last)
   pub things : (k p : ℕ) → k < passed → follow w (suc k) o ≡ Some p → IsTrue (is_thing w p)
 
--- the same as a test. A reader need not look into this: `laws::reach` says that it is `InReach` in sound worlds
+-- `InReach` as a test. A reader need not look into this: `laws::reach` says that they agree in sound worlds
 abbrev pub in_reach : State → ℕ → ℕ → Bool
 in_reach w actor o = arrives w w.next actor o

@@ -81,7 +81,7 @@ abbrev pub comes_to : State → ℕ → ℕ → ℕ → Bool
 comes_to w zero o c = false
 comes_to w (suc n) o c = nat_eq o c || option_map_or (λ p. comes_to w n p c) (place_of w o) false
 
--- the same as a test. A reader need not look into this: `laws::containment` says that it is `Within` in sound worlds
+-- `Within` as a test. A reader need not look into this: `laws::containment` says that they agree in sound worlds
 abbrev pub within : State → ℕ → ℕ → Bool
 within w o c = exists w o && comes_to w w.next o c
 

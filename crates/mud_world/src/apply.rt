@@ -36,7 +36,7 @@ impl World {
         ensures err { OnErr result (self.new ≡ self.old) }
     {
         // for the prover: the world is sound
-        self.is_sound();
+        self.know_sound();
         match (self.place(actor), self.passage(exit)) {
             (Some(from), Some(passage)) => {
                 if from == passage.destination {
@@ -56,7 +56,7 @@ impl World {
         ensures err { OnErr result (self.new ≡ self.old) }
     {
         // for the prover: the world is sound
-        self.is_sound();
+        self.know_sound();
         match self.place(thing) {
             Some(from) => self.relocate(thing, from, to),
             None => Ok(()),
@@ -113,7 +113,7 @@ impl World {
         ensures { self.new ≡ after self.old (record { actor = actor; deed = Deed.Unlock object }) }
     {
         // for the prover: the world is sound
-        self.is_sound();
+        self.know_sound();
         self.drop_key(object);
     }
 
@@ -132,7 +132,7 @@ impl World {
         ensures err { OnErr result (self.new ≡ self.old) }
     {
         // for the prover: the world is sound
-        self.is_sound();
+        self.know_sound();
         let names = Names::of(self.alloc, name.copy(self.alloc)?)?;
         let player = Record {
             names,
@@ -205,7 +205,7 @@ impl World {
             Deed::Say(_) | Deed::Emote(_) => Ok(()),
         };
         // for the prover: the world is sound
-        self.is_sound();
+        self.know_sound();
         done
     }
 }

@@ -4,13 +4,13 @@ ghost use Rattle.std.specs.Prelude.{◌≡◌, ℕ, not, ◌&&◌, nat_eq, OnOk,
 ghost use Rattle.std.specs.List.{list_any};
 ghost use Rattle.mud_key.specs.Node.{key_of as tree_of};
 ghost use Rattle.mud_key.specs.Tree.{asks_of};
-ghost use Rattle.mud_lists.specs.Rising.{put, without};
-ghost use Rattle.mud_lists.specs.Lists.{list_at, AreSame, AreChanged};
-ghost use Rattle.mud_lists.specs.inner.Lists.{AreBetween};
+ghost use Rattle.mud_index.specs.Rising.{put, without};
+ghost use Rattle.mud_index.specs.Lists.{list_at, AreSame, AreChanged};
+ghost use Rattle.mud_index.specs.inner.Lists.{AreBetween};
 ghost use Rattle.mud_world.specs.inner.Edits.{asked_by, AreRekeyed};
 
+use mud_index::Lists;
 use mud_key::{Key, Node};
-use mud_lists::Lists;
 use std::alloc::AllocError;
 
 fn node_asks(node: &Node<u32>, object: u32) -> bool

@@ -95,7 +95,7 @@ impl World {
         ensures err { OnErr result (self.new ≡ self.old) }
     {
         // for the prover: the world is sound
-        self.is_sound();
+        self.know_sound();
         match doors {
             None => Ok(()),
             Some(doors) => {

@@ -81,7 +81,7 @@ impl World {
             }
         }
         // for the prover: `len` says that no number is in the set twice
-        let _len = members.len();
+        let _known = members.len();
         Ok(Holding { members })
     }
 

@@ -74,7 +74,7 @@ impl World {
             put_answer(&mut answers, *object, is_unlocked);
         }
         // for the prover: the world is sound
-        self.is_sound();
+        self.know_sound();
         Ok(answers)
     }
 

@@ -288,9 +288,8 @@ impl World {
                 Deed::Rename { object, names } => self.rename_fails(actor, *object, names, fault),
                 Deed::Recycle { object } => self.recycle_fails(actor, *object, fault),
                 Deed::Say(speech) | Deed::Emote(speech) => {
-                    // The contract refuses a text that can't be said. No speech is one: `as_str` promises it, and
-                    // this call is made for the promise alone.
-                    let _ = speech.as_str();
+                    // for the prover: `as_str` says that a speech can be said, so that no refusal applies
+                    let _known = speech.as_str();
                     false
                 }
             }

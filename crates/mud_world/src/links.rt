@@ -1,11 +1,11 @@
 //! The lists that stand beside the records.
 
 ghost use Rattle.std.specs.Prelude.{◌≡◌, IfOk, OnOk, OnErr};
-ghost use Rattle.mud_lists.specs.Rising.{insert, without};
+ghost use Rattle.mud_index.specs.Rising.{insert, without};
 ghost use Rattle.mud_world.specs.inner.Edits.{AreLinked, AreSameLinks, AreNone, IsInNone};
 
 use crate::Kind;
-use mud_lists::Lists;
+use mud_index::Lists;
 use std::alloc::{AllocError, Global};
 
 // For each number what lies in it, the exits that leave it, and the exits that lead to it.

@@ -5,10 +5,10 @@ ghost use Rattle.std.specs.Prelude.{option_copied};
 ghost use Rattle.mud_world.specs.declared.record.Record.{Record};
 ghost use Rattle.std.specs.Map.{lookup, remove_entry};
 ghost use Rattle.std.specs.List.{list_any};
-ghost use Rattle.mud_lists.specs.Rising.{insert, without};
-ghost use Rattle.mud_lists.specs.Lists.{list_at, AreChanged, AreSame};
-ghost use Rattle.mud_lists.specs.Owners.{AreOwnersPassed};
-ghost use Rattle.mud_lists.specs.inner.Views.{HaveSameOwners};
+ghost use Rattle.mud_index.specs.Rising.{insert, without};
+ghost use Rattle.mud_index.specs.Lists.{list_at, AreChanged, AreSame};
+ghost use Rattle.mud_index.specs.Owners.{AreOwnersPassed};
+ghost use Rattle.mud_index.specs.inner.Views.{HaveSameOwners};
 ghost use Rattle.mud_world.specs.inner.Edits.{edit, placed_at, costing_at, with_names, with_key, asked_by};
 ghost use Rattle.mud_world.specs.inner.Edits.{names_to_find, called_by, AreLinked, AreMoved, AreRekeyed, AreSameLinks};
 ghost use Rattle.mud_world.specs.inner.Edits.{IsInNone, StandRising};
@@ -17,8 +17,8 @@ use crate::askers::{exchange, leave};
 use crate::links::Links;
 use crate::{Kind, Record};
 use indexmap::IndexMap;
+use mud_index::{Lists, Owners};
 use mud_key::{Key, Names};
-use mud_lists::{Lists, Owners};
 use std::alloc::{AllocError, Global};
 
 // The record of a number. As long as nothing was recycled, it stands at its number. Each look at an object comes here.

@@ -43,7 +43,7 @@ impl World {
         ensures { IfSome result (λ found. IsHolding self.now candidate found.items) }
     {
         // for the prover: the world is sound
-        self.is_sound();
+        self.know_sound();
         let mut found = ArrayVec::new();
         if self.exists(candidate) {
             found.try_push(candidate).ok()?;
@@ -66,7 +66,7 @@ impl World {
         ensures { result ≡ unlocked self.now candidate object }
     {
         // for the prover: the world is sound
-        self.is_sound();
+        self.know_sound();
         let marks = marks_of(numbers);
         self.is_unlocked_in(Bearer::Marks(&marks), object, KEY_LEVELS)
     }

@@ -40,7 +40,7 @@ impl World {
         ensures { result ≡ all_nest (with_lock self.now object key.now) }
     {
         // for the prover: the world is sound
-        self.is_sound();
+        self.know_sound();
         let node = key.node();
         if !self.exists(object) {
             return true;

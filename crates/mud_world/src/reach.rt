@@ -32,7 +32,7 @@ impl World {
         ensures follows { IsTrue result ↔ Within self.now object holder }
     {
         // for the prover: the world is sound
-        self.is_sound();
+        self.know_sound();
         self.exists(object) && self.comes_to(object, holder)
     }
 
@@ -73,7 +73,7 @@ impl World {
         ensures reaches { IsTrue result ↔ InReach self.now actor object }
     {
         // for the prover: the world is sound
-        self.is_sound();
+        self.know_sound();
         self.arrives(actor, object)
     }
 

@@ -42,7 +42,7 @@ impl Kind {
         }
     }
 
-    /// The same kind at this place, where it has one.
+    /// The kind moved to this place. A room and an exit have no place, and stay as they are.
     pub fn at(self, place: u32) -> Kind
         ensures { result ≡ kind_at place self }
     {
@@ -54,7 +54,7 @@ impl Kind {
         }
     }
 
-    /// The same kind at this cost, where it has one.
+    /// The kind with this cost, if it is an exit. Other kinds stay as they are.
     pub fn with_cost(self, cost: u32) -> Kind
         ensures { result ≡ kind_costing cost self }
     {

@@ -51,12 +51,12 @@ impl Speech {
         &self.text
     }
 
-    /// The same speech.
+    /// An equal speech, in memory of its own.
     pub fn copy(&self, alloc: Global) -> Result<Speech, AllocError>
         ensures { IfOk result (λ speech. speech ≡ self.now) }
     {
         // for the prover: reading the field says that the text can be said
-        let _ = &self.text;
+        let _known = &self.text;
         Ok(Speech {
             text: self.text.clone()?,
         })

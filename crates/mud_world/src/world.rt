@@ -9,8 +9,8 @@ use crate::links::Links;
 use crate::maps::{copy_records, grow, record_of};
 use crate::{Kind, Record};
 use indexmap::IndexMap;
+use mud_index::{Lists, Owners};
 use mud_key::{Names, NamesFault};
-use mud_lists::{Lists, Owners};
 use std::alloc::{AllocError, Global};
 use std::marker::Model;
 
@@ -139,11 +139,12 @@ impl World {
         self.next
     }
 
-    // What is true of every world, for the prover: it has the invariant where a field is read.
-    pub(crate) fn is_sound(&self)
+    /// Tells the prover that the world is sound, where no other call in a body does. It does nothing when it runs.
+    pub(crate) fn know_sound(&self)
         ensures { IsSound self.now }
     {
-        let _ = &self.records;
+        // for the prover: a field that is read makes the type's invariant known
+        let _known = &self.records;
     }
 
     /// The objects whose place it is, by rising number (LambdaMOO Programmer's Manual, "Fundamental
@@ -163,7 +164,7 @@ impl World {
             self.links.leaving.get(number)
         } else {
             // for the prover: the world is sound
-            self.is_sound();
+            self.know_sound();
             &[]
         }
     }
@@ -181,7 +182,7 @@ impl World {
         ensures player { IfSome result (λ n. IsTrue (is_player self.now n)) }
     {
         // for the prover: the world is sound
-        self.is_sound();
+        self.know_sound();
         self.find_player(name)
     }
 

@@ -132,7 +132,7 @@ walk_doubt w form m walk =
     or option_map (λ i. doubts.WalkLocked m.player i) (first_lock w m.player 1 walk)
     or unless (is_label (label_at m (end_of m.from ss)) (total (hop_of form) ss)) (doubts.WalkCost m.player)
 
--- the same of a walk that may not be given
+-- the first doubt of a walk, if there is one: a member may have none
 abbrev pub given_doubt : State → Form → Account → Option (List ℕ) → Option Doubt
 given_doubt w form m None = None
 given_doubt w form m (Some walk) = walk_doubt w form m walk

@@ -25,7 +25,7 @@ pub record IsListed (labels : ℕ → Option Label) (next : ℕ) (j : Leg) (a : 
   pub entries : AreLabelsBelow labels next a.labels
   pub walk : a.walk ≡ option_map exits_of j.way
 
--- the same of each leg, with the labels of its member
+-- each leg is listed, with the labels of its member
 pub record AreListed (labels : ℕ → ℕ → Option Label) (next : ℕ) (js : List Leg) (es : List Account) : Type 0 where
   pub long : length es ≡ length js
   pub each : (m : ℕ) (j : Leg) (a : Account) → m < length es

@@ -13,7 +13,7 @@ abbrev pub fault_of : Miss → KeyFault
 fault_of miss.NoSuch = NoSuch
 fault_of miss.Ambiguous = Ambiguous
 
--- the same of a node, for private parts only
+-- a node is resolved as this result for its tree says. Only private parts use it
 abbrev pub NodeResolvesAs : Result (Tree ℕ) Miss → Result (Node ℕ) KeyFault → Type 0
 NodeResolvesAs r (Ok k) = r ≡ Ok (key_of k)
 NodeResolvesAs r (Err OutOfMemory) = Unit {0}

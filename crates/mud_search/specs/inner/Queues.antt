@@ -22,7 +22,7 @@ label_there entries waiting p = if nat_lt p waiting then Some (entry_at entries 
 abbrev pub waiting_labels : List Entry → List ℕ → ℕ → List (Option Label)
 waiting_labels entries places waiting = map (λ p. label_there entries waiting p) places
 
--- the same of a heap
+-- the label of each room that waits in a heap, by number
 abbrev pub heap_labels : Heap → List (Option Label)
 heap_labels h = waiting_labels h.entries.items h.places.items h.waiting
 

@@ -4,9 +4,9 @@ use Rattle.std.specs.List.{list_any}
 use Rattle.std.specs.Option.{option_map, option_map_or}
 use Rattle.std.specs.Map.{lookup, set_value}
 use Rattle.mud_key.specs.Tree.{Tree, asks_of}
-use Rattle.mud_lists.specs.Lists.{list_at, AreChanged, AreSame}
-use Rattle.mud_lists.specs.inner.Views.{AreEmpty}
-use Rattle.mud_lists.specs.Rising.{insert, put, without}
+use Rattle.mud_index.specs.Lists.{list_at, AreChanged, AreSame}
+use Rattle.mud_index.specs.inner.Views.{AreEmpty}
+use Rattle.mud_index.specs.Rising.{insert, put, without}
 use Rattle.mud_world.specs.declared.record.Record.{Record}
 use Rattle.mud_world.specs.declared.record.Kind.{Kind}
 use Rattle.mud_world.specs.declared.links.Links.{Links}

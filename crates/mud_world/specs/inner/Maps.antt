@@ -3,8 +3,8 @@ use Rattle.std.specs.Prelude.{◌≡◌, ℕ, Bool, List}
 use Rattle.std.specs.Option.{option_map}
 use Rattle.std.specs.List.{list_any}
 use Rattle.std.specs.Str.{str_eq_ignore_ascii_case, str_to_ascii_lowercase}
-use Rattle.mud_lists.specs.Lists.{list_at}
-use Rattle.mud_lists.specs.Owners.{owner_of}
+use Rattle.mud_index.specs.Lists.{list_at}
+use Rattle.mud_index.specs.Owners.{owner_of}
 use Rattle.mud_world.specs.declared.record.Record.{Record}
 use Rattle.mud_world.specs.declared.world.World.TheInside.{Inside}
 use Rattle.mud_world.specs.State.{State, has, is_number, kind_place, kind_passage, numbers_with}

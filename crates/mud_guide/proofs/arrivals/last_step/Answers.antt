@@ -6,12 +6,12 @@ use Rattle.mud_guide.proofs.arrivals.last_step.Goals as goal
 
 pub loop-exit-init : goal.loop-exit-init
 loop-exit-init c =
-    all-left c.args.world.now c.next_number-next.ensures.sound c.args.traveller.now.player
+    all-left c.args.world.now c.next_number-known.ensures.sound c.args.traveller.now.player
     (label_in c.args.labels.now c.args.member) c.args.to c.arriving-exit-items.result.now c.arriving-exit-items.ensures
 
 pub returns-then-is_some : goal.returns-then-is_some
 returns-then-is_some c =
-    last-is c.args.world.now c.next_number-next.ensures.sound c.args.traveller.now.player
+    last-is c.args.world.now c.next_number-known.ensures.sound c.args.traveller.now.player
     (label_in c.args.labels.now c.args.member) c.args.to c.arriving-exit-items.result.now c.arriving-exit-items.ensures
     c.loop-exit.exit-index c.loop-exit-test.true c.loop-exit.invariant c.arrival_by-arrival.result
     (sym c.is_some.ensures ∙ c.if-is_some.true) c.arrival_by-arrival.ensures

@@ -1,14 +1,14 @@
 use Rattle.std.proofs.Common.{◌≡◌, ◌++◌, ◌-◌}
 use Rattle.std.specs.List.{flat_map, range_with_len}
-use Rattle.mud_keeping.proofs.Rows.{text_at}
-use Rattle.mud_map.specs.Map.{drawing, edge_of}
+use Rattle.mud_compact.proofs.Rows.{text_at}
+use Rattle.mud_map.specs.Map.{edge_of}
 use Rattle.mud_map.proofs.drawing.push_exits.Given as goal
 
 -- what is there and what is left are all
 abbrev pub invariant-loop-number : goal.invariant-loop-number
 invariant-loop-number l =
     l.out.items
-    ++ flat_map (text_at (edge_of (drawing l.drawn.members.now l.drawn.meeting)) l.world.objects)
+    ++ flat_map (text_at (edge_of l.drawn) l.world.objects)
     (range_with_len l.number (l.world.next - l.number))
     ≡ l.fn.out.items
-    ++ flat_map (λ e. edge_of (drawing l.drawn.members.now l.drawn.meeting) e.0 e.1) l.world.objects
+    ++ flat_map (λ e. edge_of l.drawn e.0 e.1) l.world.objects

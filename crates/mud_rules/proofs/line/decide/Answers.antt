@@ -10,5 +10,5 @@ returns-clause-lawful c =
     let w = c.args.world.now in
     IfOk-weaker c.decision.result _ (IsLawful w c.args.player)
     (λ v is. subst (IsLawful w c.args.player) (sym is)
-    (are_lawful w c.next_number-next.ensures.sound c.args.player (line_of c.args.parsed.now)))
+    (are_lawful w c.next_number-known.ensures.sound c.args.player (line_of c.args.parsed.now)))
     c.decision.ensures

@@ -2,7 +2,7 @@ use Rattle.std.proofs.Common.{◌≡◌, false, sym, ◌∙◌, arith, ap}
 use Rattle.std.proofs.lemmas.List.{length-take}
 use Rattle.std.proofs.lemmas.Result.{on_ok_weaker, on_err_weaker, err_from_is_err_and}
 use Rattle.std.proofs.KnownBytes.{Keeps-refl}
-use Rattle.mud_ends.specs.Ends.{Reader}
+use Rattle.mud_io.specs.Streams.{Reader}
 use Rattle.mud_session.proofs.ScriptLemmas.{ends_here, goes_on_here, reached_none, reached_more, whole_at_end}
 use Rattle.mud_session.proofs.ScriptLemmas.{whole_at_quit, front_so_far, front_served, front_at_end, is_open}
 use Rattle.mud_session.proofs.scripting.converse.Goals as goal

@@ -2,7 +2,7 @@ use Rattle.std.proofs.Common.{◌≡◌, ◌||◌, ℕ, ap}
 use Rattle.std.proofs.lemmas.Result.{on_ok_weaker, on_err_weaker}
 use Rattle.mud_key.specs.Node.{key_of as tree_of}
 use Rattle.mud_key.specs.Tree.{asks_of}
-use Rattle.mud_lists.specs.Rising.{put}
+use Rattle.mud_index.specs.Rising.{put}
 use Rattle.mud_world.proofs.Asking.{asks_node, asks-either, changed-both, between-both, put-twice}
 use Rattle.mud_world.proofs.askers.+begin.Goals.{After-deref-in-Join-2}
 use Rattle.mud_world.proofs.askers.+begin.Goals as goal

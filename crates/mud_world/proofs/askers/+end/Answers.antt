@@ -1,7 +1,7 @@
 use Rattle.std.proofs.Common.{◌∙◌, ◌&&◌, not, ℕ, ap}
 use Rattle.mud_key.specs.Node.{key_of as tree_of}
 use Rattle.mud_key.specs.Tree.{asks_of}
-use Rattle.mud_lists.specs.Rising.{without}
+use Rattle.mud_index.specs.Rising.{without}
 use Rattle.mud_world.specs.inner.Edits.{asked_by}
 use Rattle.mud_world.proofs.Asking.{asks_node, asks-either, changed-both, without-twice, split_and}
 use Rattle.mud_world.proofs.askers.+end.Goals as goal

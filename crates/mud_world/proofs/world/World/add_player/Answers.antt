@@ -9,4 +9,4 @@ pub add-requires : goal.add-requires
 add-requires c =
     subst (λ (v : List (List ℕ)). CanAdd c.args.self.now (new_record c.args.actor v (Player 0)))
     (sym (c.in_ok-names.ensures ∙ ap (λ n. n ∷ []) c.in_ok-copy.ensures))
-    (CanAdd-player c.args.self.now c.is_sound.ensures c.args.actor c.args.name.now c.requires)
+    (CanAdd-player c.args.self.now c.know_sound.ensures c.args.actor c.args.name.now c.requires)

@@ -12,7 +12,7 @@ pub returns-then-not-exists : goal.returns-then-not-exists
 returns-then-not-exists c =
     let w = c.args.self.now in
     record_cases (record_at w c.args.object)
-    (λ e. sym (nest-missing w c.is_sound.ensures c.args.object c.args.key.now e))
+    (λ e. sym (nest-missing w c.know_sound.ensures c.args.object c.args.key.now e))
     (λ r e. absurd (true≢false (sym (ap is_some e) ∙ sym c.exists.ensures ∙ c.if-not-exists.true)))
 
 pub returns-then-nests_with : goal.returns-then-nests_with
@@ -21,7 +21,7 @@ returns-then-nests_with c =
     let n = c.args.object in
     let key = c.args.key.now in
     let it = found w n (sym c.exists.ensures ∙ c.if-not-exists.false) in
-    sym (nest-plain w c.is_sound.ensures n it.0 it.1 key
+    sym (nest-plain w c.know_sound.ensures n it.0 it.1 key
     (ap (nests (with_lock w n key) 0) (sym c.node-node.ensures.node) ∙ sym c.nests_with.ensures
     ∙ c.if-nests_with.true))
 
@@ -32,7 +32,7 @@ returns-then-nests_with-2 c =
     let key = c.args.key.now in
     let it = found w n (sym c.exists.ensures ∙ c.if-not-exists.false) in
     ap not c.climbs.ensures
-    ∙ sym (nest-exactly w c.is_sound.ensures n it.0 it.1 key 0 3 (omega arith) refl
+    ∙ sym (nest-exactly w c.know_sound.ensures n it.0 it.1 key 0 3 (omega arith) refl
     (ap (nests (with_lock w n key) 1) (sym c.node-node.ensures.node) ∙ sym c.nests_with-2.ensures
     ∙ c.if-nests_with-2.true)
     (ap (nests (with_lock w n key) 0) (sym c.node-node.ensures.node) ∙ sym c.nests_with.ensures
@@ -45,7 +45,7 @@ returns-then-nests_with-3 c =
     let key = c.args.key.now in
     let it = found w n (sym c.exists.ensures ∙ c.if-not-exists.false) in
     ap not c.climbs-then-nests_with-3.ensures
-    ∙ sym (nest-exactly w c.is_sound.ensures n it.0 it.1 key 1 2 (omega arith) refl
+    ∙ sym (nest-exactly w c.know_sound.ensures n it.0 it.1 key 1 2 (omega arith) refl
     (ap (nests (with_lock w n key) 2) (sym c.node-node.ensures.node) ∙ sym c.nests_with-3.ensures
     ∙ c.if-nests_with-3.true)
     (ap (nests (with_lock w n key) 1) (sym c.node-node.ensures.node) ∙ sym c.nests_with-2.ensures
@@ -58,7 +58,7 @@ returns-then-nests_with-4 c =
     let key = c.args.key.now in
     let it = found w n (sym c.exists.ensures ∙ c.if-not-exists.false) in
     ap not c.climbs-then-nests_with-4.ensures
-    ∙ sym (nest-exactly w c.is_sound.ensures n it.0 it.1 key 2 1 (omega arith) refl
+    ∙ sym (nest-exactly w c.know_sound.ensures n it.0 it.1 key 2 1 (omega arith) refl
     (ap (nests (with_lock w n key) 3) (sym c.node-node.ensures.node) ∙ sym c.nests_with-4.ensures
     ∙ c.if-nests_with-4.true)
     (ap (nests (with_lock w n key) 2) (sym c.node-node.ensures.node) ∙ sym c.nests_with-3.ensures
@@ -70,6 +70,6 @@ returns c =
     let n = c.args.object in
     let key = c.args.key.now in
     let it = found w n (sym c.exists.ensures ∙ c.if-not-exists.false) in
-    sym (nest-without w c.is_sound.ensures n it.0 it.1 key 3 (omega arith)
+    sym (nest-without w c.know_sound.ensures n it.0 it.1 key 3 (omega arith)
     (ap (nests (with_lock w n key) 3) (sym c.node-node.ensures.node) ∙ sym c.nests_with-4.ensures
     ∙ c.if-nests_with-4.false) refl)

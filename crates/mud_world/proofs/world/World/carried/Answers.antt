@@ -47,7 +47,7 @@ returns-clause-holding c =
     let sound = c.next_number-next.ensures.sound in
     let few =
     gathers-few c.args.self.now sound c.args.candidate c.loop-i.members.keys c.loop-i.i c.loop-i.invariant
-    c.len-len.ensures.unique in
+    c.len-known.ensures.unique in
     gathers-all c.args.self.now sound c.args.candidate c.loop-i.members.keys c.loop-i.i c.loop-i.invariant
     (omega (arith, few, next, c.loop-i-test.false))
 
@@ -57,7 +57,7 @@ returns-clause-members c =
     let sound = c.next_number-next.ensures.sound in
     let few =
     gathers-few c.args.self.now sound c.args.candidate c.loop-i.members.keys c.loop-i.i c.loop-i.invariant
-    c.len-len.ensures.unique in
+    c.len-known.ensures.unique in
     holding-members c.args.self.now sound c.args.candidate c.loop-i.members.keys
     (gathers-all c.args.self.now sound c.args.candidate c.loop-i.members.keys c.loop-i.i c.loop-i.invariant
     (omega (arith, few, next, c.loop-i-test.false)))

@@ -4,5 +4,5 @@ use Rattle.mud_world.proofs.world.World.in_reach.Goals as goal
 
 pub returns-clause-reaches : goal.returns-clause-reaches
 returns-clause-reaches c =
-    let same = in_reach-InReach c.args.self.now c.is_sound.ensures c.args.actor c.args.object in
+    let same = in_reach-InReach c.args.self.now c.know_sound.ensures c.args.actor c.args.object in
     (λ is. same.0 (sym c.arrives.ensures ∙ is), λ reach. c.arrives.ensures ∙ same.1 reach)

@@ -10,6 +10,6 @@ returns c =
     let w = c.args.self.now in
     let within = λ (a : ℕ).
     ap (λ t. get_or t a false) c.marks_of-marks.ensures
-    ∙ marks-within w c.is_sound.ensures c.args.candidate c.args.numbers.now c.requires (replicate NUMBERS false)
+    ∙ marks-within w c.know_sound.ensures c.args.candidate c.args.numbers.now c.requires (replicate NUMBERS false)
     (length-replicate NUMBERS false) (λ o lt. get_or-replicate NUMBERS o false false lt) a in
     c.is_unlocked_in.ensures ∙ ap (λ (held : ℕ → Bool). unlocked_in w 4 held c.args.object) (λ i a. within a i)

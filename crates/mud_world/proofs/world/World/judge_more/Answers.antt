@@ -20,4 +20,4 @@ returns c = λ o.
     ∙ ap (λ (left : List ℕ). answers_with new left answers)
     (drop_all c.loop-object.object-index plain.locked.items (omega (arith, c.loop-object-test.false))) in
     sym (ap (λ l. get_or l o false) done)
-    ∙ written-anew c.args.self.now c.is_sound.ensures plain.answers.items plain.locked.items c.requires test o
+    ∙ written-anew c.args.self.now c.know_sound.ensures plain.answers.items plain.locked.items c.requires test o

@@ -15,5 +15,5 @@ returns-then-from-passage-clause-ok c =
 
 pub relocate-requires : goal.relocate-requires
 relocate-requires c =
-    CanGo-walk c.args.self.now c.is_sound.ensures c.args.actor c.args.exit c.requires _ _ (sym c.in-Some-Some.ensures)
+    CanGo-walk c.args.self.now c.know_sound.ensures c.args.actor c.args.exit c.requires _ _ (sym c.in-Some-Some.ensures)
     (ap (option_map (λ p. p.destination)) (sym c.in-Some-Some.ensures')) c.if-from-passage.false

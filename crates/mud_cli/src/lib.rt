@@ -1,0 +1,31 @@
+//! The command lines of the programs: what their words ask for.
+//!
+//! A program takes its words by `words_of`, and what they ask for by a function of its own: `service_of` for
+//! `mud_serve`, `sources_of` for `mud_check`, `task_of` for `mud_explain`, `keeping_of` for `mud_keep`. Where the words
+//! ask for nothing, or for help or the version, the fault has the text to be shown.
+#![tactic(auto)]
+
+mod argument;
+mod build;
+mod fault;
+mod form;
+mod keeping;
+pub mod laws;
+mod limits;
+mod listen;
+mod matches;
+mod origin;
+mod service;
+mod sources;
+mod subject;
+mod task;
+mod words;
+
+pub use crate::fault::{CommandFault, show};
+pub use crate::keeping::{Keeping, KeptFile, Wish, keeping_of};
+pub use crate::limits::{ChosenLimits, MOST_CAPACITY, MOST_PER_ADDRESS, MOST_TOTAL, MOST_WORKERS};
+pub use crate::service::{Listening, Service, WebListening, service_of};
+pub use crate::sources::{Sources, sources_of};
+pub use crate::subject::{Reading, Subject};
+pub use crate::task::{Opening, Task, task_of};
+pub use crate::words::words_of;

@@ -1,0 +1,71 @@
+//! The command line of `mud_check`.
+
+use crate::argument::{Argument, PLACE};
+use crate::build::VERSION;
+use crate::fault::CommandFault;
+use crate::form::{Form, command_of};
+use crate::matches::{matches_of, unfit};
+use clap::error::ErrorKind;
+use clap::{ArgMatches, Command};
+use std::alloc::{AllocError, Global};
+
+/// Where a history's text and a proof's are.
+#[derive(Clone, Copy)]
+pub enum Sources<'a> {
+    /// In two files of these names.
+    Files { history: &'a str, proof: &'a str },
+    /// One after the other in standard input.
+    Input,
+}
+
+/// Where the words of `mud_check` say that the texts are: in two files, or in standard input where there
+/// are none but the program's name, which is the first.
+pub fn sources_of<'a>(alloc: Global, words: &'a [String]) -> Result<Sources<'a>, CommandFault> {
+    let mut command = command(alloc).map_err(|_| CommandFault::OutOfMemory)?;
+    let matches = matches_of(alloc, &mut command, words)?;
+    match sources_in(&matches) {
+        Some(sources) => Ok(sources),
+        None => {
+            let message = "a history needs a proof beside it";
+            Err(unfit(
+                alloc,
+                &mut command,
+                ErrorKind::MissingRequiredArgument,
+                message,
+            ))
+        }
+    }
+}
+
+// The files that were named, both or none.
+fn sources_in<'a>(matches: &ArgMatches<'a>) -> Option<Sources<'a>> {
+    match (matches.get_str("HISTORY"), matches.get_str("PROOF")) {
+        (Some(history), Some(proof)) => Some(Sources::Files { history, proof }),
+        (None, None) => Some(Sources::Input),
+        (Some(_), None) | (None, Some(_)) => None,
+    }
+}
+
+// The command line that is understood.
+fn command<'a>(alloc: Global) -> Result<Command<'a>, AllocError> {
+    Ok(command_of(alloc, &FORM)?.version(VERSION))
+}
+
+// What is judged.
+static FORM: Form<'static> = Form {
+    name: "mud_check",
+    about: "Tries a certificate against a history; without files it reads the history's text and then the \
+        proof's from standard input",
+    arguments: &[
+        Argument {
+            name: "HISTORY",
+            help: "The file of the history's text",
+            ..PLACE
+        },
+        Argument {
+            name: "PROOF",
+            help: "The file of the proof's text",
+            ..PLACE
+        },
+    ],
+};

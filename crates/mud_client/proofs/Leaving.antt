@@ -1,0 +1,155 @@
+-- One step more of what leaves.
+use Rattle.std.proofs.Common.{◌≡◌, ℕ, List, [], ◌∷◌, ◌++◌, refl, sym, ap, subst, ◌∙◌, append-nil, append_assoc}
+use Rattle.std.proofs.Common.{None, inl, inr}
+use Rattle.std.specs.List.{flat_map}
+use Rattle.std.proofs.lemmas.Grind.{flat_map-append}
+use Rattle.websocket.specs.declared.error.Error.{Error}
+use Rattle.websocket.specs.Connection.{Effect, read_step}
+use Rattle.websocket.specs.Frame.{decode_frame}
+use Rattle.websocket.specs.FrameHeader.{decode_header}
+use Rattle.websocket.specs.Stream.{read_times, read_all}
+use Rattle.mud_web.specs.Channel.{Standing, StandsAfter, TakesIn, new_connection, text_typed, typed_of, replies}
+use Rattle.mud_web.specs.Channel.{Finishes}
+use Rattle.mud_web.specs.Close.{ending_of}
+use Rattle.mud_web.specs.Sending.{frames_of}
+use Rattle.mud_web.proofs.Sending.{frames_none}
+use Rattle.mud_session.specs.Notices.{NamesUpTo}
+use Rattle.mud_session.proofs.Naming.{names-nil}
+use Rattle.mud_client.specs.declared.framing.Framing.{Framing}
+use Rattle.mud_client.specs.declared.framing.Framing.TheVariants.{Telnet, Web}
+use Rattle.mud_client.specs.Framed.{IsNew, Reads, Breaks, Leaving, IsFramed, Frames, framed}
+use Rattle.mud_client.specs.Sayings.{AreReplies, SaysUpTo}
+
+snoc : {A B : Type 0} (f : A → List B) (xs : List A) (x : A) → flat_map f (xs ++ x ∷ []) ≡ flat_map f xs ++ f x
+snoc f xs x = flat_map-append f xs (x ∷ []) ∙ ap (λ (l : List _). flat_map f xs ++ l) (append-nil (f x))
+
+-- what leaves with replies and no message, and the other way round
+replies_alone : (bytes : List ℕ) → bytes ++ frames_of [] ≡ bytes
+replies_alone bytes = ap (λ (l : List ℕ). bytes ++ l) frames_none ∙ append-nil bytes
+
+typed_grows : (earlier bytes : List ℕ) (fresh : List Effect) → Finishes earlier bytes fresh
+    → typed_of (earlier ++ bytes) ≡ typed_of earlier ++ text_typed fresh
+typed_grows earlier bytes fresh finishes =
+    ap text_typed finishes ∙ flat_map-append _ (read_all new_connection earlier).effects fresh
+
+-- ---- over a web socket
+
+-- nothing came
+framed_new : (channel : Standing) → StandsAfter channel [] → IsFramed channel [] [] [] []
+unfolding read_times read_step decode_frame decode_header
+framed_new channel stands = record {
+  stands = stands;
+  types = refl;
+  leavings = [];
+  frames = refl;
+  says = refl;
+  leaves = refl;
+}
+
+-- the frames that the bytes finish are replied to
+framed_on : (old new : Standing) (came bytes typed waiting after said sent answered : List ℕ)
+    → TakesIn old new bytes waiting after [] answered → IsFramed old came (typed ++ waiting) said sent
+    → IsFramed new (came ++ bytes) (typed ++ after) said (sent ++ answered)
+framed_on old new came bytes typed waiting after said sent answered takes f =
+    let grows = takes.grows came f.stands in
+    let more : Leaving = record { answered = grows.fresh; said = [] } in
+    record {
+      stands = takes.stands came f.stands;
+      types = ap (λ (l : List ℕ). typed ++ l) grows.types ∙ sym (append_assoc typed waiting (text_typed grows.fresh))
+          ∙ ap (λ (l : List ℕ). l ++ text_typed grows.fresh) f.types
+          ∙ sym (typed_grows came bytes grows.fresh grows.finishes);
+      leavings = f.leavings ++ more ∷ [];
+      frames = grows.finishes ∙ ap (λ (l : List Effect). l ++ grows.fresh) f.frames
+          ∙ sym (snoc (λ (l : Leaving). l.answered) f.leavings more);
+      says = f.says ∙ sym (append-nil (flat_map (λ (l : Leaving). l.said) f.leavings))
+          ∙ sym (snoc (λ (l : Leaving). l.said) f.leavings more);
+      leaves = ap (λ (l : List ℕ). sent ++ l)
+          (grows.answers ∙ append-nil (replies grows.fresh) ∙ sym (replies_alone (replies grows.fresh)))
+          ∙ ap (λ (l : List ℕ). l ++ (replies grows.fresh ++ frames_of [])) f.leaves
+          ∙ sym (snoc (λ (l : Leaving). replies l.answered ++ frames_of l.said) f.leavings more);
+    }
+
+-- this is said
+framed_more : (channel : Standing) (came typed said text sent : List ℕ) → IsFramed channel came typed said sent
+    → IsFramed channel came typed (said ++ text) (sent ++ frames_of text)
+framed_more channel came typed said text sent f =
+    let more : Leaving = record { answered = []; said = text } in
+    record {
+      stands = f.stands;
+      types = f.types;
+      leavings = f.leavings ++ more ∷ [];
+      frames = f.frames ∙ sym (append-nil (flat_map (λ (l : Leaving). l.answered) f.leavings))
+          ∙ sym (snoc (λ (l : Leaving). l.answered) f.leavings more);
+      says = ap (λ (l : List ℕ). l ++ text) f.says ∙ sym (snoc (λ (l : Leaving). l.said) f.leavings more);
+      leaves = ap (λ (l : List ℕ). l ++ frames_of text) f.leaves
+          ∙ sym (snoc (λ (l : Leaving). replies l.answered ++ frames_of l.said) f.leavings more);
+    }
+
+-- ---- by either
+
+pub frames_new : (framing : Framing) → IsNew framing → Frames framing [] [] [] []
+frames_new Telnet new = (refl, refl)
+frames_new (Web channel) new = framed_new channel new
+
+pub frames_on : (old new : Framing) (came bytes typed waiting after said sent answered : List ℕ)
+    → Reads old new bytes waiting after answered → Frames old came (typed ++ waiting) said sent
+    → Frames new (came ++ bytes) (typed ++ after) said (sent ++ answered)
+frames_on Telnet new came bytes typed waiting after said sent answered (is, types, none) f =
+    subst (λ (n : Framing). Frames n (came ++ bytes) (typed ++ after) said (sent ++ answered)) (sym is) (
+      ap (λ (l : List ℕ). typed ++ l) types ∙ sym (append_assoc typed waiting bytes)
+          ∙ ap (λ (l : List ℕ). l ++ bytes) f.0,
+      ap (λ (l : List ℕ). sent ++ l) none ∙ append-nil sent ∙ f.1,
+    )
+frames_on (Web old) new came bytes typed waiting after said sent answered (channel, is, takes) f =
+    subst (λ (n : Framing). Frames n (came ++ bytes) (typed ++ after) said (sent ++ answered)) (sym is)
+    (framed_on old channel came bytes typed waiting after said sent answered takes f)
+
+pub frames_more : (framing : Framing) (came typed said text sent : List ℕ) → Frames framing came typed said sent
+    → Frames framing came typed (said ++ text) (sent ++ framed framing text)
+frames_more Telnet came typed said text sent f = (f.0, ap (λ (l : List ℕ). l ++ text) f.1)
+frames_more (Web channel) came typed said text sent f = framed_more channel came typed said text sent f
+
+-- ---- the versions that are named
+
+pub says_framed : (framing : Framing) (most : ℕ) (text : List ℕ) → NamesUpTo most text
+    → SaysUpTo most (framed framing text)
+says_framed Telnet most text names = inl names
+says_framed (Web channel) most text names = inr (inl (text, names, refl))
+
+pub says_none : (text : List ℕ) → text ≡ [] → SaysUpTo 0 text
+says_none text is = inl (subst (NamesUpTo 0) (sym is) (names-nil 0))
+
+pub replies_read : (old new : Framing) (came bytes typed waiting after said sent answered : List ℕ)
+    → Reads old new bytes waiting after answered → Frames old came typed said sent → AreReplies answered
+replies_read Telnet new came bytes typed waiting after said sent answered (is, types, none) f = record {
+  earlier = [];
+  came = [];
+  answered = [];
+  finishes = sym (append-nil (read_all new_connection []).effects);
+  ending = None;
+  is = none;
+}
+replies_read (Web old) new came bytes typed waiting after said sent answered (channel, is, takes) f =
+    let grows = takes.grows came f.stands in
+    record {
+      earlier = came;
+      came = bytes;
+      answered = grows.fresh;
+      finishes = grows.finishes;
+      ending = None;
+      is = grows.answers;
+    }
+
+pub replies_broken : (old : Framing) (came bytes typed waiting after said sent answered : List ℕ) (error : Error)
+    → Breaks old bytes waiting after answered error → Frames old came typed said sent → AreReplies answered
+replies_broken Telnet came bytes typed waiting after said sent answered error breaks f = absurd breaks
+replies_broken (Web old) came bytes typed waiting after said sent answered error breaks f =
+    let grows = breaks.grows came f.stands in
+    record {
+      earlier = came;
+      came = bytes;
+      answered = grows.fresh;
+      finishes = grows.finishes;
+      ending = ending_of error;
+      is = grows.answers;
+    }

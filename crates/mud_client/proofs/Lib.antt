@@ -1,0 +1,4 @@
+mod Leaving
+mod Feeding
+mod Stepping
+pub mod Crosses

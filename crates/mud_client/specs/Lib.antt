@@ -1,0 +1,5 @@
+pub mod Framed
+pub mod Sayings
+pub mod Client
+pub mod Steps
+pub mod inner

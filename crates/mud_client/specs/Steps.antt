@@ -1,0 +1,138 @@
+-- What a client does in one step.
+use Rattle.std.specs.Prelude.{◌≡◌, ◌≢◌, ◌⊎◌, ℕ, ◌+◌, nat_lt, Bool, true, false, ◌&&◌, ◌||◌, ◌==◌, if◌then◌else◌}
+use Rattle.std.specs.Prelude.{List, [], ◌++◌, length, take, Option, None, Some, is_some, is_none}
+use Rattle.std.specs.List.{position_or_len, after_first}
+use Rattle.websocket.specs.declared.error.Error.{Error}
+use Rattle.mud_nvt.specs.declared.codes.TheConstants.{CR, LF}
+use Rattle.mud_nvt.specs.History.{StandsAfter}
+use Rattle.mud_web.specs.declared.closing.Ending.{Ending}
+use Rattle.mud_hall.specs.Desk.{TakesIn}
+use Rattle.mud_session.specs.State.{DoorState}
+use Rattle.mud_session.specs.Feeds.{Feeds, Nudges}
+use Rattle.mud_client.specs.declared.outgoing.End.{End}
+use Rattle.mud_client.specs.declared.outgoing.End.TheVariants.{Quit, OutOfMemory, Over, NotText, Earlier}
+use Rattle.mud_client.specs.declared.outgoing.Outgoing.{Outgoing}
+use Rattle.mud_client.specs.Framed.{Reads, Breaks, framed, last_words, last_close}
+use Rattle.mud_client.specs.Client.{ClientState}
+
+-- ---- how a step ends
+
+-- it was done, and the client goes on, or its player was answered `quit`; frames ended it with this error; or it was
+-- not done
+abbrev pub MatchEnd : Option End → (done : Type 0) → (over : Error → Type 0) → (refused : Type 0) → Type 0
+MatchEnd None done over refused = done
+MatchEnd (Some Quit) done over refused = done
+MatchEnd (Some (Over error)) done over refused = over error
+MatchEnd (Some OutOfMemory) done over refused = refused
+MatchEnd (Some NotText) done over refused = refused
+MatchEnd (Some Earlier) done over refused = refused
+
+abbrev pub IfDone : Option End → Type 0 → Type 0
+IfDone end done = MatchEnd end done (λ error. Unit {0}) (Unit {0})
+
+-- ---- its session
+
+-- its desk, at a hall whose history can have so many entries
+abbrev pub door_of : ClientState → DoorState
+door_of client = record { capacity = client.capacity; desk = client.desk; pending = [] }
+
+-- the session is typed this, whatever was typed earlier, and then that is what it is to say
+abbrev pub IsFed : (typed said : List ℕ) → (old new : ClientState) → Type 0
+IsFed typed said old new =
+    (earlier : List ℕ) → StandsAfter old.session.terminal earlier
+    → Feeds TakesIn earlier typed old.session (record new.session { out = said }) (door_of old) (door_of new)
+
+abbrev pub ends_line : ℕ → Bool
+ends_line b = (b == CR) || (b == LF)
+
+-- the first line of a text, with the byte that ends it; where none does, the text
+abbrev pub first_line : List ℕ → List ℕ
+first_line text = take (position_or_len ends_line text + 1) text
+
+-- that line is ended
+abbrev pub has_line : List ℕ → Bool
+has_line text = nat_lt (position_or_len ends_line text) (length text)
+
+-- ---- a step in which bytes come
+
+-- bytes come: what they type waits, and these are the protocol's replies to their frames
+pub record Comes (bytes answered : List ℕ) (old new : ClientState) : Type 0 where
+  pub reads : Reads old.framing new.framing bytes old.waiting new.waiting answered
+  pub same : new ≡ record old { framing = new.framing; waiting = new.waiting }
+
+-- the replies are given, and wait for no entry; what waits is left
+pub record AnswersFrames (answered : List ℕ) (old new : ClientState) (out : Outgoing) : Type 0 where
+  pub some : answered ≢ []
+  pub same : new ≡ old
+  pub gives : out.text.text.items ≡ answered
+  pub version : out.text.version ≡ 0
+  pub line : out.has_line ≡ false
+
+-- the first line that waits is fed. The text of its turns is given, framed, and what was to be said before it; it waits
+-- for the entries that the desk has seen
+pub record AnswersLine (old new : ClientState) (out : Outgoing) : Type 0 where
+  pub capacity : new.capacity ≡ old.capacity
+  pub framing : new.framing ≡ old.framing
+  pub rest : new.waiting ≡ after_first ends_line old.waiting
+  pub said : List ℕ
+  pub feeds : IsFed (first_line old.waiting) said old new
+  pub told : new.session.out ≡ []
+  pub gives : out.text.text.items ≡ framed old.framing said
+  pub version : out.text.version ≡ length new.desk.seen
+  pub line : out.has_line ≡ has_line old.waiting
+  pub ended : new.has_ended ≡ new.session.has_ended
+
+-- bytes come. Where the protocol replies to their frames, that is given, and nothing else; else the first line that
+-- waits is answered
+pub record Steps (bytes : List ℕ) (old new : ClientState) (out : Outgoing) : Type 0 where
+  pub answered : List ℕ
+  pub mid : ClientState
+  pub comes : Comes bytes answered old mid
+  pub gives : AnswersFrames answered mid new out ⊎ ((answered ≡ []) × AnswersLine mid new out)
+
+-- all that waits is fed, up to an answered `quit`
+pub record IsFedAll (old new : ClientState) : Type 0 where
+  pub done : List ℕ
+  pub splits : old.waiting ≡ done ++ new.waiting
+  pub all : new.session.has_ended ≡ false → new.waiting ≡ []
+  pub said : List ℕ
+  pub feeds : IsFed done said old new
+
+-- frames end the connection with this error. What was typed before is fed, and no text of it is given: that is the
+-- replies to the frames, and the close that the error asks for
+pub record CutsOff (bytes : List ℕ) (error : Error) (old new : ClientState) (out : Outgoing) : Type 0 where
+  pub typed : List ℕ
+  pub breaks : Breaks old.framing bytes old.waiting typed out.text.text.items error
+  pub fed : IsFedAll (record old { waiting = typed }) new
+
+-- ---- the other steps
+
+-- it looks for what others did: what the session says of it is given, framed, and what was to be said before it
+pub record Looks (old new : ClientState) (out : Outgoing) : Type 0 where
+  pub said : List ℕ
+  pub nudges : Nudges TakesIn old.session (record new.session { out = said }) (door_of old) (door_of new)
+  pub told : new.session.out ≡ []
+  pub same : new ≡ record old { session = new.session; desk = new.desk }
+  pub gives : out.text.text.items ≡ framed old.framing said
+  pub version : out.text.version ≡ length new.desk.seen
+  pub line : out.has_line ≡ false
+
+-- its last words are this line and this close; where memory runs out, some of that is missing
+pub record Parts (line : List ℕ) (ending : Option Ending) (old new : ClientState) (text : List ℕ) : Type 0 where
+  pub words : List ℕ
+  pub says : (words ≡ last_words old.framing line) ⊎ (words ≡ [])
+  pub close : List ℕ
+  pub closes : (close ≡ last_close old.framing ending) ⊎ (close ≡ [])
+  pub is : text ≡ words ++ close
+  pub same : new ≡ record old { framing = new.framing; has_ended = true }
+
+-- ---- what a step reports
+
+-- whether the client has ended; whether lines wait; how many entries the desk has seen, if a change was accepted there
+-- beyond so many; and whether it is a player's
+pub record Reports (accepted : ℕ) (client : ClientState) (out : Outgoing) : Type 0 where
+  pub ended : client.has_ended ≡ is_some out.end
+  pub more : out.has_more ≡ (is_none out.end && nat_lt 0 (length client.waiting))
+  pub change : out.accepted
+      ≡ (if nat_lt accepted (length client.desk.calls) then Some (length client.desk.seen) else None)
+  pub player : out.has_player ≡ is_some client.desk.player

@@ -1,0 +1,4 @@
+mod Talking
+mod Sameness
+pub mod Rows
+mod Longest

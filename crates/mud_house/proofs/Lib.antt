@@ -1,4 +1,0 @@
-pub mod Crosses
-pub mod Keeping
-pub mod Written
-pub mod Pieces

@@ -1,7 +1,0 @@
-use Rattle.mud_house.proofs.Keeping.{all_written}
-use Rattle.mud_house.proofs.scribe.Scribe.new.Goals as goal
-
-pub invariant_of-result : goal.invariant_of-result
-invariant_of-result g c =
-    all_written (g.D.Disk.kept c.args.journal.disk) c.args.reader c.args.journal.has_failed c.args.journal.count
-    c.requires.holds c.requires.count

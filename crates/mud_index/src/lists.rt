@@ -1,0 +1,154 @@
+//! A rising list for each number.
+
+ghost use Rattle.std.specs.Prelude.{◌≡◌, ◌<◌, ◌≤◌, [], length, nat_eq, slice_index_or, slice_set, OnOk, OnErr, IfOk, ℕ};
+ghost use Rattle.mud_index.specs.Rising.{insert, put, without};
+ghost use Rattle.std.specs.List.{list_any};
+ghost use Rattle.mud_index.specs.Lists.{list_at, AreSame, AreChanged};
+
+use crate::numbers::Rising;
+use std::alloc::{AllocError, Global};
+use std::marker::Model;
+
+/// A rising list of numbers for each number. A contract sees each holder with its list; which holders have an entry
+/// says nothing: `list_at` is what is asked.
+///
+/// The list of number n stands at place n, so that nothing is searched for. The holders are to be small numbers: as
+/// many places are kept as the highest of them asks.
+pub struct Lists {
+    alloc: Global,
+    lists: Vec<Rising>,
+}
+
+// Written out: where lists go, a proof then has one step, and not one for each part of them.
+impl Drop for Lists {
+    fn drop(self) {
+        let Lists { alloc: _, lists } = self;
+        drop(lists);
+    }
+}
+
+impl Model for Lists {
+    ghost use Rattle.std.specs.Prelude.{ℕ, List};
+    ghost use Rattle.std.specs.List.{enumerate_from};
+
+    ghost Value = { List (ℕ × List ℕ) };
+
+    ghost view = { λ a. enumerate_from 0 a.lists.items };
+}
+
+// The list at a place; the empty list, where there is no such place.
+fn list_of(lists: &[Rising], at: usize) -> &[u32]
+    ensures { result.now ≡ slice_index_or lists.now at [] }
+{
+    match lists.get(at) {
+        Some(list) => list.as_slice(),
+        None => &[],
+    }
+}
+
+// Whether a number is in the list at a place.
+fn has_at(lists: &[Rising], at: usize, number: u32) -> bool
+    ensures { result ≡ list_any (nat_eq number) (slice_index_or lists.now at []) }
+{
+    match lists.get(at) {
+        Some(list) => list.has(number),
+        None => false,
+    }
+}
+
+// Empty lists at the end, until there are so many.
+fn fill(lists: &mut Vec<Rising>, alloc: Global, len: usize) -> Result<(), AllocError>
+    ensures same { (n : ℕ) → slice_index_or lists.new.items n [] ≡ slice_index_or lists.old.items n [] }
+    ensures len { OnOk result (len ≤ length lists.new.items) }
+{
+    for _ in lists.len()..len {
+        lists.push(Rising::new(alloc))?;
+    }
+    Ok(())
+}
+
+// Puts a number into the list at a place, or changes nothing.
+fn insert_at(lists: &mut Vec<Rising>, at: usize, number: u32) -> Result<(), AllocError>
+    requires { at < length lists.old.items }
+    ensures ok { OnOk result (lists.new.items
+        ≡ slice_set lists.old.items at (insert number (slice_index_or lists.old.items at []))) }
+    ensures err { OnErr result (lists.new.items ≡ lists.old.items) }
+{
+    lists[at].insert(number)
+}
+
+// Takes a number out of the list at a place.
+fn remove_at(lists: &mut Vec<Rising>, at: usize, number: u32)
+    requires { at < length lists.old.items }
+    ensures { lists.new.items
+        ≡ slice_set lists.old.items at (without number (slice_index_or lists.old.items at [])) }
+{
+    lists[at].remove(number);
+}
+
+impl Lists {
+    /// No lists: each number has the empty one.
+    pub fn new(alloc: Global) -> Lists
+        ensures { (n : ℕ) → list_at result n ≡ [] }
+    {
+        Lists {
+            alloc,
+            lists: Vec::new(alloc),
+        }
+    }
+
+    /// The list of the holder; the empty list, where it has none.
+    pub fn get(&self, holder: u32) -> &[u32]
+        ensures { result.now ≡ list_at self.now holder }
+    {
+        list_of(&self.lists, holder as usize)
+    }
+
+    /// Puts a number into the list of the holder, or changes no list.
+    pub fn insert(&mut self, holder: u32, number: u32) -> Result<(), AllocError>
+        ensures ok { OnOk result (AreChanged (λ n. nat_eq n holder) (insert number) self.old self.new) }
+        ensures err { OnErr result (AreSame self.old self.new) }
+    {
+        let at = holder as usize;
+        fill(&mut self.lists, self.alloc, at + 1)?;
+        insert_at(&mut self.lists, at, number)
+    }
+
+    /// Puts a number into the list of the holder, where it isn't yet, or changes no list.
+    pub fn put(&mut self, holder: u32, number: u32) -> Result<(), AllocError>
+        ensures ok { OnOk result (AreChanged (λ n. nat_eq n holder) (put number) self.old self.new) }
+        ensures err { OnErr result (AreSame self.old self.new) }
+    {
+        if self.has(holder, number) {
+            return Ok(());
+        }
+        self.insert(holder, number)
+    }
+
+    /// Whether the number is in the list of the holder.
+    pub fn has(&self, holder: u32, number: u32) -> bool
+        ensures { result ≡ list_any (nat_eq number) (list_at self.now holder) }
+    {
+        has_at(&self.lists, holder as usize, number)
+    }
+
+    /// Takes a number out of the list of the holder. The list keeps its room for the next one.
+    pub fn remove(&mut self, holder: u32, number: u32)
+        ensures { AreChanged (λ n. nat_eq n holder) (without number) self.old self.new }
+    {
+        let at = holder as usize;
+        if at < self.lists.len() {
+            remove_at(&mut self.lists, at, number);
+        }
+    }
+
+    /// Equal lists, that change by themselves from then on.
+    pub fn copy(&self) -> Result<Lists, AllocError>
+        ensures { IfOk result (λ lists. lists ≡ self.now) }
+    {
+        Ok(Lists {
+            alloc: self.alloc,
+            lists: self.lists.clone()?,
+        })
+    }
+}

@@ -1,5 +1,0 @@
-mod Talking
-mod Sameness
-pub mod Rows
-mod Ends
-mod Longest

@@ -1,7 +1,0 @@
-use Rattle.std.proofs.Common.{◌≡◌, ℕ, ◌<◌}
-use Rattle.mud_world.specs.State.{record_at}
-use Rattle.mud_keeping.proofs.comparing.same_worlds.Given as goal
-
--- the same is kept of each number so far
-abbrev pub invariant-loop-number : goal.invariant-loop-number
-invariant-loop-number l = (n : ℕ) → n < l.number → record_at l.world n ≡ record_at l.other n

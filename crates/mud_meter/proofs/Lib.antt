@@ -1,0 +1,3 @@
+mod Waits
+mod Through
+mod Asked

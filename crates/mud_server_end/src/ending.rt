@@ -1,0 +1,106 @@
+//! The history that a server ends with.
+
+ghost use Rattle.std.specs.Prelude.{◌≡◌, ◌≤◌, ◌+◌, length, IfOk, IfErr, OnOk};
+ghost use Rattle.mud_world.specs.declared.limits.TheConstants.{MOST_ENTRIES};
+ghost use mathlib.Core.List.{IsPrefix};
+ghost use Rattle.mud_hall.specs.Settlement.{IsSettled};
+ghost use Rattle.mud_hall.specs.Steps.{AreLoadable};
+ghost use Rattle.mud_journal.specs.Disk.{Holds};
+ghost use Rattle.mud_server_end.specs.Server.{MayEnd, IsInnerFault};
+
+use crate::fault::ServerFault;
+use crate::writer::JournalWriter;
+use mud_chron::ChronFault;
+use mud_hall::{CloseFault, Desk, Hall, HallName};
+use mud_journal::{Disk, Journal, JournalFault};
+use mud_row::History;
+use mud_server_state::Limits;
+use std::alloc::Global;
+use std::sync::Wait;
+
+/// Settles the hall of these desks: its history, which can be loaded again. The hall and its desks are gone before
+/// memory is asked for.
+pub fn settle<J: HallName, R: Wait>(
+    rt: &R,
+    alloc: Global,
+    limits: Limits,
+    hall: Hall<J>,
+    desks: Vec<Desk<J>>,
+) -> Result<History, ServerFault>
+    requires few { length desks.items ≤ limits.sessions }
+    requires capacity { limits.capacity ≤ MOST_ENTRIES }
+    ensures ends { IfOk result (λ history. MayEnd limits J.loaded history) }
+    ensures settled { IfOk result (λ history. IsSettled J.loaded desks.items history) }
+    ensures fault { IfErr result IsInnerFault }
+{
+    match hall.close(rt, desks) {
+        Ok(settled) => {
+            let mut history = settled.history;
+            try_history(alloc, limits.capacity, &mut history)?;
+            Ok(history)
+        }
+        Err((_, _, fault)) => Err(of_close(fault)),
+    }
+}
+
+/// Writes what is left to the journal, and settles the hall: the journal has its whole history.
+pub fn settle_journaled<J: HallName, D: Disk + Drop, R: Wait>(
+    rt: &R,
+    alloc: Global,
+    limits: Limits,
+    hall: Hall<J>,
+    desks: Vec<Desk<J>>,
+    writer: JournalWriter<J, D>,
+) -> Result<(History, Journal<D>), ServerFault>
+    requires few { length desks.items ≤ limits.sessions }
+    requires capacity { limits.capacity ≤ MOST_ENTRIES }
+    requires begun { IsPrefix J.loaded writer.entries }
+    ensures ends { IfOk result (λ s. MayEnd limits J.loaded s.0) }
+    ensures journaled { IfOk result (λ s. Holds (D.kept s.1.disk) s.0) }
+    ensures fault { IfErr result IsInnerFault }
+{
+    let mut desks = desks;
+    let mut writer = writer;
+    writer.finish(&hall, &mut desks)?;
+    let history = settle(rt, alloc, limits, hall, desks)?;
+    if history.len() as usize != writer.len() {
+        return Err(ServerFault::Journal(JournalFault::Mismatch));
+    }
+    Ok((history, writer.into_journal()))
+}
+
+// Why the desks made no history.
+fn of_close(fault: CloseFault) -> ServerFault
+    ensures { IsInnerFault result }
+{
+    match fault {
+        CloseFault::OutOfMemory => ServerFault::OutOfMemory,
+        fault => ServerFault::Settle(fault),
+    }
+}
+
+// Tries whether a hall of this capacity can begin with the history, as a load does; the history stays as it was. A
+// settlement does not say of its entries that each is legal where it stands.
+fn try_history(alloc: Global, capacity: u32, history: &mut History) -> Result<(), ServerFault>
+    requires { capacity ≤ MOST_ENTRIES }
+    ensures same { history.new ≡ history.old }
+    ensures loadable { OnOk result (AreLoadable capacity history.old) }
+    ensures fault { IfErr result IsInnerFault }
+{
+    if history.len() > capacity {
+        return Err(at_odds(capacity as usize + 1));
+    }
+    match history.replay(alloc) {
+        Ok(_) => Ok(()),
+        Err(ChronFault::BadChange(version)) => Err(at_odds(version)),
+        Err(_) => Err(ServerFault::OutOfMemory),
+    }
+}
+
+// The entry of this version is not one that a history can have there.
+fn at_odds(version: usize) -> ServerFault
+    requires { version ≤ MOST_ENTRIES + 1 }
+    ensures { IsInnerFault result }
+{
+    ServerFault::Settle(CloseFault::Mismatch(version as u32))
+}

@@ -1,0 +1,107 @@
+//! The writer of a hall's journal.
+
+ghost use Rattle.std.specs.Prelude.{◌≡◌, false, length, IfOk, OnOk};
+ghost use mathlib.Core.List.{IsPrefix};
+ghost use Rattle.mud_hall.specs.Settlement.{IsGathered};
+ghost use Rattle.mud_journal.specs.Disk.{Holds};
+
+use mud_hall::{Desk, Hall, HallName, Reader};
+use mud_journal::{Disk, Journal, JournalFault, Receipt};
+use mud_world::limits::MOST_ENTRIES;
+use std::alloc::Global;
+use std::marker::Model;
+
+/// A journal, and the entries of a hall that were read for it. A prefix of them is synced: all, unless it has failed.
+#[derive(Drop)]
+pub struct JournalWriter<J: HallName, D: Disk + Drop> {
+    journal: Journal<D>,
+    reader: Reader<J>,
+    alloc: Global,
+}
+
+impl<J: HallName, D: Disk + Drop> Model for JournalWriter<J, D> {
+    ghost use Rattle.mud_key.specs.TreeCode.{coded_number_tree};
+    ghost use Rattle.std.specs.Coded.{codes};
+    ghost use Rattle.mud_server_end.specs.JournalText.{Written, IsWritten};
+
+    ghost Value = { Written };
+
+    ghost coded = { Prim.hlevel (codes, coded_number_tree) };
+
+    ghost view = { λ s. record {
+      entries = s.reader;
+      kept = D.kept s.journal.disk;
+      has_failed = s.journal.has_failed;
+    } };
+
+    ghost invariant = { λ s. IsWritten s.reader (D.kept s.journal.disk) s.journal.has_failed s.journal.count };
+}
+
+impl<J: HallName, D: Disk + Drop> JournalWriter<J, D> {
+    /// Goes on from what was read, which is in the journal.
+    pub fn new(alloc: Global, journal: Journal<D>, reader: Reader<J>) -> JournalWriter<J, D>
+        requires holds { Holds (D.kept journal.disk) reader }
+        requires count { journal.count ≡ length reader }
+        requires going { journal.has_failed ≡ false }
+        ensures { result.entries ≡ reader }
+    {
+        JournalWriter {
+            journal,
+            reader,
+            alloc,
+        }
+    }
+
+    /// How many entries were read.
+    pub fn len(&self) -> usize
+        ensures { result ≡ length self.now.entries }
+    {
+        self.reader.len() as usize
+    }
+
+    /// A receipt for all that is synced.
+    pub fn receipt(&self) -> Receipt {
+        self.journal.receipt()
+    }
+
+    /// Appends what is new in the hall, and syncs it.
+    pub fn write(&mut self, hall: &Hall<J>) -> Result<Receipt, JournalFault>
+        ensures ok { IfOk result (λ r. (r.up_to ≡ length self.new.entries) × Holds self.new.kept self.new.entries) }
+        ensures longer { IsPrefix self.old.entries self.new.entries }
+    {
+        if self.journal.has_failed() {
+            return Err(JournalFault::Disk);
+        }
+        match self.reader.read(self.alloc, hall, MOST_ENTRIES as u32) {
+            Ok(new) => self.journal.commit(self.alloc, &new),
+            Err(_) => {
+                self.journal.fail();
+                Err(JournalFault::OutOfMemory)
+            }
+        }
+    }
+
+    /// Appends and syncs what is new in the hall; the journal then has all that any of the desks has seen.
+    pub fn finish(&mut self, hall: &Hall<J>, desks: &mut Vec<Desk<J>>) -> Result<(), JournalFault>
+        ensures same { desks.new.items ≡ desks.old.items }
+        ensures holds { OnOk result (Holds self.new.kept self.new.entries) }
+        ensures gathered { OnOk result (IsGathered self.new.entries desks.old.items self.new.entries) }
+        ensures longer { IsPrefix self.old.entries self.new.entries }
+    {
+        self.write(hall)?;
+        let before = self.reader.len();
+        self.reader.gather(desks);
+        if self.reader.len() != before {
+            self.journal.fail();
+            return Err(JournalFault::Mismatch);
+        }
+        Ok(())
+    }
+
+    /// The journal.
+    pub fn into_journal(self) -> Journal<D>
+        ensures { D.kept result.disk ≡ self.kept }
+    {
+        self.journal
+    }
+}

@@ -1,0 +1,335 @@
+//! The hall, and the places for its sessions.
+
+ghost use Rattle.std.specs.Prelude.{◌≡◌, ◌≤◌, IfOk, length};
+ghost use Rattle.mud_search.specs.declared.limits.TheConstants.{MOST_WORKERS};
+
+use crate::limits::Limits;
+use crate::lobby::Lobby;
+use crate::place::{NoPlace, Place};
+use crossbeam_utils::sync::Unparker;
+use log::{Log, warn};
+use mud_hall::{Desk, Fault, Hall, HallName};
+use mud_journal::Gate;
+use mud_listeners::Site;
+use mud_socket::{Ending, Parting, Socket};
+use std::alloc::{AllocError, Global};
+use std::net::IpAddr;
+use std::sync::atomic::{AtomicBool, AtomicU32, Ordering};
+use std::sync::{Arc, Mutex, Wait};
+
+/// Places for sessions. Each has a lock of its own, under which nothing else is locked.
+#[derive(Drop)]
+pub struct Places<J: HallName> {
+    list: Vec<Mutex<Place<J>>>,
+}
+
+/// What wakes the notice thread of a session, and the session's socket.
+#[derive(Drop)]
+pub struct Waker {
+    pub unparker: Unparker,
+    pub socket: Arc<Socket>,
+}
+
+/// The waker of the session at each place. Each has a lock of its own, under which nothing else is locked.
+#[derive(Drop)]
+pub struct Wakers {
+    list: Vec<Mutex<Option<Waker>>>,
+}
+
+/// What all threads of a server share.
+///
+/// There is one kind, `StateOf` of `mud_server_threads`. The hall, the places and the wakers are type parameters, since
+/// the prover finds that threads may share the state only by a lemma over its parts.
+#[derive(Drop)]
+pub struct ServerState<H, P, W> {
+    pub hall: H,
+    places: P,
+    wakers: W,
+    pub lobby: Lobby,
+    pub limits: Limits,
+    pub gate: Gate,
+    // Held while a desk is chosen; the locks of places come after it.
+    choosing: Mutex<()>,
+    // How many places are taken.
+    taken: AtomicU32,
+    // How many sessions became a player's.
+    players: AtomicU32,
+    is_stopping: AtomicBool,
+    // Whether the host was warned that the history is nearly full.
+    was_warned: AtomicBool,
+    ghost few: { limits.workers ≤ MOST_WORKERS },
+}
+
+// This many free places.
+fn free_places<J: HallName>(alloc: Global, sessions: u32) -> Result<Places<J>, AllocError>
+    ensures { IfOk result (λ places. length places.list.items ≡ sessions) }
+{
+    let mut list = Vec::new(alloc);
+    for _ in 0..sessions {
+        list.push(Mutex::new(Place::new()))?;
+    }
+    Ok(Places { list })
+}
+
+// This many places without a waker.
+fn no_wakers(alloc: Global, sessions: u32) -> Result<Wakers, AllocError> {
+    let mut list = Vec::new(alloc);
+    for _ in 0..sessions {
+        list.push(Mutex::new(None))?;
+    }
+    Ok(Wakers { list })
+}
+
+impl<H, P, W> ServerState<H, P, W> {
+    /// How many places are taken.
+    pub fn session_count(&self) -> u32 {
+        self.taken.load(Ordering::SeqCst)
+    }
+
+    /// A session became a player's.
+    pub fn count_player(&self) {
+        self.players.fetch_add(1, Ordering::SeqCst);
+    }
+
+    /// How many sessions became a player's, modulo 4,294,967,296.
+    pub fn player_count(&self) -> u32 {
+        self.players.load(Ordering::SeqCst)
+    }
+
+    /// Marks that all sessions are to end, since the server does.
+    pub fn stop_sessions(&self) {
+        self.is_stopping.store(true, Ordering::SeqCst);
+    }
+
+    /// Why all sessions are to end, if they are.
+    pub fn ending<R: Wait>(&self, rt: &R) -> Option<Ending> {
+        if self.gate.has_failed(rt) {
+            Some(Ending::JournalFault)
+        } else if self.is_stopping.load(Ordering::SeqCst) {
+            Some(Ending::Stop)
+        } else {
+            None
+        }
+    }
+
+    /// Warns in the log, once, where the history has at least nine tenths of the changes that it can hold.
+    pub fn warn_if_nearly_full<R: Log>(&self, rt: &R, changes: usize) {
+        let most = self.limits.capacity as usize;
+        if changes < most - most / 10 || self.was_warned.swap(true, Ordering::SeqCst) {
+            return;
+        }
+        warn!(rt; "the history has {changes} of {most} changes: stop the server, shorten the history, and go on");
+    }
+}
+
+impl<J: HallName> ServerState<Hall<J>, Places<J>, Wakers> {
+    /// The state of a server that begins: as many free places as there may be sessions at once.
+    pub fn new(
+        alloc: Global,
+        hall: Hall<J>,
+        limits: Limits,
+        gate: Gate,
+        site: Option<Site>,
+    ) -> Result<ServerState<Hall<J>, Places<J>, Wakers>, AllocError>
+        requires { limits.workers ≤ MOST_WORKERS }
+        ensures { IfOk result (λ state. length state.places.list.items ≡ limits.sessions) }
+    {
+        Ok(ServerState {
+            hall,
+            places: free_places(alloc, limits.sessions)?,
+            wakers: no_wakers(alloc, limits.sessions)?,
+            lobby: Lobby::new(alloc, site)?,
+            limits,
+            gate,
+            choosing: Mutex::new(()),
+            taken: AtomicU32::new(0),
+            players: AtomicU32::new(0),
+            is_stopping: AtomicBool::new(false),
+            was_warned: AtomicBool::new(false),
+        })
+    }
+
+    /// Takes the free place of the lowest number for a session of this address. The sessions of an address are counted
+    /// with this one: so there are never too many, but of two that come at once for the last place of their address
+    /// both may be refused.
+    pub fn take_place<R: Wait>(&self, rt: &R, address: IpAddr) -> Result<usize, NoPlace> {
+        let Some(at) = self.take_free(rt, address) else {
+            return Err(NoPlace::Full);
+        };
+        let most = self.limits.per_address;
+        if 0 < most && most < self.sessions_of(rt, address) {
+            self.release_place(rt, at);
+            return Err(NoPlace::TooMany);
+        }
+        Ok(at)
+    }
+
+    // Takes the free place of the lowest number, if there is one.
+    fn take_free<R: Wait>(&self, rt: &R, address: IpAddr) -> Option<usize> {
+        for (at, place) in self.places.list.iter().enumerate() {
+            let mut place = place.lock(rt);
+            if place.address().is_none() {
+                place.take(address);
+                self.taken.fetch_add(1, Ordering::SeqCst);
+                return Some(at);
+            }
+        }
+        None
+    }
+
+    // How many sessions are of this address.
+    fn sessions_of<R: Wait>(&self, rt: &R, address: IpAddr) -> u32 {
+        let mut count = 0u32;
+        for place in &self.places.list {
+            if place.lock(rt).address() == Some(address) {
+                count = count.saturating_add(1);
+            }
+        }
+        count
+    }
+
+    /// Takes the free desk of the lowest number for the session at a place, or a new one where none is free.
+    pub fn take_desk<R: Wait>(&self, rt: &R, at: usize) -> Result<Desk<J>, Fault> {
+        let _choice = self.choosing.lock(rt);
+        match self.take_lowest(rt, at) {
+            Some(desk) => Ok(desk),
+            None => self.hall.desk(rt),
+        }
+    }
+
+    // Takes the free desk of the lowest number, if there is one. A desk that this place keeps goes where that was: so
+    // a place whose session has a desk keeps none.
+    fn take_lowest<R: Wait>(&self, rt: &R, at: usize) -> Option<Desk<J>> {
+        let lowest = self.place_of_lowest(rt)?;
+        let desk = self.take_kept(rt, lowest);
+        if lowest != at
+            && let Some(own) = self.take_kept(rt, at)
+        {
+            self.keep_desk(rt, lowest, own);
+        }
+        desk
+    }
+
+    // The place that keeps the free desk of the lowest number, if one is free.
+    fn place_of_lowest<R: Wait>(&self, rt: &R) -> Option<usize> {
+        let mut found = None;
+        let mut least = u32::MAX;
+        for (at, place) in self.places.list.iter().enumerate() {
+            if let Some(number) = place.lock(rt).desk_number()
+                && number < least
+            {
+                found = Some(at);
+                least = number;
+            }
+        }
+        found
+    }
+
+    // The desk that a place keeps, which keeps it no more.
+    fn take_kept<R: Wait>(&self, rt: &R, at: usize) -> Option<Desk<J>> {
+        self.places.list.get(at)?.lock(rt).take_desk()
+    }
+
+    /// Whether no place is taken.
+    pub fn is_empty<R: Wait>(&self, rt: &R) -> bool {
+        for place in &self.places.list {
+            if place.lock(rt).address().is_some() {
+                return false;
+            }
+        }
+        true
+    }
+
+    /// Sets the waker of the session at a place.
+    pub fn set_waker<R: Wait>(&self, rt: &R, at: usize, new: Waker) {
+        if let Some(waker) = self.wakers.list.get(at) {
+            *waker.lock(rt) = Some(new);
+        }
+    }
+
+    /// Announces that the hall has this many entries at least, the last of them by the session at this place. With a
+    /// journal the writing thread wakes the others once those entries are synced; without one they are woken here.
+    pub fn announce_change<R: Wait>(&self, rt: &R, at: usize, version: usize) {
+        if self.gate.is_open() {
+            self.wake_others(rt, at);
+        } else {
+            self.gate.want(rt, version);
+        }
+    }
+
+    // Wakes the notice threads of the sessions at all other places.
+    fn wake_others<R: Wait>(&self, rt: &R, at: usize) {
+        for (other, waker) in self.wakers.list.iter().enumerate() {
+            if other != at
+                && let Some(waker) = &*waker.lock(rt)
+            {
+                waker.unparker.unpark();
+            }
+        }
+    }
+
+    /// Wakes the notice threads of all sessions.
+    pub fn wake_all<R: Wait>(&self, rt: &R) {
+        for waker in &self.wakers.list {
+            if let Some(waker) = &*waker.lock(rt) {
+                waker.unparker.unpark();
+            }
+        }
+    }
+
+    /// Shuts the sockets of all sessions, for this reason.
+    pub fn shut_all<R: Wait>(&self, rt: &R, ending: Ending) {
+        for waker in &self.wakers.list {
+            if let Some(waker) = &*waker.lock(rt) {
+                waker.socket.part(rt, Parting::of_all(ending));
+                waker.socket.shut();
+            }
+        }
+    }
+
+    /// Keeps the desk of a session that has ended, for another session.
+    pub fn keep_desk<R: Wait>(&self, rt: &R, at: usize, desk: Desk<J>) {
+        if let Some(place) = self.places.list.get(at) {
+            place.lock(rt).keep(desk);
+        }
+    }
+
+    /// Releases a place: a desk that it keeps stays. The notice thread of its session is woken, so that it ends.
+    pub fn release_place<R: Wait>(&self, rt: &R, at: usize) {
+        if let Some(waker) = self.wakers.list.get(at)
+            && let Some(waker) = waker.lock(rt).take()
+        {
+            waker.unparker.unpark();
+        }
+        if let Some(place) = self.places.list.get(at) {
+            place.lock(rt).release();
+            self.taken.fetch_sub(1, Ordering::SeqCst);
+        }
+    }
+
+    /// The hall, and the desks that the places keep.
+    pub fn into_parts(self, alloc: Global) -> Result<(Hall<J>, Vec<Desk<J>>), AllocError>
+        ensures { IfOk result (λ parts. length parts.1.items ≤ length self.places.list.items) }
+    {
+        let ServerState {
+            hall,
+            places,
+            wakers: _,
+            lobby: _,
+            limits: _,
+            gate: _,
+            choosing: _,
+            taken: _,
+            players: _,
+            is_stopping: _,
+            was_warned: _,
+        } = self;
+        let mut desks = Vec::new(alloc);
+        for place in places.list {
+            if let Some(desk) = place.into_inner().into_desk() {
+                desks.push(desk)?;
+            }
+        }
+        Ok((hall, desks))
+    }
+}

@@ -1,0 +1,34 @@
+-- Which types of the threads may cross threads.
+use denote.RattleType.{RattleType}
+use denote.Param.Send.{IsSend, IsSync, sendable}
+use denote.Ref.{NamedLft}
+use Rattle.std.proofs.Crossing.{crosses}
+use Rattle.std.proofs.thread.Scope.TheSendSync as scope
+use Rattle.mud_hall.specs.contracts.hall.Hall as Hall
+use Rattle.mud_hall.specs.declared.name.HallName as HallName
+use Rattle.mud_hall.proofs.Crosses.{hall_sync}
+use Rattle.mud_client.proofs.Crosses.{client_send}
+use Rattle.mud_server_state.proofs.Crosses.{places_sync}
+use Rattle.mud_server_state.proofs.state.Wakers.TheSendSync as wakers
+use Rattle.mud_server_state.proofs.state.ServerState.TheSendSync as state
+use Rattle.mud_server_state.specs.contracts.state.Wakers as Wakers
+use Rattle.mud_server_state.specs.contracts.state.ServerState as ServerState
+use Rattle.mud_server_state.specs.contracts.state.Places as Places
+use Rattle.mud_server_threads.specs.contracts.connection.Connection as Connection
+use Rattle.mud_server_threads.specs.contracts.server.Server as Server
+
+-- a server's state, by its parts
+pub state_sync : (J : RattleType) (h : HallName.Ghosts J.Denot) → IsSend J → IsSync J
+    → IsSync (ServerState.the_row (Hall.the_row J h) (Places.the_row J h) Wakers.the_row)
+state_sync J h s y = state.the_sync _ _ _ (hall_sync J h s y) (places_sync J h s) wakers.the_sync
+
+pub connection_send : (J : RattleType) (h : HallName.Ghosts J.Denot) → IsSend J → IsSend (Connection.the_row J h)
+connection_send J h s = search (sendable, crosses, client_send) depth 40 fits 20000
+
+pub connection_sync : (J : RattleType) (h : HallName.Ghosts J.Denot) → IsSend J → IsSync (Connection.the_row J h)
+connection_sync J h s = search (sendable, crosses, client_send) depth 40 fits 20000
+
+-- what a thread of a server is begun with
+pub server_send : (ℓ : NamedLft) (E J R : RattleType) (h : HallName.Ghosts J.Denot) → IsSend J → IsSync J → IsSync R
+    → IsSend (Server.the_row ℓ E J R h)
+server_send ℓ E J R h s y r = search (sendable, scope.the_sync, state_sync, crosses) depth 40 fits 20000

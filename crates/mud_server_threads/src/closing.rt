@@ -1,0 +1,66 @@
+//! How the sessions end once no connection is taken any more.
+
+use crate::connection::StateOf;
+use mud_hall::HallName;
+use mud_server_state::StopSign;
+use mud_socket::{Ending, rest};
+use std::sync::Wait;
+use std::time::Duration;
+
+// How long the server waits between two looks at its sessions.
+const LOOK_MILLISECONDS: u64 = 50;
+
+// How many times it looks, five seconds long, before it shuts the sockets of sessions that are to end.
+const LAST_LOOKS: u32 = 100;
+
+/// Waits until no session is left. Once the server is to end or the journal takes no more, the sessions are to end,
+/// too: a socket that is not shut five seconds later is shut then.
+pub fn see_out<J: HallName, R: Wait>(rt: &R, state: &StateOf<J>, stop: Option<&StopSign>) {
+    if stop.is_none() && state.gate.is_open() {
+        return;
+    }
+    if let Some(ending) = wait_for_ending(rt, state, stop) {
+        shut_late(rt, state, ending);
+    }
+}
+
+// Whether no session is left, and none can come of a browser that is heard: it takes its place before it leaves.
+fn is_empty<J: HallName, R: Wait>(rt: &R, state: &StateOf<J>) -> bool {
+    state.lobby.is_empty() && state.is_empty(rt)
+}
+
+// Waits until no session is left, or those that are left are to end; why they are, if so.
+fn wait_for_ending<J: HallName, R: Wait>(
+    rt: &R,
+    state: &StateOf<J>,
+    stop: Option<&StopSign>,
+) -> Option<Ending> {
+    for _ in rt.forever() {
+        if let Some(sign) = stop
+            && sign.is_set()
+        {
+            state.stop_sessions();
+            state.wake_all(rt);
+        }
+        if let Some(ending) = state.ending(rt) {
+            return Some(ending);
+        }
+        if is_empty(rt, state) {
+            return None;
+        }
+        rest(rt, Duration::from_millis(LOOK_MILLISECONDS));
+    }
+    unreachable!()
+}
+
+// Waits a while until no session is left, and then shuts the sockets of those that are: that ends what their threads
+// read or write there.
+fn shut_late<J: HallName, R: Wait>(rt: &R, state: &StateOf<J>, ending: Ending) {
+    for _ in 0..LAST_LOOKS {
+        if is_empty(rt, state) {
+            return;
+        }
+        rest(rt, Duration::from_millis(LOOK_MILLISECONDS));
+    }
+    state.shut_all(rt, ending);
+}

@@ -1,0 +1,66 @@
+//! Those who come by Telnet: each has a session at once, or is refused.
+
+use crate::server::{Begun, Server};
+use log::Log;
+use mud_hall::HallName;
+use mud_server_state::NoPlace;
+use mud_socket::{Entrance, Socket, set_up};
+use std::io::Write;
+use std::net::{Shutdown, SocketAddr, TcpStream};
+use std::sync::{Arc, Wait};
+use std::thread::Threads;
+use std::time::Clock;
+
+// Refuses a connection for which there is no place.
+fn refuse(stream: TcpStream, no_place: NoPlace) {
+    let mut stream = stream;
+    let _ = stream.write_all(no_place.line().as_bytes());
+    let _ = stream.shutdown(Shutdown::Both);
+}
+
+impl<'s, E, J, R> Server<'s, E, J, R>
+where
+    J: HallName + Send + Sync + 's,
+    R: Threads + Wait + Log + Clock + Sync + 's,
+{
+    // Begins a session by Telnet at the place; whether it did.
+    fn begin(&self, at: usize, stream: TcpStream) -> bool {
+        let (rt, state) = (self.rt, self.state);
+        let opened = match Arc::new(self.alloc, Socket::new(stream, Entrance::Telnet)) {
+            Ok(socket) => self.open(at, socket),
+            Err(_) => None,
+        };
+        let Some(begun) = opened else {
+            state.release_place(rt, at);
+            return false;
+        };
+        let Begun {
+            kept,
+            reads,
+            tells,
+            sleeper,
+            number,
+        } = begun;
+        let has_begun = self.begin_telling(tells, sleeper) && self.begin_reading(reads, at, number);
+        if !has_begun {
+            kept.leave(rt, state, at);
+        }
+        has_begun
+    }
+
+    /// Serves a connection by Telnet, or refuses it where there is no place for it. Once what comes shows that it is no
+    /// browser's request, its reader thread says that its session has begun.
+    pub fn welcome(&self, stream: TcpStream, peer: SocketAddr) {
+        if !set_up(&stream) {
+            return;
+        }
+        match self.admit(peer.ip()) {
+            Ok(at) => {
+                if !self.begin(at, stream) {
+                    self.state.lobby.settle_ticket(&self.state.limits, false);
+                }
+            }
+            Err(no_place) => refuse(stream, no_place),
+        }
+    }
+}

@@ -1,0 +1,144 @@
+//! How long a session waits for the other side.
+
+ghost use Rattle.std.specs.Prelude.{◌≡◌, ◌≢◌, false, Some, None, min, option_map, IfOk, IfErr};
+ghost use Rattle.std.specs.Result.{result_map_both};
+ghost use Rattle.std.specs.Duration.{as_nanos};
+ghost use Rattle.mud_socket.specs.Patience.{limit_of, left_of, shorter_of, wait_of};
+
+use crate::parting::Parting;
+use std::marker::Model;
+use std::time::Duration;
+
+/// How long a session waits for a line, and for its player, and since when.
+#[derive(Drop)]
+pub struct Patience {
+    idle: Option<Duration>,
+    unnamed: Option<Duration>,
+    is_limited: bool,
+    last_line: Duration,
+    start: Duration,
+}
+
+impl Model for Patience {
+    ghost use Rattle.std.specs.Prelude.{◌≡◌, false, None, option_map};
+    ghost use Rattle.std.specs.Duration.{as_nanos};
+    ghost use Rattle.mud_socket.specs.Patience.{Waiting};
+
+    ghost Value = { Waiting };
+
+    ghost view = { λ p. record {
+      idle = option_map as_nanos p.idle;
+      unnamed = option_map as_nanos p.unnamed;
+      last_line = as_nanos p.last_line;
+      start = as_nanos p.start;
+    } };
+
+    ghost invariant = { λ p. p.is_limited ≡ false → (p.idle ≡ None) × (p.unnamed ≡ None) };
+}
+
+// A limit of this many seconds; 0 is none.
+fn limit(seconds: u32) -> Option<Duration>
+    ensures { option_map as_nanos result ≡ limit_of seconds }
+{
+    match seconds {
+        0 => None,
+        seconds => Some(Duration::from_secs(u64::from(seconds))),
+    }
+}
+
+// The shorter of two waits, of which each may be for ever.
+fn shorter(one: Option<Duration>, other: Option<Duration>) -> Option<Duration>
+    ensures { option_map as_nanos result ≡ shorter_of (option_map as_nanos one) (option_map as_nanos other) }
+{
+    match (one, other) {
+        (Some(one), Some(other)) => Some(sooner(one, other)),
+        (None, other) => other,
+        (one, None) => one,
+    }
+}
+
+// The shorter of two times.
+fn sooner(one: Duration, other: Duration) -> Duration
+    ensures { as_nanos result ≡ min (as_nanos one) (as_nanos other) }
+{
+    if other.as_nanos() < one.as_nanos() {
+        other
+    } else {
+        one
+    }
+}
+
+impl Patience {
+    /// The patience with a session that starts now, and is nobody's player: it ends after so many seconds without a
+    /// line, and after so many in which it stays nobody's player; 0 is no limit.
+    pub fn new(idle: u32, unnamed: u32, now: Duration) -> Patience
+        ensures { result ≡ record {
+          idle = limit_of idle;
+          unnamed = limit_of unnamed;
+          last_line = as_nanos now;
+          start = as_nanos now;
+        } }
+    {
+        Patience {
+            idle: limit(idle),
+            unnamed: limit(unnamed),
+            is_limited: 0 < idle || 0 < unnamed,
+            last_line: now,
+            start: now,
+        }
+    }
+
+    /// A line came now.
+    pub fn hear(&mut self, now: Duration)
+        ensures { self.new ≡ record self.old { last_line = as_nanos now } }
+    {
+        self.last_line = now;
+    }
+
+    /// Whether there was a limit at the start.
+    pub fn is_limited(&self) -> bool
+        ensures { result ≡ false → (self.now.idle ≡ None) × (self.now.unnamed ≡ None) }
+    {
+        self.is_limited
+    }
+
+    /// The session is a player's from now on.
+    pub fn name(&mut self)
+        ensures { self.new ≡ record self.old { unnamed = None } }
+    {
+        self.unnamed = None;
+    }
+
+    /// How long the next read may wait, for ever where there is no limit; or what ends the session now.
+    #[tactic(auto, using(crate::proofs::Waits::silent, crate::proofs::Waits::late, crate::proofs::Waits::goes))]
+    pub fn wait(&self, now: Duration) -> Result<Option<Duration>, Parting>
+        ensures { result_map_both (option_map as_nanos) (λ p. p) result ≡ wait_of self.now (as_nanos now) }
+    {
+        let idle = time_left(self.idle, self.last_line, now, Parting::Idle)?;
+        let unnamed = time_left(self.unnamed, self.start, now, Parting::Unnamed)?;
+        Ok(shorter(idle, unnamed))
+    }
+}
+
+// What is left now of a limit that began at a time; nothing is what ends the session.
+fn time_left(
+    limit: Option<Duration>,
+    since: Duration,
+    now: Duration,
+    parting: Parting,
+) -> Result<Option<Duration>, Parting>
+    ensures ok { IfOk result (λ wait. (option_map as_nanos wait
+        ≡ left_of (option_map as_nanos limit) (as_nanos since) (as_nanos now)) × (option_map as_nanos wait ≢ Some 0)) }
+    ensures err { IfErr result (λ p. (p ≡ parting)
+        × (left_of (option_map as_nanos limit) (as_nanos since) (as_nanos now) ≡ Some 0)) }
+{
+    let Some(limit) = limit else {
+        return Ok(None);
+    };
+    let left = limit.saturating_sub(now.saturating_sub(since));
+    if left.is_zero() {
+        Err(parting)
+    } else {
+        Ok(Some(left))
+    }
+}

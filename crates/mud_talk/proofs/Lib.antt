@@ -1,3 +1,0 @@
-pub mod Crosses
-mod Leaving
-mod Naming

@@ -1,2 +1,0 @@
-pub mod Web
-pub mod inner

@@ -46,8 +46,7 @@ NAMES = ["The Hall", "The Library", "The Attic", "The Vault"]
 STATE = text_of("state")
 ROOMS = "[...document.querySelectorAll('#rooms li')].map((item) => item.textContent).join(' | ')"
 FITS = "document.documentElement.scrollWidth <= window.innerWidth"
-# What costs are counted by is large: it is not kept for the next page.
-EMPTIED = "sessionStorage.clear(), [world.rooms, world.exits, world.ties].forEach((kept) => kept.clear())"
+EMPTIED = "sessionStorage.clear(), world.rooms.clear(), world.exits.clear()"  # What costs are counted by is large.
 LOADED, ON = "document.readyState === 'complete'", "document.body.dataset.state === 'on'"
 # How often a page of another origin sends lines to the port for Telnet, and what the log says of that; and how it sends
 # them, which answers how often nothing came back.

@@ -29,7 +29,7 @@ BEGIN, END = "<!-- {}, written by `tests/run definitions --write`. -->", "<!-- T
 # without such files, all that is public in the crate.
 CLAIMS = [
     ("the theorems about the guide", "mud_hall", {"src/laws.rt": ["guide", "walk"]}),
-    ("the verdict of the checker", "mud_verdict", {"src/outcome.rt": ["verdict"]}),
+    ("the verdict of the checker", "mud_checker", {"src/outcome.rt": ["verdict"]}),
     ("a script, from bytes to bytes", "mud_session", {"src/scripting.rt": ["script"], "src/laws.rt": ["runs"]}),
     ("the journal", "mud_journal", {}),
     ("the door on the web", "mud_web", {}),

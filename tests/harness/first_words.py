@@ -112,4 +112,4 @@ def no_proof_claimed(count):
     folders = [f"{TOP}/crates/{name}/src" for name in os.listdir(f"{TOP}/crates")]
     paths = [f"{folder}/{file}" for folder in folders if os.path.isdir(folder) for file in os.listdir(folder)]
     naming = [os.path.relpath(path, TOP) for path in paths if KIT.search(read(path).decode())]
-    count("one file names the kit", naming == ["crates/mud_command/src/build.rt"], naming)
+    count("one file names the kit", naming == ["crates/mud_cli/src/build.rt"], naming)

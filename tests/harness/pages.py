@@ -16,7 +16,7 @@ SCRIPTS = ["run", ".ci/run", "tests/run", "tests/*/*.py", "tests/*/*.c", "bench/
 PAGES = ["*.md", "docs/*", "bench/*.md", "tests/*.md"]
 # The pages whose names between backquotes are all of the crates, or of parts of tests/run.
 NAMING = ["PROVED", "THEOREM", "DEFINITIONS", "WORDS", "COMMANDS", "WORLD", "KEEPING", "HISTORY", "ROADS", "GUIDE"]
-NAMING += ["HALL", "CHECKER", "CERTIFICATES", "EXPLAIN", "TELNET"]
+NAMING += ["HALL", "CHECKER", "CERTIFICATES", "EXPLAIN", "TELNET", "ARCHITECTURE", "SERVER"]
 WRITTEN = [*PAGES, *SCRIPTS, *SOURCES]
 QUOTE = re.compile(r"^<!-- (\S+) -->\n```\w*\n(.*?)\n```$", re.M | re.S)
 FOLDERS = r"(?:crates|docs|examples|tests|bench|\.ci)"
@@ -25,6 +25,8 @@ SPAN = re.compile(r"`([^`\n]+)`")
 WORD = re.compile(r"\w+")
 NAME = re.compile(r"[A-Za-z_]\w*(?:::\w+)*")
 RULE = re.compile(r"^\|[ :|-]+$")
+# A step of a path through the crates: a crate, and the first name after it.
+STEP = re.compile(r"^\d+\. `(mud_\w+)`: .*?`([A-Za-z_]\w*(?:::\w+)*)`", re.M)
 PLACEHOLDER = re.compile(r"\b(?:NAME|CRATE|SUBJECT|DOUBT|PROGRAM)\b")
 LOGIC = re.compile(r"logic ([0-9a-f]{8,})")
 # A section of docs/FAULTS.md, and the entries of a section: what is wrong, and what is said of it, in this order. The
@@ -144,6 +146,13 @@ def count_names(count, page, known):
     spans = [span for span in SPAN.findall(QUOTE.sub("", text_of(page))) if NAME.fullmatch(span)]
     missing = sorted({span for span in spans if span not in PARTS and not known.issuperset(WORD.findall(span))})
     count(f"{page}: names", not missing, f"nowhere in the crates: {', '.join(missing)}")
+
+
+def count_steps(count, page):
+    """A test for each step of a path through the crates: the crate that it names has what it names."""
+    for crate, name in STEP.findall(text_of(page)):
+        known = {word for path in files([f"crates/{crate}/src/*.rt"]) for word in WORD.findall(text_of(path))}
+        count(f"{page}: {crate}: {name}", known.issuperset(WORD.findall(name)), "this crate has no such name")
 
 
 def carriers(cell, crate):
@@ -281,7 +290,7 @@ def count_kit(count):
     """A test that README and the programs name the logic of the kit that is here."""
     said = subprocess.run(["rt", "version"], capture_output=True, text=True).stdout
     here = LOGIC.findall(said)
-    for path in ("README.md", "crates/mud_command/src/build.rt"):
+    for path in ("README.md", "crates/mud_cli/src/build.rt"):
         named = LOGIC.findall(text_of(path))
         count(f"{path}: kit", bool(here) and set(named) == set(here), f"names {named}; rt version says {said.strip()}")
 
@@ -315,6 +324,7 @@ def check_pages(count):
     for tables in (count_promises, count_together, count_wrong_bodies):
         tables(count, "docs/PROVED.md")
     count_clauses(count, "docs/THEOREM.md")
+    count_steps(count, "docs/ARCHITECTURE.md")
     known = known_names()
     for page in NAMING:
         count_names(count, f"docs/{page}.md", known)

@@ -32,24 +32,26 @@ function inWords(line) {
   return pattern ? `refused: ${line.match(pattern)[0].replace(pattern, words)}` : line.replace("accepted", "checked");
 }
 
-// A finding of the checker as a mark, for an answer of this version with this text.
-function markFor({ verdict, text, says }, version, now, said) {
-  if (verdict !== "accepted") return { kind: "alarm", isDone: true, text: inWords(text) };
-  if (said !== undefined && says !== said)
-    return now === version ? { kind: "alarm", isDone: true, text: `refused: the proof is of another answer: ${says}` } :
-      { kind: "checked", isDone: true, text: `not the answer any more: at ${now} ${says}, checked` };
-  return { kind: "checked", isDone: true, text: now === version ? "checked" : `checked at ${now}` };
+// A finding of the checker as a mark, for an answer whose proof this is; the answer may be the proof.
+function markFor({ verdict, text, says }, entry, proof) {
+  const mark = (kind, words) => ({ kind, isDone: true, text: words }), isSame = entry.volume === proof.volume;
+  const isNow = isSame && entry.version === proof.version;
+  const at = `at ${proof.version}${isSame ? "" : ` of volume ${proof.volume}`}`;
+  if (verdict !== "accepted") return mark("alarm", inWords(text));
+  if (entry === proof || says === entry.lines.join("\n")) return mark("checked", isNow ? "checked" : `checked ${at}`);
+  return isNow ? mark("alarm", `refused: the proof is of another answer: ${says}`) :
+    mark("checked", `not the answer any more: ${at} ${says}, checked`);
 }
 
 class Checks {
-  // act: { ask(line), later(task, wait), now(), mark(entry), canAsk() }; judge is a checker.Checker, or undefined.
+  // act: { ask(line), later(task, wait), now(), mark(entry) }; judge is a checker.Checker for the history of a volume.
   constructor(judge, act) {
-    Object.assign(this, { judge, act, last: Promise.resolve(), isAlways: true });
+    Object.assign(this, { judge, act, volume: 1, last: Promise.resolve(), isAlways: true });
   }
 
   // An answer came: it is checked by itself, or has a button for it.
   answered(entry) {
-    if (!this.judge || entry.quiet || !(isProvable(entry) || isProof(entry))) return;
+    if (entry.quiet || !(isProvable(entry) || isProof(entry))) return;
     const isByItself = this.isAlways && entry.version <= MOST_BY_ITSELF && isProvable(entry);
     if (isByItself) this.check(entry);
     else this.mark(entry, { kind: "offer", text: "check", task: () => this.check(entry) });
@@ -73,12 +75,15 @@ class Checks {
   async find(entry, show) {
     const proof = isProof(entry) ? entry : await this.ask(`proof ${entry.line}`);
     if (!isProof(proof)) throw new Error(proof.lines[0]);
-    if (this.judge.count < proof.version) {
-      const fault = await this.learn(show);
-      if (fault) return markFor(fault);
-    }
-    const found = await this.judge.check(proof.lines.slice(1).join("\n") + "\n", show);
-    return markFor(found, entry.version, proof.version, isProof(entry) ? undefined : entry.lines.join("\n"));
+    const { judge } = this;
+    this.stays(proof.volume);
+    const fault = judge.count < proof.version ? await this.learn(judge, proof.volume, show) : undefined;
+    return markFor(fault ?? await judge.check(proof.lines.slice(1).join("\n") + "\n", show), entry, proof);
+  }
+
+  // A proof can only be checked as long as its volume is the last: there is no history of another one.
+  stays(volume) {
+    if (volume !== this.volume) throw new Error(`volume ${volume} has ended.`);
   }
 
   // What the server answers to a quiet line.
@@ -88,14 +93,15 @@ class Checks {
     return answer;
   }
 
-  // Reads the history as it is now. What is wrong with it, if anything.
-  async learn(show) {
+  // Has the judge of a volume read its history as it is now. What is wrong with it, if anything.
+  async learn(judge, volume, show) {
     const wait = (this.learnedAt ?? -HISTORY_GAP) + HISTORY_GAP - this.act.now();
     if (wait > 0) await new Promise((go) => this.act.later(go, wait));
     const answer = await this.ask("@history");
     this.learnedAt = this.act.now();
     if (headOf(answer) !== "history") throw new Error(answer.lines[0]);
-    const found = await this.judge.history(answer.lines.slice(1).join("\n") + "\n", show);
+    this.stays(volume);
+    const found = await judge.history(answer.lines.slice(1).join("\n") + "\n", show);
     return found.verdict ? found : undefined;
   }
 }

@@ -53,7 +53,7 @@ class Trip {
   }
 }
 
-// The hands on the page. `act` is { say(line, answered), latest(), arrived() }.
+// The hands on the page. `act` is { say(line, answered), since(entry), arrived() }.
 class Hands {
   constructor(parts, world, verbs, act) {
     Object.assign(this, { parts, world, verbs, act });
@@ -107,13 +107,14 @@ class Hands {
     const { parts, trip, world } = this;
     parts.route.hidden = !trip;
     if (!trip) return;
-    const next = trip.next(world), since = this.act.latest() - trip.entry.version, { mark } = trip.entry;
+    const next = trip.next(world), since = this.act.since(trip.entry), { mark, volume } = trip.entry;
     const isOpen = next !== undefined, left = trip.exits.length - world.walked;
     const isLost = !isOpen && !trip.isNoWay && !trip.isThere(world);
     parts.told.textContent = trip.text(world) + (isLost ? ". You left this way" : "");
     parts.mark.textContent = mark?.text ?? "";
     parts.mark.className = `mark ${mark?.kind ?? ""}`;
-    parts.age.textContent = since > 0 ? `${since} ${since === 1 ? "change" : "changes"} since` : "";
+    parts.age.textContent = since === Infinity ? `of volume ${volume}` :
+      since > 0 ? `${since} ${since === 1 ? "change" : "changes"} since` : "";
     parts.again.hidden = !(since > 0 || isLost);
     parts.step.hidden = !isOpen || trip.isRunning;
     parts.step.textContent = isOpen ? `Go: ${world.exits.get(next)?.name ?? `#${next}`}` : "";

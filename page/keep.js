@@ -35,7 +35,7 @@ function saveFile(name, text) {
 }
 
 // The record of a conversation, as one file: its name and its text.
-function recordOf({ history, proofs }) {
+function recordOf({ history, proofs, volume }) {
   const text = checker.record(history.text, proofs.map((proof) => proof.text));
-  return { name: `record-${history.version}.txt`, text };
+  return { name: `${volume > 1 ? `volume-${volume}-` : ""}record-${history.version}.txt`, text };
 }

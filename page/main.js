@@ -17,7 +17,7 @@ const link = new Connection({
   cancel: (timer) => clearTimeout(timer), chance: Math.random,
 }, { open: opened, text: heard, closed, state: showState });
 const hands = new Hands(parts("exits", "route", "told", "mark", "age", "again", "step", "all", "close", "line"), world,
-  verbs, { say: (line, answered) => say(line, { answered }), latest: () => talk.latest, arrived });
+  verbs, { say: (line, answered) => say(line, { answered }), since: (entry) => talk.since(entry), arrived });
 const line = new Line(part("form"), part("line"), { send: (text) => say(text), world, verbs, page: turnPage },
   kept.typed);
 const checks = new Checks(undefined, {
@@ -58,7 +58,7 @@ let lookedAt, isBack = false;
 
 function opened() {
   talk.begin();
-  checks.judge = new checker.Checker();
+  beginChecks();
   lookedAt = undefined;
   const { connectLine } = talk;
   if (connectLine) isBack = say(connectLine, { answered: () => (isBack = false) });
@@ -72,12 +72,28 @@ function heard(text) {
   showWorld();
 }
 
-const answers = [];
-talk.onAnswer = (entry) => answers.push(entry);
+// Each connection, and each volume, has a history of its own.
+function beginChecks() {
+  Object.assign(checks, { judge: new checker.Checker(), volume: talk.volume });
+}
+
+// The proofs of a volume that has ended stand in no further record. A button saves them by themselves.
+function offerProofs(volume, proofs) {
+  const task = () => saveFile(`volume-${volume}-proofs.txt`, proofs.map(({ text }) => text).join(""));
+  log.show({ kind: "page", lines: [`volume ${volume} has ended, proofs of it: ${proofs.length}`],
+    mark: { kind: "offer", text: "save them", task } });
+}
+
+const tasks = [];
+talk.onAnswer = (entry) => tasks.push(() => answered(entry));
+talk.onEnd = (volume, proofs) => {
+  beginChecks();
+  if (proofs.length) tasks.push(() => offerProofs(volume, proofs));
+};
 
 // What answers lead to is done when they were shown.
 function takeAnswers() {
-  for (const entry of answers.splice(0)) answered(entry);
+  for (const task of tasks.splice(0)) task();
 }
 
 function answered(entry) {
@@ -201,15 +217,15 @@ async function checkFile(file) {
 
 function keep() {
   const settings = Object.fromEntries(["looks", "checks", "times"].map((id) => [id, part(id).checked]));
-  const { connectLine, name, latest } = talk;
-  keepInTab({ latest, world: world.kept(), layout: map.layout.kept(), log: log.book.kept(), typed: line.earlier.lines,
-    draft: part("line").value, connectLine, name, settings, isOpen: part("map").open });
+  const { connectLine, name, latest, volume } = talk;
+  keepInTab({ latest, volume, world: world.kept(), layout: map.layout.kept(), log: log.book.kept(),
+    typed: line.earlier.lines, draft: part("line").value, connectLine, name, settings, isOpen: part("map").open });
 }
 
 function restore() {
-  const { layout, log: entries = [], connectLine, name, latest, settings = {}, isOpen, draft = "" } = kept;
+  const { layout, log: entries = [], connectLine, name, latest, volume = 1, settings = {}, isOpen, draft = "" } = kept;
   if (layout) map.layout = Layout.from(layout);
-  Object.assign(talk, { connectLine, name, latest });
+  Object.assign(talk, { connectLine, name, latest, volume });
   for (const [id, value] of Object.entries(settings)) part(id).checked = value;
   for (const entry of entries) log.show({ ...entry, isSilent: true });
   if (entries.length) log.show({ kind: "page", lines: ["above: what this tab had before"], isSilent: true });

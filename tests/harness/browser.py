@@ -16,7 +16,7 @@ from harness.devtools import Browser, Firefox
 from harness.inputs import read
 from harness.journal import Place
 from harness.page_costs import count_costs
-from harness.page_use import count_help, count_keys, count_log, count_map, count_switches, count_way
+from harness.page_use import count_help, count_keys, count_log, count_map, count_switches, count_volume, count_way
 from harness.parts import part
 from harness.proofs import refused
 from harness.server import HOST
@@ -317,6 +317,7 @@ def play(count, one, server, folder):
     count_reload(count, one)
     count_keys(count, one)
     count_log(count, one, folder)
+    count_volume(count, one, folder)
     count_still(count, one)
 
 

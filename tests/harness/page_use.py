@@ -143,6 +143,25 @@ def count_log(count, browser, folder):
     browser.value("talk.latest = 0")
 
 
+def count_volume(count, browser, folder):
+    """Counts what the page makes of the line of a new volume: it offers the proofs of the one that has ended, and names
+    the new one in what it saves. No server says the line, so the page is handed it.
+    """
+    name, proofs = browser.name, browser.value("talk.proofs.length")
+    browser.value("heard('(volume 2)\\r\\n')")
+    rest(browser)
+    told = browser.value(f"{LOG}.includes('volume 1 has ended, proofs of it: {proofs}')")
+    browser.value("[...document.querySelectorAll('.page button.mark')].at(-1).click()")
+    rest(browser, 1)
+    saved = b"".join(read(path) for path in glob.glob(f"{folder}/volume-1-proofs*.txt"))
+    is_all = proofs > 0 and saved.count(b"mud proof") == proofs
+    count(f"{name}: the proofs of a volume that has ended can be saved", told and is_all, saved[-300:])
+    click(browser, "save")
+    shown = browser.waits_for(f"{LOG}.includes('saved volume-2-record-')", 10)
+    count(f"{name}: what is saved names its volume", shown, browser.value(LOG)[-300:])
+    browser.value("(talk.told = talk.volume = checks.volume = 1, talk.latest = 0)")
+
+
 def count_behind(count, browser):
     """Counts whether the title tells what came while the tab was behind."""
     browser.value("Object.defineProperty(document, 'hidden', { configurable: true, get: () => true })")

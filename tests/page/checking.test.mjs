@@ -7,20 +7,21 @@ import { logic } from "./loaded.mjs";
 const ROUTE = "route #0 to #2 cost 1 by #3";
 
 // Checks with a server that gives these answers by the beginning of the line, and a checker that finds this.
-function made({ found = {}, version = 4, answers = {} } = {}) {
+function made({ found = {}, version = 4, volume = 1, answers = {} } = {}) {
   const asked = [], waits = [];
   let time = 0;
   const judge = { count: 0, async history() { return { count: this.count = version }; },
     check: async () => ({ verdict: "accepted", text: "accepted", says: ROUTE, ...found }) };
-  const proof = { kind: "reply", version, line: "proof route to #2", lines: ["proof", "mud proof 2", "end"] };
-  const history = { kind: "reply", version, line: "@history", lines: ["history", "mud history 2", "end 4"] };
+  const proof = { kind: "reply", version, volume, line: "proof route to #2", lines: ["proof", "mud proof 2", "end"] };
+  const history = { kind: "reply", version, volume, line: "@history", lines: ["history", "mud history 2", "end 4"] };
   const act = { now: () => time, mark: () => {}, later: (go, wait) => (waits.push(wait), (time += wait), go()),
     ask: async (line) => (asked.push(line), { "@history": history, ...answers }[line] ?? answers.proof ?? proof) };
-  return { checks: new logic.Checks(judge, act), asked, waits, judge };
+  const checks = Object.assign(new logic.Checks(judge, act), { volume });
+  return { checks, asked, waits, judge, history };
 }
 
 function route(version = 4, lines = [ROUTE]) {
-  return { kind: "reply", version, line: "route to #2", lines, quiet: false };
+  return { kind: "reply", version, volume: 1, line: "route to #2", lines, quiet: false };
 }
 
 async function markOf(entry, setup) {
@@ -100,4 +101,32 @@ test("only routes, meetings and proofs are checked, and old worlds of many chang
   assert.deepEqual(await markOf(route(20001)), ["offer", "check"]);
   const proof = { kind: "reply", version: 4, line: "proof route to #2", lines: ["proof", "mud proof 2", "end"] };
   assert.deepEqual(await markOf(proof), ["offer", "check"]);
+});
+
+test("an answer may be checked by a proof of the next volume, which is named", async () => {
+  assert.deepEqual(await markOf(route(), { volume: 2 }), ["checked", "checked at 4 of volume 2"]);
+  const other = { says: "route #0 to #2 no way" };
+  const [kind, text] = await markOf(route(), { volume: 2, found: other });
+  assert.deepEqual([kind, text], ["checked", `not the answer any more: at 4 of volume 2 ${other.says}, checked`]);
+});
+
+test("a proof of a volume that has ended is not held against the history of another", async () => {
+  const proof = { ...route(), line: "proof route to #2", lines: ["proof", "mud proof 2", "end"] };
+  const { checks, asked, judge } = made({ volume: 2 });
+  judge.count = 9;
+  checks.answered(proof);
+  await proof.mark.task();
+  assert.deepEqual([proof.mark.kind, proof.mark.text], ["offer", "not checked: volume 1 has ended. Again?"]);
+  assert.deepEqual(asked, []);
+});
+
+test("where a volume ends while its history is asked for, the answer is not checked", async () => {
+  const { checks, history } = made(), entry = route(), ask = checks.act.ask;
+  checks.act.ask = async (line) => {
+    if (line === "@history") [checks.volume, history.volume] = [2, 2];
+    return ask(line);
+  };
+  checks.answered(entry);
+  await checks.last;
+  assert.deepEqual([entry.mark.kind, entry.mark.text], ["offer", "not checked: volume 1 has ended. Again?"]);
 });

@@ -6,7 +6,7 @@ const maker = fileURLToPath(new URL("../../page/make_page.py", import.meta.url))
 const source = execFileSync("python3", [maker, "--logic"], { encoding: "utf8", maxBuffer: 1 << 24 });
 const names = `Conversation, World, typed, words, isRefusal, Layout, stepOf, isAlong, Picture, listOf, overlap, CELL,
   MOST_ROOMS, MOST_WAYS, MOST_LABELS, Connection, originIn, FIRST_WAIT, MOST_WAIT, LASTED, Book, Log, MOST_ENTRIES,
-  FOLDED, GROUP, Trip, lineFor, completions, Earlier, COMMANDS, verbsOf, Checks, inWords, checker, headOf`;
+  FOLDED, GROUP, Trip, lineFor, completions, Earlier, COMMANDS, verbsOf, Checks, inWords, checker, headOf, recordOf`;
 
 export const logic = new Function(`${source} return { ${names} };`)();
 

@@ -226,3 +226,74 @@ test("each text of a refusal is taken for one, and no other reply is", async () 
   for (const text of ["said", "version", "bye", "The Hall #0", "route #0 to #2 no way", "key of #3 is nothing"])
     assert.ok(!logic.isRefusal([text]), text);
 });
+
+// A conversation that was told a history and a proof of volume 1, and what it says of volumes that end.
+function inFirstVolume() {
+  const talk = after(["connect Bob", "[11] welcome #8"], ["@history", "[11] history", ...TALE],
+    ["proof route to here", "[11] proof", ...PROOF]), ended = [];
+  talk.onEnd = (volume, proofs) => ended.push([volume, proofs.map(({ version }) => version)]);
+  return { talk, ended };
+}
+
+test("a new volume begins versions anew: the history is dropped, the proofs are handed on, the world stays", () => {
+  const { talk, ended } = inFirstVolume(), before = [rooms(talk), exits(talk)];
+  const shown = talk.take("(volume 2)\r\n(3) Bob arrives.\r\n");
+  assert.deepEqual(shown.map(({ kind }) => kind), ["host", "notice"]);
+  assert.deepEqual([talk.volume, talk.latest, talk.history, talk.proofs], [2, 3, undefined, []]);
+  assert.deepEqual([ended, rooms(talk), exits(talk)], [[[1, [11]]], ...before]);
+  tell(talk, "@history", "[4] history", "mud history 2", "1 1 say #1 hi", "end 1");
+  assert.equal(logic.recordOf(talk).name, "volume-2-record-4.txt");
+  assert.equal(logic.recordOf(inFirstVolume().talk).name, "record-11.txt");
+});
+
+test("what is answered before the line of a volume is of the volume before, however it is cut", () => {
+  const lines = ["[12] went by #6 to #0", "(volume 2)", "[4] The Hall #0", "  exits door #5", "(5) Ann arrives."];
+  const sent = lines.map((line) => line + "\r\n").join("");
+  for (let size = 1; size <= sent.length; size += 1) {
+    const { talk, ended } = inFirstVolume(), told = [];
+    talk.onAnswer = ({ line, volume, version }) => told.push([line, volume, version]);
+    for (const line of ["way back", "look"]) talk.say(line);
+    for (let at = 0; at < sent.length; at += size) talk.take(sent.slice(at, at + size));
+    assert.deepEqual(told, [["way back", 1, 12], ["look", 2, 4]], `pieces of ${size}`);
+    assert.deepEqual([ended, talk.latest], [[[1, [11]]], 5], `pieces of ${size}`);
+  }
+});
+
+test("a line that waits over the end of a volume is answered in the next one", () => {
+  const { talk } = inFirstVolume();
+  talk.say("look");
+  const [, entry] = talk.take("(volume 2)\r\n[4] Yard #4\r\n");
+  assert.deepEqual([entry.line, entry.volume], ["look", 2]);
+});
+
+test("changes are counted in a volume, and an answer of an earlier one is old", () => {
+  const { talk } = inFirstVolume(), [first] = tell(talk, "look", "[12] Yard #4");
+  talk.take("(14) Ann arrives.\r\n");
+  assert.equal(talk.since(first), 2);
+  talk.take("(volume 2)\r\n");
+  const [second] = tell(talk, "look", "[3] Yard #4");
+  assert.deepEqual([talk.since(first), talk.since(second)], [Infinity, 0]);
+});
+
+test("a connection in the next volume goes on with the same world, and one in an earlier volume has another", () => {
+  const { talk, ended } = inFirstVolume(), before = rooms(talk);
+  const comes = (...lines) => {
+    talk.begin();
+    talk.take("Welcome. Type: connect NAME\r\n");
+    tell(talk, "connect Bob", ...lines);
+  };
+  comes("(volume 2)", "[4] welcome #8");
+  assert.deepEqual([talk.volume, talk.world.age, rooms(talk), ended], [2, 0, before, [[1, [11]]]]);
+  tell(talk, "proof route to here", "[4] proof", ...PROOF);
+  comes("(volume 2)", "[5] welcome #8");
+  assert.deepEqual([talk.world.age, talk.proofs.length, ended.length], [0, 1, 1]);
+  comes("[9] welcome #2");
+  assert.deepEqual([talk.volume, talk.world.age, rooms(talk), ended.slice(1)], [1, 1, [], [[2, [4]], [1, []]]]);
+});
+
+test("another world of the same volume has another history", () => {
+  const { talk, ended } = inFirstVolume();
+  talk.begin();
+  tell(talk, "connect Ann", "[5] welcome #2");
+  assert.deepEqual([talk.history, talk.proofs, ended], [undefined, [], [[1, [11]]]]);
+});

@@ -1,31 +1,31 @@
-// What each answer tells of the world. SAID has the texts of the server and WORDS those of typed lines, by the names of
-// their rows in texts.json.
+// Updates the world from the server's answers. SAID has the patterns of the server's lines, and WORDS the words of
+// typed lines, by the names of their rows in texts.json.
 
-// What stands behind the verb of a line, where it is this one; undefined where the line has another verb.
+// Returns the rest of a line after this verb; undefined if the line has another verb.
 function behind(verb, line = "") {
-  const [, first, rest] = line.match(/^(\S*) *(.*)$/);
+  const [, first, rest] = line.match(/^(\S*) *([^]*)$/);
   return WORDS[verb].includes(first.toLowerCase()) ? rest : undefined;
 }
 
-// The texts before and after the first preposition `to`; the second is empty where there is none.
+// Returns the texts before and after the first preposition `to`. Without one the second text is empty.
 function aroundTo(text = "") {
   const [first, ...rest] = text.split(new RegExp(` (${WORDS.to.join("|")}) `, "i"));
   return [first, rest.slice(1).join(" ")];
 }
 
-// A list of names with numbers, as `north #3, south #4`.
+// Reads a list such as `north #3, south #4`. Returns pairs [number, name].
 function listed(text) {
   return text.split(WORDS.comma[0]).map((one) => one.match(SAID.named)).filter(Boolean)
     .map(([, name, number]) => [Number(number), name]);
 }
 
-// The first name of a text of names, without quotes.
+// Returns the first of some names, without quotes; undefined if it is empty.
 function firstName(text = "") {
   const name = text.replace(/"/g, "").split(",")[0].trim();
   return name === "" ? undefined : name;
 }
 
-// Whether an answer is a refusal: of all texts of docs/COMMANDS.md only those of refusals end so.
+// Returns true for a refusal. No other text of docs/COMMANDS.md ends as a refusal does.
 function isRefusal(lines) {
   return lines.length === 1 && SAID.refused.test(lines[0]);
 }
@@ -34,8 +34,8 @@ function isLook(line) {
   return behind("look", line) === "";
 }
 
-// The name of the row that a reply begins with; undefined where the page looks for no such text. What is looked at may
-// be named as any other text begins, so a look is nothing else.
+// Returns the name of the row that the first line of a reply matches; undefined if the page reads no such reply. A room
+// may be named `welcome`, so the answer to a look is matched with its own row alone.
 function headOf({ kind, line, lines: [text] }) {
   const heads = behind("look", line) === undefined ? Object.keys(READERS) : ["named"];
   return kind === "reply" ? heads.find((name) => SAID[name].test(text)) : undefined;
@@ -52,7 +52,7 @@ function readLook(world, [, number], line, lines) {
   else if (!way) world.thing(number, name);
 }
 
-// A room with all of its exits: others that were told before are gone.
+// Sets a room and all of its exits. Exits that were known and are not listed are removed.
 function readRoom(world, number, name, exits) {
   world.room(number, name);
   const now = new Map(exits);
@@ -78,7 +78,7 @@ function readWalk(world, [exit, to]) {
   if (isNext) world.walked += 1;
 }
 
-// A walk was refused: the exit is locked, or the room that it leads to.
+// Marks the exit of a refused walk as locked; the lock may be that of the room behind it.
 function readLocked(world, _, line) {
   const exit = world.exitNamed(behind("go", line) ?? line, behind("go", line) === undefined);
   if (exit !== undefined) world.exit(exit, { locked: true });
@@ -92,7 +92,7 @@ function readRenamed(world, [number], line) {
   if (world.things.has(number)) world.thing(number, name);
 }
 
-// The exits of a route, as its answer names them.
+// Returns the exits of a route's answer, in order.
 function exitsOnWay(text) {
   return [...(text.match(SAID.route)?.[4] ?? "").matchAll(/#(\d+)/g)].map(([, exit]) => Number(exit));
 }
@@ -106,7 +106,7 @@ function readHeld(world, _, line, [text]) {
   for (const [thing, name] of listed(text.match(SAID.held)[1])) world.thing(thing, name);
 }
 
-// A history tells all rooms and exits, and where each player is.
+// Replaces all rooms and exits by those of a history, and moves the player to the room that it has for them.
 function readHistory(world, _, line, lines) {
   const objects = checker.told(lines.slice(1).join("\n") + "\n"), { me, visited, route } = world;
   if (!objects) return;
@@ -123,8 +123,8 @@ function readHistory(world, _, line, lines) {
   if (route.some((exit) => !world.exits.has(exit))) world.plan([]);
 }
 
-// The texts that a reply may begin with, each with what reads it: from the world, the numbers of the text, the line
-// that was typed, and all lines of the answer.
+// The rows that the first line of a reply may match, with their readers. A reader gets the world, the numbers of the
+// first line, the typed line, and all lines of the answer.
 const READERS = {
   welcome: (world, [me]) => Object.assign(world, { me, here: undefined }),
   walked: readWalk, dug: readDug, made: readMade, renamed: readRenamed, locked: readLocked, held: readHeld,
@@ -134,13 +134,13 @@ const READERS = {
   history: readHistory, meeting() {}, proof() {}, bye() {},
 };
 
-// All that a whole answer tells.
+// Updates the world from a whole answer.
 function readAnswer(world, entry) {
   const { line, lines } = entry, head = headOf(entry);
   if (head) (READERS[head] ?? readLook)(world, lines[0].match(SAID[head]).slice(1).map(Number), line, lines);
 }
 
-// Who was heard: a name before what the player says or does.
+// Remembers the name of the player whom a notice is about.
 function readNotice(world, text) {
   const heard = text.match(SAID.heard);
   if (heard) world.heard(heard.slice(1).find(Boolean));

@@ -2,18 +2,18 @@
 
 const MOST_COUNT = 999999999, MOST_MEMBERS = 8;
 
-// A certificate is { form, version, members, room, cost, isMeeting }. A member is { player, from, labels, walk }: each
-// label is [room, cost, exits], by rising room, and the walk is a list of exits, or undefined where none is given.
-// `room` is undefined where there is no meeting, and `cost` where there is no way.
+// A certificate is { form, version, members, room, cost, isMeeting }. A member is { player, from, labels, walk }:
+// labels are [room, cost, exits] with ascending rooms, and the walk is a list of exits, undefined for `walk none`.
+// `room` is undefined if there is no meeting, and `cost` if there is no way.
 class CertificateReader {
   constructor(text) {
     this.lines = new Lines(text);
-    this.line = undefined; // A cursor in the line that is read.
-    this.wanted = 0; // That line's number.
+    this.line = undefined; // A cursor in the current line.
+    this.wanted = 0; // The number of that line.
     this.certificate = { form: 0, version: 0, members: [], room: undefined, cost: undefined, isMeeting: false };
   }
 
-  // Reads the text, and yields between lines and now and then in a long one: { certificate }, or { fault } with the
+  // Reads the text, and yields between lines and within long ones. Returns { certificate }, or { fault } with the
   // number of the bad line.
   *read() {
     const { certificate, lines } = this, bad = () => ({ fault: this.wanted });
@@ -29,20 +29,20 @@ class CertificateReader {
     return lines.isAtEnd ? { certificate } : { fault: lines.count + 1 };
   }
 
-  // Goes on to the next line. Whether it begins so.
+  // Goes to the next line. Returns true if it begins with this word.
   begin(word = "") {
     this.wanted = this.lines.count + 1;
     this.line = this.lines.take();
     return this.line !== undefined && this.line.take(word);
   }
 
-  // The number that stands at the end of the line.
+  // Reads the number that ends the line; undefined if more follows.
   lastNumber(most) {
     const number = this.line.number(most);
     return this.line.isAtEnd ? number : undefined;
   }
 
-  // Whether the line is that of a further member, who is taken up then.
+  // Reads the rest of a member's first line. Returns true if it can be read.
   readMember() {
     const { members } = this.certificate, { line } = this;
     const player = line.sharp(), from = line.take(" from ") ? line.sharp() : undefined;
@@ -50,7 +50,7 @@ class CertificateReader {
     return members.push({ player, from, labels: [], walk: [] }) <= MOST_MEMBERS;
   }
 
-  // Whether the next line has a member's labels, which are taken up then.
+  // Reads the line of a member's labels. Returns true if it can be read.
   *readLabels() {
     if (!this.begin("labels")) return false;
     const { line, certificate } = this, { labels } = certificate.members.at(-1);
@@ -66,7 +66,7 @@ class CertificateReader {
     return line.isAtEnd;
   }
 
-  // The same of his walk.
+  // Reads the line of a member's walk. Returns true if it can be read.
   *readWalk() {
     if (!this.begin("walk")) return false;
     const { line } = this, member = this.certificate.members.at(-1);
@@ -84,7 +84,7 @@ class CertificateReader {
     return line.isAtEnd && member.walk.length > 0;
   }
 
-  // Whether the line is a conclusion that these members can have, which is taken up then.
+  // Reads the conclusion. Returns true if it can be read, and fits the number of members.
   isConclusion() {
     const { certificate, line } = this, count = certificate.members.length;
     if (!line || count === 0) return false;
@@ -98,7 +98,7 @@ class CertificateReader {
   }
 }
 
-// The reply of which a certificate is the proof, as docs/GUIDE.md has it.
+// Returns the reply that a certificate proves, as docs/GUIDE.md spells it.
 function replyOf({ members, room, cost, isMeeting }) {
   const sharps = (numbers) => numbers.map((number) => `#${number}`).join(" ");
   const way = ({ from, walk }, to, price) => `#${from}${to} cost ${price} by ${sharps(walk ?? []) || "nothing"}`;

@@ -1,25 +1,24 @@
 #!/usr/bin/env node
-// check.js HISTORY PROOF: says what mud_check says of the two files, with its statuses (docs/CHECKER.md).
-// check.js: of standard input.
-// check.js --record [FILE]: of each certificate of a record, a line each; the status is the greatest.
-// check.js --many: of each pair that standard input has, a line each. In front of each pair stands a line with the
-// lengths of its history and its certificate in bytes. Tests judge many pairs so.
+// check.js HISTORY PROOF: judges two files as mud_check does, with its lines and statuses (docs/CHECKER.md). check.js:
+// judges standard input. check.js --record [FILE]: judges each certificate of a record, a line each; the status is the
+// greatest. check.js --many: judges pairs from standard input, a line each. A line before each pair has the lengths of
+// its history and its certificate in bytes. Tests judge many pairs in one run.
 //
-// This is the checker of the page, by the same files. It is not a part of the page itself.
+// It runs the files of the page's checker, and is not a part of the page.
 const { readFileSync, writeSync } = require("node:fs");
 const { join } = require("node:path");
 
 const FILES = ["keys.js", "history.js", "rules.js", "certificate.js", "verdict.js", "checker.js"];
 const STATUS = { accepted: 0, refused: 1, unreadable: 2 };
 
-// The checker, in the form in which make_page.py puts it into the page.
+// Loads the checker's files into one scope, as make_page.py does.
 function loaded() {
   const source = FILES.map((name) => readFileSync(join(__dirname, name), "utf8")).join("");
   const names = "Checker, statement, record, parts, Verdicts, atOnce, halvesOf";
   return new Function(`"use strict"; ${source} return { ${names} };`)();
 }
 
-// The text of a file, a character a byte; the checker's line where it can't be read.
+// Returns the text of a file, one character a byte, or the checker's line if it cannot be read.
 function textOf(name) {
   try {
     return { text: readFileSync(name, "latin1") };
@@ -28,7 +27,7 @@ function textOf(name) {
   }
 }
 
-// The lines that are found of a history and its certificates.
+// Returns the checker's lines on a history and its certificates.
 function linesOf(checker, history, proofs) {
   const verdicts = new checker.Verdicts();
   const fault = checker.atOnce(verdicts.take(history));
@@ -48,7 +47,7 @@ function many(checker, text) {
   return lines;
 }
 
-// What the words ask for: the lines; undefined where they ask for nothing.
+// Returns the lines that the arguments ask for; undefined for wrong arguments.
 function asked(words) {
   const checker = loaded(), isRecord = words[0] === "--record", isMany = words[0] === "--many";
   const names = isRecord || isMany ? words.slice(1) : words;

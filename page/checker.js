@@ -1,9 +1,9 @@
-// The checker of docs/CHECKER.md, in slices: the page goes on between them.
+// The checker of docs/CHECKER.md. It works in slices, between which the page handles events.
 
-const SLICE = 8; // Milliseconds that a slice may take.
-const STEP = 16; // Changes that are made between two looks at the clock.
+const SLICE = 8; // Milliseconds of a slice.
+const STEP = 16; // Changes between two looks at the clock.
 
-// Goes through a generator without a pause, and gives what it returns.
+// Runs a generator to its end, and returns its result.
 function atOnce(steps) {
   for (;;) {
     const { done, value } = steps.next();
@@ -11,7 +11,7 @@ function atOnce(steps) {
   }
 }
 
-// Lets others have their turn. A message comes sooner than a timer, which a browser puts off.
+// Yields to the event loop. A message arrives sooner than a timer, which browsers delay.
 function pause() {
   return new Promise((resolve) => {
     const { port1, port2 } = new MessageChannel();
@@ -23,7 +23,7 @@ function pause() {
   });
 }
 
-// Goes through a generator in slices, and says after each how far it is, from 0 to 1.
+// Runs a generator in slices, and reports the progress after each, from 0 to 1. Returns its result.
 async function inSlices(steps, progress) {
   for (let began = performance.now(); ; ) {
     const { done, value } = steps.next();
@@ -39,7 +39,7 @@ function finding(line, more) {
   return { verdict: line.split(":")[0], text: line, ...more };
 }
 
-// A history, and what was found of it: the world of all its changes, and one that follows the versions of certificates.
+// A history and its worlds: that of all changes, and that of the version that was asked for last.
 class Verdicts {
   constructor() {
     this.history = new History();
@@ -48,7 +48,7 @@ class Verdicts {
     this.fault = undefined;
   }
 
-  // Takes a history's text. Its fault, as the checker's line has it, or undefined.
+  // Reads and replays a history's text. Returns its fault, as the checker spells it, or undefined.
   *take(text) {
     const before = this.history.changes;
     this.fault = yield* this.history.read(text);
@@ -60,8 +60,8 @@ class Verdicts {
     return this.fault;
   }
 
-  // Has a world make the changes up to a version, and yields now and then how far it is, from a half on. Whether all
-  // of them are legal.
+  // Replays the changes up to a version in a world, and yields the progress, from a half on. Returns true if all of
+  // them are legal.
   *follow(realm, version) {
     const { changes } = this.history, began = realm.version;
     while (realm.version < version) {
@@ -71,7 +71,7 @@ class Verdicts {
     return true;
   }
 
-  // The world of a version of this history.
+  // Returns the world of a version of this history.
   *realm(version) {
     if (version === this.last.version) return this.last;
     if (version < this.past.version) this.past = new Realm();
@@ -79,7 +79,7 @@ class Verdicts {
     return this.past;
   }
 
-  // What is found of a certificate's text.
+  // Returns the finding on a certificate's text.
   *judge(text) {
     if (this.fault) return finding(`unreadable: ${this.fault}`);
     const { certificate, fault } = yield* new CertificateReader(text).read();
@@ -91,14 +91,14 @@ class Verdicts {
   }
 }
 
-// What the page calls. Each call waits for the one before it.
+// The checker that the page calls. Each call waits for the one before.
 class Checker {
   constructor() {
     this.verdicts = new Verdicts();
     this.before = Promise.resolve();
   }
 
-  // How many changes the history has that is there.
+  // The number of changes of the history.
   get count() {
     return this.verdicts.history.changes.length;
   }
@@ -109,18 +109,18 @@ class Checker {
     return done;
   }
 
-  // Takes a history's text in place of the last one. { count }, or the finding where it is unreadable.
+  // Reads a history's text in place of the last one. Returns { count }, or the finding if it cannot be read.
   async history(text, progress) {
     const fault = await this.inTurn(this.verdicts.take(text), progress);
     return fault ? finding(`unreadable: ${fault}`) : { count: this.count };
   }
 
-  // What is found of a certificate's text: { verdict, text, version, says }, where `says` is the reply that it proves.
+  // Returns the finding on a certificate's text: { verdict, text, version, says }; `says` is the reply that it proves.
   check(proof, progress) {
     return this.inTurn(this.verdicts.judge(proof), progress);
   }
 
-  // What is found of each certificate of a record, by the record's own history.
+  // Returns the finding on each certificate of a record, by the history of the record.
   async judgeRecord(text, progress) {
     const { history, proofs } = parts(text), own = new Checker(), found = [];
     const { verdict, text: line } = await own.history(history, progress);
@@ -130,14 +130,14 @@ class Checker {
   }
 }
 
-// What a certificate's text claims, whatever it is worth: { version, says }; undefined where it can't be read.
+// Returns what a certificate's text claims, unchecked: { version, says }; undefined if it cannot be read.
 function statement(proof) {
   const { certificate } = atOnce(new CertificateReader(proof).read());
   return certificate && { version: certificate.version, says: replyOf(certificate) };
 }
 
-// What a history's text tells: each object of its world, with its first name. An object is { number, name, isRoom,
-// isExit, from, to, place }. Undefined where the text is not all of a history, or a change of it is not legal.
+// Returns the objects of a history's world with their first names: { number, name, isRoom, isExit, from, to, place }.
+// Returns undefined if the text is no whole history, or a change of it is illegal.
 function told(text) {
   const realm = new Realm(), names = new Map();
   let isLegal = true;
@@ -153,22 +153,22 @@ function told(text) {
     place: place[number] }));
 }
 
-// ---- records: a history's text with certificates behind it
+// ---- records: a history's text followed by certificates
 
-// How long a text is up to its first line of this kind, with its line feed; all of it, where no line is.
+// Returns the length of a text up to the end of the first line of this kind, or of the whole text without one.
 function lengthTo(text, isLast) {
   const lines = new Lines(text);
   for (let line = lines.next(); line !== undefined; line = lines.next()) if (isLast(line)) return lines.at;
   return text.length;
 }
 
-// The two parts of what the checker reads as one text: the history, and what stands behind it.
+// Splits a text that the checker reads as one: the history, and the rest.
 function halvesOf(text) {
   const end = lengthTo(text, (line) => line.startsWith("end "));
   return { history: text.slice(0, end), rest: text.slice(end) };
 }
 
-// The parts of a record: its history, and each of its certificates.
+// Splits a record: its history, and each of its certificates.
 function parts(text) {
   const { history, rest } = halvesOf(text), proofs = [];
   for (let at = 0; at < rest.length || proofs.length === 0; at += proofs.at(-1).length)

@@ -1,10 +1,10 @@
-// `checked` beside an answer: the page asks for the proof and the history, quietly, and judges them by its own checker.
-// Nothing here touches the page.
+// Checks answers: the page asks for the proof and the history by quiet lines, and its own checker judges them. Nothing
+// here touches the document.
 
-const MOST_BY_ITSELF = 20000; // Versions up to which an answer is checked without a click.
-const HISTORY_GAP = 10000; // Milliseconds between two histories at least.
+const MOST_BY_ITSELF = 20000; // The greatest version at which an answer is checked without a click.
+const HISTORY_GAP = 10000; // The least number of milliseconds between two histories.
 
-// Whether an answer has a certificate: a route, a meeting, or that there is none.
+// Returns true for an answer that has a certificate: a route, a meeting, or the absence of one.
 function isProvable(entry) {
   return !entry.quiet && ["route", "noWay", "meeting"].includes(headOf(entry));
 }
@@ -13,7 +13,7 @@ function isProof(entry) {
   return headOf(entry) === "proof" && isWhole(entry);
 }
 
-// What the checker says (docs/CHECKER.md) in words.
+// The checker's lines (docs/CHECKER.md) in plain words.
 const DOUBTS = [
   [/^refused: version (\d+)/, "the history has no version $1 yet"],
   [/^refused: no such player (#\d+)/, "$1 is no player"],
@@ -26,13 +26,13 @@ const DOUBTS = [
   [/^refused: conclusion/, "the answer does not follow from the ways"],
 ];
 
-// A line of the checker for a player.
+// Returns a line of the checker in plain words.
 function inWords(line) {
   const [pattern, words] = DOUBTS.find(([one]) => one.test(line)) ?? [];
   return pattern ? `refused: ${line.match(pattern)[0].replace(pattern, words)}` : line.replace("accepted", "checked");
 }
 
-// A finding of the checker as a mark, for an answer whose proof this is; the answer may be the proof.
+// Returns the mark of an answer from the checker's finding on its proof. The answer may be the proof itself.
 function markFor({ verdict, text, says }, entry, proof) {
   const mark = (kind, words) => ({ kind, isDone: true, text: words }), isSame = entry.volume === proof.volume;
   const isNow = isSame && entry.version === proof.version;
@@ -44,12 +44,12 @@ function markFor({ verdict, text, says }, entry, proof) {
 }
 
 class Checks {
-  // act: { ask(line), later(task, wait), now(), mark(entry) }; judge is a checker.Checker for the history of a volume.
+  // act: { ask(line), later(task, wait), now(), mark(entry) }; judge: a checker.Checker, for the history of one volume.
   constructor(judge, act) {
     Object.assign(this, { judge, act, volume: 1, last: Promise.resolve(), isAlways: true });
   }
 
-  // An answer came: it is checked by itself, or has a button for it.
+  // Checks an answer, or gives it a button that does.
   answered(entry) {
     if (entry.quiet || !(isProvable(entry) || isProof(entry))) return;
     const isByItself = this.isAlways && entry.version <= MOST_BY_ITSELF && isProvable(entry);
@@ -62,7 +62,7 @@ class Checks {
     this.act.mark(entry);
   }
 
-  // Checks an answer, one after the other, and shows how far it is.
+  // Checks an answer after those before it, and shows the progress.
   check(entry) {
     const show = (part) => this.mark(entry, { kind: "", text: `checking ${Math.round(100 * part)} %` });
     const task = () => this.check(entry);
@@ -81,19 +81,19 @@ class Checks {
     return markFor(fault ?? await judge.check(proof.lines.slice(1).join("\n") + "\n", show), entry, proof);
   }
 
-  // A proof can only be checked as long as its volume is the last: there is no history of another one.
+  // Throws if a volume has ended: the server gives out the history of the current volume alone.
   stays(volume) {
     if (volume !== this.volume) throw new Error(`volume ${volume} has ended.`);
   }
 
-  // What the server answers to a quiet line.
+  // Returns the server's answer to a quiet line.
   async ask(line) {
     const answer = await this.act.ask(line);
     if (!answer) throw new Error("the connection was lost");
     return answer;
   }
 
-  // Has the judge of a volume read its history as it is now. What is wrong with it, if anything.
+  // Has the judge read the current history of a volume. Returns the finding if the history is faulty.
   async learn(judge, volume, show) {
     const wait = (this.learnedAt ?? -HISTORY_GAP) + HISTORY_GAP - this.act.now();
     if (wait > 0) await new Promise((go) => this.act.later(go, wait));

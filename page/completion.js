@@ -1,8 +1,8 @@
-// What Tab and the arrow keys put into the line. Nothing here touches the page.
+// Completion by Tab, and recall by the arrow keys. Nothing here touches the document.
 
-const MOST_TYPED_LINES = 200; // Lines that the arrow keys go through.
+const MOST_TYPED_LINES = 200; // Lines that the arrow keys recall.
 
-// The names that may stand after these words of a line.
+// Returns the names that may follow these words.
 function namesAfter(world, first, exits) {
   const rooms = [...world.rooms.values()].filter(Boolean), things = [...world.things.values()];
   const line = behind("proof", first) ?? first, has = (verb) => behind(verb, line) !== undefined;
@@ -11,8 +11,8 @@ function namesAfter(world, first, exits) {
   return has("go") ? exits : [...exits, ...things, ...world.people, ...rooms];
 }
 
-// The ways to complete a line, each the whole line: where its end, from some word on, is the beginning of a name. The
-// longest such end counts.
+// Returns the completions of a line, each as a whole line. The longest suffix of the line that is a prefix of a name is
+// completed.
 function completions(world, verbs, text) {
   const exits = world.exitsOf(world.here).map((exit) => world.exits.get(exit).name).filter(Boolean);
   const starts = [...text.matchAll(/(?:^|[ ,])(?=[^ ,])/g)].map(({ index, 0: gap }) => index + gap.length);
@@ -26,7 +26,7 @@ function completions(world, verbs, text) {
   return [];
 }
 
-// What was typed, as the arrow keys go through it: lines that begin with what stood there when they were first pressed.
+// The typed lines, as the arrow keys recall them: those that begin with the text that was there at the first press.
 class Earlier {
   constructor(lines = []) {
     this.lines = lines;
@@ -39,14 +39,14 @@ class Earlier {
     this.rest();
   }
 
-  // The line is typed anew.
+  // Starts again from the text that is typed.
   rest() {
     this.at = this.lines.length;
     this.draft = undefined;
   }
 
-  // The next line that way (-1 is back) with the beginning that was typed, or what was typed; undefined past the
-  // oldest.
+  // Returns the next line in this direction (-1 is back) with the typed prefix, or the typed text after the newest
+  // line; undefined before the oldest.
   move(way, text) {
     this.draft ??= text;
     for (let at = this.at + way; at >= 0 && at < this.lines.length; at += way)

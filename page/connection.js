@@ -1,20 +1,20 @@
-// The connection: when it is tried again, and what a close means. Nothing here touches the page: `tools` has the clock,
-// chance and the socket, so that a test has its own.
+// The connection: when the page reconnects, and what a close code means. Nothing here touches the document. Clock,
+// chance and socket come from `tools`, so that tests supply their own.
 
-const FIRST_WAIT = 1000, MOST_WAIT = 30000; // Milliseconds before the next try.
-const LASTED = 10000; // How long a connection has to last before the wait is the first one again.
+const FIRST_WAIT = 1000, MOST_WAIT = 30000; // Milliseconds before the page reconnects.
+const LASTED = 10000; // Milliseconds after which a connection resets the wait.
 const HAS_LEFT = 1000; // The close code after `quit` (RFC 6455, section 7.4.1).
 const REASONS = new Map([[1001, "the server has stopped"], [1006, "the server is not reached"],
   [1011, "the server is out of memory"], [1013, "the server is full"]]);
 
-// A close in words: the server's own, where it gives some.
+// Returns the reason of a close in words: the server's own if it gives one.
 function whyClosed(code, reason, wasOpen) {
   if (code === 1006 && wasOpen) return "the connection was lost";
   return reason ? `the server says: ${reason}` : REASONS.get(code) ?? `code ${code}`;
 }
 
 class Connection {
-  // tools: { dial, now, later, cancel, chance }, where dial() gives a socket; heard: { open, text, closed, state }.
+  // tools: { dial, now, later, cancel, chance }, where dial() returns a socket; heard: { open, text, closed, state }.
   constructor(tools, heard) {
     Object.assign(this, { tools, heard, state: "off", wait: FIRST_WAIT });
   }
@@ -28,7 +28,7 @@ class Connection {
     return this.state === "on";
   }
 
-  // Connects now, whatever was waited for.
+  // Connects at once, and cancels a pending attempt.
   connect() {
     if (this.state === "on" || this.state === "dialing") return;
     this.tools.cancel(this.timer);
@@ -40,7 +40,7 @@ class Connection {
     this.turn("dialing");
   }
 
-  // The network is there again, or the tab was woken: a try that is waited for is made at once.
+  // Makes a pending attempt at once: the network is back, or the tab is visible again.
   hurry() {
     if (this.state === "waiting") this.connect();
   }
@@ -55,7 +55,7 @@ class Connection {
     this.socket.send(line);
   }
 
-  // The connection has ended. It is tried again later, unless the player or the server wanted it to end.
+  // Handles a close. The page reconnects later, unless the player quit or the server ended the session.
   closed(code, reason = "") {
     const { tools } = this, wasOpen = this.openedAt !== undefined;
     if (wasOpen && tools.now() - this.openedAt >= LASTED) this.wait = FIRST_WAIT;
@@ -71,14 +71,14 @@ class Connection {
     this.heard.closed({ code, reason, why: whyClosed(code, reason, wasOpen), wasOpen, isLeft });
   }
 
-  // Stays away until the player connects.
+  // Does not reconnect until the player asks for it.
   stop() {
     this.tools.cancel(this.timer);
     this.turn("off");
   }
 }
 
-// The server's own origin, as its refusal of a page from elsewhere names it; undefined in any other text.
+// Returns the origin that the server names when it refuses a page from elsewhere; undefined for any other text.
 function originIn(text) {
   return text.trim().match(SAID.elsewhere)?.[1];
 }

@@ -1,27 +1,27 @@
-// What was typed and what came: which answer belongs to which line. Nothing here touches the page.
+// Pairs the server's answers with typed lines. Nothing here touches the document.
 //
-// An entry is what stands together in the log: { kind, lines }, and of a reply also { version, volume, line, quiet,
-// isDone }. The kind is `reply`, `notice`, `refusal` (without a number), `host` or `greeting`. A quiet entry answers a
-// line that the page typed for itself, and is not shown.
+// An entry is one item of the log: { kind, lines }. A reply also has { version, volume, line, quiet, isDone }. The kind
+// is `reply`, `notice`, `refusal` (a reply without a number), `host` or `greeting`. A quiet entry answers a line that
+// the page sent for itself; the log does not show it.
 //
-// A version belongs to the volume that this connection was told of last, or to volume 1 where it was told of none.
+// A version belongs to the last volume that this connection named, or to volume 1 before it names any.
 
-const MOST_PROOFS = 100; // Proofs that are kept to be saved.
+const MOST_PROOFS = 100; // Proofs that are kept until they are saved.
 
 class Conversation {
   constructor(world) {
     this.world = world ?? new World();
     this.history = undefined; // The last history, as { version, text }.
-    this.proofs = []; // The last proofs of the same volume, likewise.
-    this.onAnswer = () => {}; // Called with each answer, once it is whole.
-    this.onEnd = () => {}; // Called with the number of a volume that has ended, and its proofs.
+    this.proofs = []; // The last proofs of this volume, likewise.
+    this.onAnswer = () => {}; // Called once with each whole answer.
+    this.onEnd = () => {}; // Called with the number and the proofs of a volume that has ended.
     this.volume = 1; // The volume of the last version.
-    this.connectLine = undefined; // The line by which the player came in last, and his name.
+    this.connectLine = undefined; // The last line that logged the player in, and the player's name.
     this.name = undefined;
     this.begin();
   }
 
-  // A connection begins: nothing was typed in it yet. What the last one answered is kept.
+  // Starts a connection in which nothing was typed. What earlier connections answered is kept.
   begin() {
     this.end();
     this.tail = "";
@@ -29,25 +29,24 @@ class Conversation {
     this.drop();
     this.answer = undefined;
     this.hasLeft = false;
-    this.isIn = false; // Whether a player came in by this connection.
-    this.before = { volume: this.volume, version: this.latest }; // Where the connection before this one was.
-    this.latest = 0; // The greatest version that was told of the volume.
-    this.told = 1; // The volume that this connection was told of.
+    this.isIn = false; // True once a player is logged in on this connection.
+    this.before = { volume: this.volume, version: this.latest }; // The last version of the connection before.
+    this.latest = 0; // The greatest version that was named in this volume.
+    this.told = 1; // The volume that this connection named last.
     this.world.here = undefined;
   }
 
-  // A line goes out. A blank one is not answered. `answered` is kept in the entry that answers it.
+  // Notes a line that is sent. The server does not answer blank lines. `answered` goes into the entry of the answer.
   say(line, quiet = false, answered = undefined) {
     if (words(line) !== "") this.asked.push({ line: words(line), quiet, answered });
   }
 
-  // The connection has ended: no answer comes to what was asked.
+  // Gives up the lines that have no answer: the connection has ended.
   drop() {
     for (const { answered } of this.asked.splice(0)) answered?.();
   }
 
-  // A piece of what the server sends: the entries that are new or have grown. Lines end where they end, not where a
-  // message does.
+  // Takes a piece of the server's output, and returns the entries that are new or have grown. A line may span pieces.
   take(piece) {
     const lines = (this.tail + piece).split("\r\n"), entries = new Set();
     this.tail = lines.pop();
@@ -76,7 +75,7 @@ class Conversation {
     this.reach(0);
   }
 
-  // A version is told, and the answer before it is whole. In another volume versions begin anew.
+  // Notes a version; the answer before it is whole. Each volume counts its own versions.
   reach(version) {
     const { volume } = this;
     this.end();
@@ -85,7 +84,7 @@ class Conversation {
     if (volume !== this.told) this.giveUp(volume);
   }
 
-  // The history and the proofs so far are of a volume that has ended.
+  // Drops the history and hands on the proofs of a volume that has ended.
   giveUp(volume) {
     this.history = undefined;
     this.onEnd(volume, this.proofs.splice(0));
@@ -112,12 +111,12 @@ class Conversation {
     return refusal;
   }
 
-  // All that was sent so far is here. The answer is whole, unless its end is still to come.
+  // Finishes the answer if its last line is here.
   finish() {
     if (this.answer && isWhole(this.answer)) this.done(this.answer);
   }
 
-  // An answer is read, and told once. One that has grown after all is read again.
+  // Reads an answer and reports it once. An answer that grows later is read again.
   done(answer) {
     const isFirst = !answer.isDone, { length } = answer.lines;
     if (answer.read === length) return;
@@ -128,8 +127,8 @@ class Conversation {
     this.onAnswer(answer);
   }
 
-  // What an answer tells, unless it was cut. A history that the page asked for itself shows no more of the world than
-  // the player saw.
+  // Updates the world from a whole answer. A history that the page asked for itself is not read into the world: the map
+  // shows what the player has seen.
   read(answer) {
     const { line, lines, quiet } = answer, head = headOf(answer);
     if (!quiet && isWhole(answer)) readAnswer(this.world, answer);
@@ -144,18 +143,18 @@ class Conversation {
     this.name = firstName(behind("connect", line)?.replace(/^([^" ]+) .*$/, "$1"));
   }
 
-  // How many changes came since an answer; without a bound, where it is of an earlier volume.
+  // Returns the number of changes since an answer; infinity if the answer is of an earlier volume.
   since({ volume, version }) {
     return volume === this.volume ? this.latest - version : Infinity;
   }
 
-  // An answer ends where the next begins, or the connection.
+  // Ends the answer: the next one begins, or the connection has ended.
   end() {
     if (this.answer) this.done(this.answer);
     this.answer = undefined;
   }
 
-  // A history and a proof are kept, to be saved, if they came whole.
+  // Keeps a whole history or proof, to be saved.
   keep(answer) {
     const { version, lines } = answer, text = lines.slice(1).join("\n") + "\n", head = headOf(answer);
     if (!isWhole(answer)) return;
@@ -166,12 +165,12 @@ class Conversation {
   }
 }
 
-// Whether a version comes before another: in an earlier volume, or earlier in the same one.
+// Returns true if a version precedes another: in an earlier volume, or in the same volume by its number.
 function isBefore(one, other) {
   return one.volume < other.volume || (one.volume === other.volume && one.version < other.version);
 }
 
-// Whether the last line of an answer is here: a history and a proof have one of their own.
+// Returns true if the last line of an answer is here. Only histories and proofs have a last line of their own.
 function isWhole(answer) {
   return SAID[`${headOf(answer)}End`]?.test(answer.lines.at(-1)) ?? true;
 }

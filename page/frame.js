@@ -1,9 +1,9 @@
-// What all parts of the page use: nodes, what is pressed, and work that is done once a frame.
+// Helpers of all parts of the page: nodes, event handlers, and work that runs once a frame.
 
-const BEHIND = 250; // Milliseconds.
+const BEHIND = 250; // Milliseconds after which a hidden tab runs a task.
 
-// The task, done once before the screen changes next, however often it is asked for. A tab that is behind has no
-// frames, so there it is done a little later.
+// Returns a function that has the task run once before the next frame, however often it is called. A hidden tab draws
+// no frames and runs the task by a timer.
 function onceAFrame(task) {
   let isAsked = false;
   const run = () => {
@@ -18,7 +18,7 @@ function onceAFrame(task) {
   };
 }
 
-// Has a node do something when it is pressed, or when another event comes.
+// Adds an event handler to a node; without a name, for clicks.
 function on(node, task, name = "click") {
   node.addEventListener(name, task, { passive: false });
 }

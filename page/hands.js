@@ -1,20 +1,20 @@
-// What a player does by a click: the exits of his room, and a route that is walked exit by exit or at one go.
+// What a player does by clicks: the exits of the room, and a route that is walked exit by exit or all at once.
 
-const MOST_BUTTONS = 60; // Exits of a room that are buttons.
+const MOST_BUTTONS = 60; // The most exits of a room that have buttons.
 
-// Whether the first word of a line is that of a command: such a line is never the name of an exit.
+// Returns true if a line begins with a verb. The server never reads such a line as the name of an exit.
 function isCommand(verbs, line) {
   return verbs.includes(line.split(" ")[0].toLowerCase());
 }
 
-// The line that walks by an exit of the room: its name where it means only that, and else its number.
+// Returns the line that walks through an exit: its name if that names no other exit and is no command, or its number.
 function lineFor(world, number, verbs) {
   const { name } = world.exits.get(number);
   const isPlain = name !== undefined && /^[A-Za-z][A-Za-z0-9 '-]*$/.test(name) && words(name) === name;
   return isPlain && !isCommand(verbs, name) && world.exitNamed(name, true) === number ? name : `go #${number}`;
 }
 
-// A route that was asked for, and how far it was walked.
+// A route that the player asked for, and the progress on it.
 class Trip {
   constructor(entry) {
     const head = headOf(entry), [text] = entry.lines, [from, to, cost] = text.match(SAID[head]).slice(1).map(Number);
@@ -26,7 +26,7 @@ class Trip {
     return !this.isNoWay && world.here === this.to;
   }
 
-  // The next exit; undefined where the way ends, or the player has left it.
+  // Returns the next exit; undefined at the end of the route, or off it.
   next(world) {
     const { route, walked } = world, exit = this.exits[walked];
     const isShown = route.length === this.exits.length && route.every((one, at) => one === this.exits[at]);
@@ -34,7 +34,7 @@ class Trip {
     return isShown && exit !== undefined && from === world.here ? exit : undefined;
   }
 
-  // The answer to a step has come, or undefined where the connection was lost. The exit to take next by itself, if any.
+  // Takes the answer to a step, undefined if the connection was lost. Returns the exit of the next automatic step.
   stepped(world, entry) {
     const isOn = entry !== undefined && headOf(entry) === "walked";
     if (!isOn) this.fault = entry ? entry.lines[0] : "the connection was lost";
@@ -43,7 +43,7 @@ class Trip {
     return exit;
   }
 
-  // What stands beside it.
+  // Returns the text that is shown for the trip.
   text(world) {
     const name = `${world.rooms.get(this.to) ?? "room"} #${this.to}`, count = this.exits.length;
     if (this.isNoWay) return `No way to ${name}`;
@@ -53,7 +53,7 @@ class Trip {
   }
 }
 
-// The hands on the page. `act` is { say(line, answered), since(entry), arrived() }.
+// The exit buttons and the route bar. `act` is { say(line, answered), since(entry), arrived() }.
 class Hands {
   constructor(parts, world, verbs, act) {
     Object.assign(this, { parts, world, verbs, act });
@@ -64,13 +64,13 @@ class Hands {
     on(parts.close, () => this.close());
   }
 
-  // An answer is whole: a route begins a trip.
+  // Starts a trip where an answer is a route.
   answered(entry) {
     if (["route", "noWay"].includes(headOf(entry))) this.trip = new Trip(entry);
     this.soon();
   }
 
-  // Takes the next exit; `all` of them one after the other, until one is refused.
+  // Walks through the next exit, or through `all` that are left until a step is refused.
   go(all) {
     const exit = this.trip?.next(this.world);
     if (exit === undefined) return;
@@ -122,14 +122,14 @@ class Hands {
     parts.all.textContent = trip.isRunning ? "Stop" : `Go all ${left}`;
   }
 
-  // A trip is over where the player goes on from its end.
+  // Ends the trip once the player walks on from its end.
   endTrip() {
     const { trip } = this, isThere = trip?.isThere(this.world);
     if (isThere) trip.wasThere = true;
     else if (trip?.wasThere) this.trip = undefined;
   }
 
-  // A button for each exit of the room. Buttons that are there stay, so that a key finds them where they were.
+  // Draws a button for each exit of the room. Existing buttons are reused, so that the focus stays.
   drawExits() {
     const { parts, world } = this, exits = world.exitsOf(world.here).slice(0, MOST_BUTTONS);
     const hadFocus = parts.exits.contains(document.activeElement);

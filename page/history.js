@@ -1,23 +1,24 @@
-// The text of a history: docs/HISTORY.md. A reader goes through it line by line, and can go on where a text went on.
+// The text of a history: docs/HISTORY.md. It is read line by line; a longer text with the same prefix is read from
+// there.
 
-const AT_ONCE = 64; // Entries that are read without a pause.
+const AT_ONCE = 64; // Entries that are read between two pauses.
 const MOST_ENTRIES = 65536, MOST_DESK = 64, MOST_COST = 10000, MOST_SAID = 900;
 
-// A change, with what the kinds have. What a kind has not stays as it is here.
+// A change, with the fields of all kinds. A field that a kind lacks keeps this value.
 class Change {
   constructor(kind, actor) {
     this.kind = kind;
     this.actor = actor;
     this.object = undefined;
-    this.to = undefined; // Of `dig` an old room; of `move` the place.
-    this.names = undefined; // In one text, with commas.
+    this.to = undefined; // For `dig` an old room, for `move` the place.
+    this.names = undefined; // One text, with commas.
     this.key = undefined;
     this.cost = 0;
     this.hasOut = this.hasBack = false;
   }
 }
 
-// What stands behind the actor in a line of each kind. Each adds it to the change, and says whether it stands there.
+// Readers of what follows the actor, for each kind of change. They set the fields, and return true if it can be read.
 const KINDS = {
   dig(cursor, change) {
     const isNew = cursor.take("new ");
@@ -76,7 +77,7 @@ function takeSaid(cursor) {
   return end > at && end - at <= MOST_SAID && text.charCodeAt(at) !== SPACE && text.charCodeAt(end - 1) !== SPACE;
 }
 
-// The change of an entry's line, if its version is this one; undefined for another line.
+// Returns the change of an entry with this version; undefined for any other line.
 function entryOf(cursor, version, format) {
   if (cursor.number(version) !== version || !cursor.take(" ")) return undefined;
   if (!cursor.number(MOST_DESK) || !cursor.take(" ")) return undefined;
@@ -88,12 +89,12 @@ function entryOf(cursor, version, format) {
   return KINDS[kind](cursor, change, format) && cursor.isAtEnd ? change : undefined;
 }
 
-// The lines of a text that line feeds end. A CR directly before the line feed is dropped, once.
+// The lines of a text, each ended by a line feed. One CR before the line feed is dropped.
 class Lines {
   constructor(text, at = 0, count = 0) {
     this.text = text;
     this.at = at;
-    this.count = count; // How many lines were taken.
+    this.count = count; // How many lines were read.
     this.line = new Cursor(text);
   }
 
@@ -101,7 +102,7 @@ class Lines {
     return this.at === this.text.length;
   }
 
-  // Takes the next line, as a cursor, which is good until the one after it; undefined where no line feed follows.
+  // Returns the next line as a cursor, which the next call reuses; undefined if no line feed follows.
   take() {
     const { text, at, line } = this, feed = text.indexOf("\n", at);
     if (feed < 0) return undefined;
@@ -113,21 +114,21 @@ class Lines {
     return line;
   }
 
-  // Goes back to where the last line began.
+  // Returns to the beginning of the last line.
   back(at) {
     if (this.at !== at) this.count -= 1;
     this.at = at;
   }
 
-  // Takes the next line, as a text.
+  // Returns the next line as a text.
   next() {
     const line = this.take();
     return line && this.text.slice(line.at, line.end);
   }
 }
 
-// The entries of a history's text. `front` is the part of the text that has their lines. `hear`, if it is given, is
-// called with each change and the texts of names in its line; the history itself keeps no names but those of players.
+// The entries of a history's text. `front` is the prefix of the text that has their lines. `hear` is called with each
+// change and the names of its line: the history itself keeps only the names that its rules compare.
 class History {
   constructor(hear) {
     this.hear = hear;
@@ -136,8 +137,8 @@ class History {
     this.changes = [];
   }
 
-  // Reads a text, and yields now and then how far it is: up to a half, since all is replayed then. The fault, or
-  // undefined. A text that begins as the one before did is read from there on.
+  // Reads a text, and yields its progress, up to a half: the other half is the replay. Returns the fault, or undefined.
+  // A text that extends the one before is read from there.
   *read(text) {
     if (this.front === "" || !text.startsWith(this.front)) Object.assign(this, new History(this.hear));
     const lines = new Lines(text, this.front.length, this.format ? this.changes.length + 1 : 0);
@@ -151,7 +152,7 @@ class History {
     return this.readEnd(lines);
   }
 
-  // Reads some entries. Whether there may be more.
+  // Reads some entries. Returns true if more may follow.
   readEntries(lines) {
     for (let count = 0; count < AT_ONCE; count += 1) {
       const { at } = lines, version = this.changes.length + 1, line = lines.take();
@@ -166,7 +167,7 @@ class History {
     return true;
   }
 
-  // Reads what stands behind the entries: the last line, or a fault.
+  // Reads the last line, after all entries. Returns the fault, or undefined.
   readEnd(lines) {
     const count = this.changes.length, line = lines.take();
     if (!line) return "history without end";

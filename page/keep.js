@@ -1,10 +1,10 @@
-// What a tab keeps over a reload, and what is saved as a file.
+// What the tab keeps across a reload, and what is saved to a file.
 
-const KEPT = "seamountcup"; // The name in the tab's session storage.
-const FORM = 1; // Grows where what is kept has another form.
-const GIVEN_UP = 600000; // Milliseconds after which a saved file's address is given up.
+const KEPT = "seamountcup"; // The key in the tab's session storage.
+const FORM = 1; // The version of the kept value's format.
+const GIVEN_UP = 600000; // Milliseconds after which the address of a saved file is revoked.
 
-// Keeps this in the tab. A storage that is full or closed keeps nothing.
+// Keeps a value in the tab. Returns false if the storage is full or closed.
 function keepInTab(value) {
   try {
     sessionStorage.setItem(KEPT, JSON.stringify({ form: FORM, ...value }));
@@ -14,7 +14,7 @@ function keepInTab(value) {
   return true;
 }
 
-// What was kept. It is taken out, so that a page that can't begin with it begins without it the next time.
+// Removes and returns the kept value. A page that fails on it starts without it the next time.
 function keptInTab() {
   try {
     const kept = JSON.parse(sessionStorage.getItem(KEPT));
@@ -25,7 +25,7 @@ function keptInTab() {
   }
 }
 
-// Saves a text as a file. One click saves one file: a browser takes no more than some at once.
+// Saves a text to a file. One click saves one file: browsers limit how many they save at once.
 function saveFile(name, text) {
   const link = document.createElement("a");
   link.href = URL.createObjectURL(new Blob([text], { type: "text/plain" }));
@@ -34,7 +34,7 @@ function saveFile(name, text) {
   setTimeout(() => URL.revokeObjectURL(link.href), GIVEN_UP);
 }
 
-// The record of a conversation, as one file: its name and its text.
+// Returns the name and the text of the record of a conversation.
 function recordOf({ history, proofs, volume }) {
   const text = checker.record(history.text, proofs.map((proof) => proof.text));
   return { name: `${volume > 1 ? `volume-${volume}-` : ""}record-${history.version}.txt`, text };

@@ -1,34 +1,34 @@
-// Names and keys, as a history has them: docs/KEYS.md. The text of a key there is the printed one, so it has one form.
+// Names and keys as a history spells them: docs/KEYS.md. A key is spelled as it is printed, so each has one spelling.
 
-const MOST_NUMBER = 8191; // The greatest number of an object.
+const MOST_NUMBER = 8191; // The greatest object number.
 const MOST_NAMES = 4, LONGEST_NAME = 60, MOST_ATOMS = 16, MOST_NOTS = 64;
 const CR = 13, SPACE = 32, QUOTE = 34, SHARP = 35, COMMA = 44, ZERO = 48;
 
-// Which bytes a name may have.
+// IN_NAME[byte] is 1 if names may contain the byte.
 const IN_NAME = new Uint8Array(127).fill(1, SPACE);
 for (const sign of '"\\,|&!?()') IN_NAME[sign.charCodeAt(0)] = 0;
 
-// A place in a text, before an end. What stands there is taken, or else it stays where it is.
+// A position in a text, up to an end. A function that reads moves it past what it read, or leaves it where it was.
 class Cursor {
   constructor(text, at = 0, end = text.length) {
     this.text = text;
     this.at = at;
     this.end = end;
-    this.told = []; // The texts of names that were taken.
+    this.told = []; // The names that were read.
   }
 
   get isAtEnd() {
     return this.at === this.end;
   }
 
-  // Takes a word. Whether it stands here.
+  // Reads a word. Returns true if it is here.
   take(word) {
     if (!this.text.startsWith(word, this.at) || this.at + word.length > this.end) return false;
     this.at += word.length;
     return true;
   }
 
-  // A decimal number without needless zeros and not above a limit.
+  // Reads a decimal number up to a limit, without leading zeros; undefined for anything else.
   number(most) {
     const { text, at } = this;
     let to = at, number = 0;
@@ -42,14 +42,14 @@ class Cursor {
     return number;
   }
 
-  // The number of `#n`.
+  // Reads `#n` and returns n; undefined for anything else.
   sharp() {
     if (this.text.charCodeAt(this.at) !== SHARP || this.isAtEnd) return undefined;
     this.at += 1;
     return this.number(MOST_NUMBER);
   }
 
-  // Where the name ends that begins at a place; undefined where none does. A comma or a quote is behind it.
+  // Returns the end of the name that begins at a position and is followed by a comma or a quote; undefined without one.
   endOfName(at) {
     let to = at, last = SPACE;
     for (; to < this.end; to += 1) {
@@ -62,7 +62,7 @@ class Cursor {
     return isName && to < this.end ? to : undefined;
   }
 
-  // Names in quotes, with commas between them and no space beside those: the text between the quotes.
+  // Reads names in quotes, separated by commas without spaces. Returns the text between the quotes.
   names(most = MOST_NAMES) {
     if (this.text.charCodeAt(this.at) !== QUOTE) return undefined;
     const begin = this.at + 1;
@@ -81,23 +81,24 @@ class Cursor {
 }
 
 // Reads a key: { tree, objects, asked }. A tree is { sign, object } with the sign `#` or `?`, or { sign: "!", of }, or
-// { sign, left, right } with `&&` or `||`. Beside it stand the numbers of all its objects, and of those that it asks.
+// { sign, left, right } with `&&` or `||`. `objects` has the numbers of all objects of the tree, `asked` those with
+// `?`.
 class KeyReader {
   constructor(cursor) {
     this.cursor = cursor;
     this.objects = [];
     this.asked = [];
     this.nots = 0;
-    this.joins = 0; // Those in parentheses.
+    this.joins = 0; // Joins in parentheses.
   }
 
-  // The key up to the cursor's end; undefined where no printed key stands there.
+  // Returns the key that the text up to the end spells; undefined if it spells none.
   read() {
     const tree = this.chain();
     return tree && this.cursor.isAtEnd ? { tree, objects: this.objects, asked: this.asked } : undefined;
   }
 
-  // A first one, and further ones behind operators. The operators group from the left.
+  // Reads operands with operators between them, which associate to the left.
   chain() {
     let left = this.unary();
     while (left) {
@@ -109,7 +110,7 @@ class KeyReader {
     return left;
   }
 
-  // What stands behind `!` or an operator: a join stands in parentheses there, and nothing else does.
+  // Reads the operand of `!` or the right side of an operator. A join has parentheses here, and nothing else has.
   operand() {
     if (!this.cursor.take("(")) return this.unary();
     this.joins += 1;

@@ -1,7 +1,7 @@
-// The line that is typed: Enter sends it, Tab completes it, the arrow keys go through what was typed, Escape clears it.
+// The input line: Enter sends it, Tab completes it, the arrow keys recall earlier lines, Escape clears it.
 
 class Line {
-  // act: { send(line), canSend(), world, verbs, page(way) }, where send says whether the line went out.
+  // act: { send(line), world, verbs, page(way) }; send returns true if the line was sent.
   constructor(form, input, act, lines) {
     Object.assign(this, { input, act, earlier: new Earlier(lines), offers: [] });
     on(form, (event) => this.submit(event), "submit");
@@ -12,7 +12,7 @@ class Line {
     }, "input");
   }
 
-  // A line that can't be sent now waits in the field.
+  // Sends the line. A line that cannot be sent stays in the field.
   submit(event) {
     event.preventDefault();
     const line = typed(this.input.value);
@@ -45,7 +45,7 @@ class Line {
     this.earlier.rest();
   }
 
-  // The next way to complete the line; where there is none, Tab goes on to what comes next on the page.
+  // Puts the next completion into the line. Without one Tab moves the focus, as ever.
   complete(isBack) {
     const text = this.input.value;
     if (text === "") return false;

@@ -1,17 +1,17 @@
-// The log: what was typed, answered and heard, as entries (conversation.js). It is shown once a frame, in groups that
-// are laid out by themselves, so that an entry costs the same however many stand there. What is read aloud stands in a
-// region of its own, and never has a long answer.
+// The log: what was typed, answered and heard, as entries (conversation.js). It is drawn once a frame, in groups with a
+// layout of their own, so that the cost of an entry does not depend on the length of the log. Screen readers get a
+// separate region, without long answers.
 
-const MOST_ENTRIES = 5000; // Entries of the log.
-const MOST_LINES = 150000; // Lines of all of them together, so that long answers don't pile up.
-const MOST_KEPT = 600; // Entries that a reload keeps.
+const MOST_ENTRIES = 5000; // The most entries of the log.
+const MOST_LINES = 150000; // The most lines of all entries, which bounds long answers.
+const MOST_KEPT = 600; // The most entries that a reload keeps.
 const GROUP = 100; // Entries of a group.
-const FOLDED = 20; // Lines from which on an answer is folded.
-const MOST_OPEN = 1000; // Lines that are shown of it when it is opened.
-const MOST_SPOKEN = 12; // Entries of a frame that are read aloud.
+const FOLDED = 20; // The least number of lines of a folded answer.
+const MOST_OPEN = 1000; // The most lines that an opened answer shows.
+const MOST_SPOKEN = 12; // The most entries of a frame that are read aloud.
 const SIGNS = { mine: "> ", page: "-- " };
 
-// Whether an answer is folded: one of many lines, and a history or a proof, whose lines may be long.
+// Returns true for an answer that is folded: one of many lines, a history or a proof.
 function isLong({ kind, lines }) {
   return lines.length >= FOLDED || (kind === "reply" && (SAID.history.test(lines[0]) || SAID.proof.test(lines[0])));
 }
@@ -21,13 +21,13 @@ function timeOf(entry) {
   return `${two(time.getHours())}:${two(time.getMinutes())}`;
 }
 
-// The text of an entry, as it is saved.
+// Returns the text of an entry in the saved log.
 function textOf({ kind, version, lines, mark }) {
   const first = kind === "reply" ? `[${version}] ` : SIGNS[kind] ?? "";
   return first + lines.join("\n") + (mark?.text ? `  {${mark.text}}` : "");
 }
 
-// The entries, of which the oldest go.
+// The entries; the oldest are dropped.
 class Book {
   constructor() {
     this.entries = [];
@@ -41,13 +41,13 @@ class Book {
     this.lines += entry.counted;
   }
 
-  // An entry that is there has more lines now.
+  // Counts the new lines of an entry.
   grown(entry) {
     this.lines += entry.lines.length - entry.counted;
     entry.counted = entry.lines.length;
   }
 
-  // Whether the first entries are too many, so that a group of them may go.
+  // Returns true if a group of the oldest entries can be dropped.
   isFull(group) {
     return this.entries.length > MOST_ENTRIES || (this.lines > MOST_LINES && this.entries.length > group);
   }
@@ -60,7 +60,7 @@ class Book {
     return this.entries.map((entry) => `${timeOf(entry)} ${textOf(entry)}\n`).join("");
   }
 
-  // What a reload keeps: the last entries, of long ones the first line.
+  // Returns what a reload keeps: the last entries, and the first line of a long one.
   kept() {
     return this.entries.slice(-MOST_KEPT).map(({ kind, version, line, lines, time, mark }) => {
       const told = isLong({ kind, lines }) ? [lines[0] + ` (${lines.length} lines)`] : lines;
@@ -78,7 +78,7 @@ class Log {
     new ResizeObserver(() => this.isAtEnd && this.pin()).observe(parts.log);
   }
 
-  // Shows an entry, or what has changed of it.
+  // Shows an entry, or its changes.
   show(entry) {
     if (entry.node) this.changed.add(entry);
     else if (!entry.isWaiting) this.waiting.push(entry);
@@ -86,12 +86,12 @@ class Log {
     this.soon();
   }
 
-  // What the page says itself.
+  // Shows a line of the page itself.
   tell(text, kind = "page") {
     this.show({ kind, lines: [text] });
   }
 
-  // A line of one's own brings the log to its end.
+  // Shows a typed line, and scrolls to the end.
   mine(line) {
     this.isAtEnd = true;
     this.show({ kind: "mine", lines: [line] });
@@ -111,7 +111,7 @@ class Log {
     else this.count(entries.reduce((sum, entry) => sum + (isLong(entry) ? 1 : entry.lines.length), 0));
   }
 
-  // The group that takes the next entry. Those before the last two are only laid out where they are seen.
+  // Returns the group for the next entry. Browsers lay out groups before the last two only when they are visible.
   last() {
     const group = this.groups[this.groups.length - 1];
     if (group && group.childElementCount < GROUP) return group;
@@ -130,7 +130,7 @@ class Log {
     }
   }
 
-  // An entry has grown, or has another mark.
+  // Draws an entry again: it has grown, or its mark has changed.
   renew(entry) {
     this.book.grown(entry);
     const node = nodeOf(entry);
@@ -139,7 +139,7 @@ class Log {
     entry.node = node;
   }
 
-  // What is read aloud: no line of one's own, and no long answer.
+  // Hands entries to screen readers, without typed lines and long answers.
   speak(entries) {
     const { spoken } = this.parts, heard = entries.filter((entry) => entry.kind !== "mine" && entry.isSilent !== true);
     const said = heard.slice(0, MOST_SPOKEN).map((entry) =>
@@ -175,9 +175,9 @@ class Log {
   }
 }
 
-// ---- how an entry looks. Texts are set as textContent alone: nothing that a player types is ever markup.
+// ---- how an entry looks. Texts are set as textContent: nothing that a player types becomes markup.
 
-// The classes of an entry: its kind, and what the style shows of a reply besides.
+// Returns the classes of an entry: its kind, and for some replies one more.
 function classesOf({ kind, line, lines }) {
   if (kind !== "reply") return kind;
   return isRefusal(lines) ? "reply refused" : isLook(line ?? "") ? "reply place" : "reply";
@@ -197,7 +197,7 @@ function nodeOf(entry) {
   return node;
 }
 
-// The lines of a folded answer, which are put in when it is opened: the first, where there are many.
+// Returns the inside of a folded answer, which gets its first lines when it is opened.
 function folded(node, lines) {
   const inner = element("pre", "");
   node.setAttribute("aria-live", "off");
@@ -210,7 +210,7 @@ function folded(node, lines) {
   return [inner];
 }
 
-// What stands beside an answer: { text, kind, task }. With a task it is a button.
+// Returns the node of a mark { text, kind, task }: a button if it has a task.
 function markOf({ text, kind, task }) {
   const node = element(task ? "button" : "span", `mark ${kind}`, text);
   if (task) Object.assign(node, { type: "button", onclick: task });

@@ -1,6 +1,6 @@
-// The page itself: what comes goes to the log, the map and the hands, and what is done there goes out.
+// The page itself: it hands the server's output to the log, the map and the hands, and sends what the player does.
 
-const PLACES = { guest: "connect NAME", player: "say Hello" }; // What stands in an empty line.
+const PLACES = { guest: "connect NAME", player: "say Hello" }; // The placeholders of the input line.
 const NAME = document.title;
 const part = (id) => document.getElementById(id);
 const parts = (...ids) => Object.fromEntries(ids.map((id) => [id, part(id)]));
@@ -28,8 +28,8 @@ const checks = new Checks(undefined, {
 
 // ---- what goes out
 
-// Sends a line, if there is a link. A quiet one is not shown, nor is its answer; `answered` has the answer, or
-// undefined where the link ends before.
+// Sends a line, and returns true if there is a connection. A quiet line is not shown, and its answer is not. `answered`
+// is called with the answer, or with undefined if the connection ends first.
 function say(text, { quiet = false, isUnseen = false, answered } = {}) {
   if (!link.isOn()) {
     if (!quiet) log.tell(`not connected${part("line").value ? ": your line waits" : ""}`);
@@ -41,12 +41,12 @@ function say(text, { quiet = false, isUnseen = false, answered } = {}) {
   return true;
 }
 
-// Asks the way to a room.
+// Asks for the route to a room.
 function askWay(room) {
   say(`route to #${room}`);
 }
 
-// The player is in a room, and has no more steps to go by himself: he looks.
+// Looks at the room that the player has come to.
 function arrived() {
   if (part("looks").checked && world.here !== lookedAt && link.isOn()) say("look", { isUnseen: true });
   lookedAt = world.here;
@@ -72,12 +72,12 @@ function heard(text) {
   showWorld();
 }
 
-// Each connection, and each volume, has a history of its own.
+// Gives the checks a new judge: each connection and each volume has a history of its own.
 function beginChecks() {
   Object.assign(checks, { judge: new checker.Checker(), volume: talk.volume });
 }
 
-// The proofs of a volume that has ended stand in no further record. A button saves them by themselves.
+// Offers a button that saves the proofs of a volume that has ended: no later record has them.
 function offerProofs(volume, proofs) {
   const task = () => saveFile(`volume-${volume}-proofs.txt`, proofs.map(({ text }) => text).join(""));
   log.show({ kind: "page", lines: [`volume ${volume} has ended, proofs of it: ${proofs.length}`],
@@ -91,7 +91,7 @@ talk.onEnd = (volume, proofs) => {
   if (proofs.length) tasks.push(() => offerProofs(volume, proofs));
 };
 
-// What answers lead to is done when they were shown.
+// Does what the shown answers lead to.
 function takeAnswers() {
   for (const task of tasks.splice(0)) task();
 }
@@ -126,7 +126,7 @@ function closed({ why, wasOpen, isLeft, code }) {
   showWorld();
 }
 
-// A page under another name than the server's own is not let in. The server's answer to a plain request may name it.
+// Tells why the server refuses the page: it has another origin, which the answer to a plain request names.
 async function findOrigin() {
   let text;
   try {
@@ -156,7 +156,7 @@ function showState(state) {
   showWait();
 }
 
-// The seconds until the next try.
+// Shows the seconds until the page reconnects.
 function showWait() {
   const left = Math.ceil((link?.nextAt - performance.now()) / 1000);
   part("wait").textContent = link?.state === "waiting" && left > 0 ? `, next try in ${left} s` : "";
@@ -187,7 +187,7 @@ function turnPage(way) {
   part("log").scrollBy({ top: way * part("log").clientHeight * 0.8 });
 }
 
-// What is under a phone's keyboard can't be seen: the page is as tall as what can.
+// Makes the page as tall as the visible part of the window, above a phone's keyboard.
 function fit() {
   const { height } = visualViewport;
   document.documentElement.style.setProperty("--tall", `${height}px`);

@@ -1,19 +1,18 @@
 #!/usr/bin/env python3
-"""make_page.py: writes the page into crates/mud_page/src/page.rt, as the whole answer that a browser gets.
+"""make_page.py: writes the page to crates/mud_page/src/page.rt, as the whole HTTP response that a browser gets.
 
-The page is page.html, with page.css as its style and the files of SCRIPTS and main.js as its script, behind the
-checker, which has a scope of its own. Comments and spaces that nothing needs are left out. The content policy allows
-that style and that script alone, by their SHA-256, connections to the page's own origin, and no text as a script:
-nothing else is loaded from anywhere.
+The page is page.html with page.css as its style. Its script is the checker, in a scope of its own, the files of
+SCRIPTS, and main.js. Comments and needless spaces are removed. The content policy allows this style and this script by
+their SHA-256, and connections to the page's own origin. It allows nothing else, and no text that becomes a script.
 
-Two tables go into the script. COMMANDS is the table of docs/COMMANDS.md, for the help. texts.json has what the server
-says, as far as the page looks for it: a row has a name, the files below crates/ that define the text, and the text, or
-several; `%d` stands for a number there and `%s` for any text. SAID has each row of "lines" as a pattern of a whole
-line, and WORDS each row of "words" as the words themselves. The part `page-texts` of tests/run compares the rows with
-the definitions and with what the programs say.
+Two tables go into the script. COMMANDS is the table of docs/COMMANDS.md, for the help. texts.json has the texts of the
+server that the page looks for. A row has a name, the files below crates/ that define the text, and one text or several,
+in which `%d` stands for a number and `%s` for any text. SAID has each row of "lines" as the pattern of a whole line.
+WORDS has each row of "words" as a list. The part `page-texts` of tests/run compares the rows with the definitions and
+with the output of the programs.
 
-`make_page.py --check` writes nothing, and fails where the file is not what it would write. `make_page.py --logic`
-prints the script without main.js, as tests take it.
+`make_page.py --check` writes nothing, and fails if the file differs from what it would write. `make_page.py --logic`
+prints the script without main.js, for tests.
 """
 import base64
 import hashlib
@@ -32,7 +31,7 @@ SCRIPTS = ["world.js", "answers.js", "conversation.js", "map-layout.js", "map-pi
            "completion.js", "checking.js", "frame.js", "log.js", "map-paint.js", "map-view.js", "hands.js", "line.js",
            "help.js", "keep.js"]
 NAMED = {"\\": "\\\\", '"': '\\"', "\n": "\\n", "\r": "\\r"}
-# The tokens of a script. A slash begins a regular expression where a value may stand: after a sign but `)`, `]`, `}`.
+# The tokens of a script. A slash begins a regular expression where a value may begin: not after `)`, `]` or `}`.
 TOKENS = re.compile(r"""
     (?P<space>\s+)|(?P<comment>//[^\n]*)
     |(?P<text>"(?:[^"\\\n]|\\.)*"|'(?:[^'\\\n]|\\.)*'|`(?:[^`\\$]|\\.|\$(?!\{)|\$\{(?:[^`{}]|`[^`]*`|\{[^{}]*\})*\})*`)
@@ -41,17 +40,17 @@ TOKENS = re.compile(r"""
     |(?P<word>[\w$@#]+)|(?P<sign>.)""", re.X)
 WORD = frozenset("abcdefghijklmnopqrstuvwxyzABCDEFGHIJKLMNOPQRSTUVWXYZ0123456789_$#@")
 OPENS, CLOSES = ("{", "(", "["), ("}", ")", "]")
-# `$` is declared without a value in front of the script.
+# The script declares `$` first, without a value.
 SHORTER = {"const": "let", "undefined": "$", "true": "!0", "false": "!1"}
 NO_VALUE = "let $;\n"
 VARIABLES = {"%d": r"(\d+)", "%s": "(.*?)"}
 PRINTABLE = range(32, 127)
-LONGEST_LINE = 110  # Signs of a line of the byte string, without what closes it.
+LONGEST_LINE = 110  # Characters of a line of the byte string, without its end.
 
 
 def statement_ends(piece, begins):
-    """Whether a piece of a script ends a declaration. `begins` has what the statement begins with in each open bracket,
-    and is kept up to date.
+    """Returns true if a token ends a declaration. `begins` has the first token of the statement in each open bracket,
+    which the function updates.
     """
     if piece in CLOSES:
         begins.pop()
@@ -66,9 +65,9 @@ def statement_ends(piece, begins):
 
 
 def squeezed_script(text):
-    """A script without comments, and without the spaces that no two of its words need between them. All statements end
-    with a semicolon or a brace, so a line feed is kept only where the next line begins at the left edge. Some words are
-    put in place of longer ones, and declarations in a row are one.
+    """Returns a script without comments and needless spaces. All statements end with a semicolon or a brace, so a line
+    feed is kept only before a line without indentation. Shorter words replace some words, and consecutive declarations
+    are merged.
     """
     kept, last, begins, is_declared = [], "\n", [""], False
     for token in TOKENS.finditer(text):
@@ -93,19 +92,19 @@ def squeezed_script(text):
 
 
 def squeezed_style(text):
-    """A style without comments, and without the spaces that are not needed."""
+    """Returns a style without comments and needless spaces."""
     text = re.sub(r"\s+", " ", re.sub(r"/\*.*?\*/", "", text, flags=re.S))
     return re.sub(r" ?([{};,>]) ?", r"\1", re.sub(r": (?=[^{}]*[;}])", ":", text)).replace(";}", "}").strip() + "\n"
 
 
 def squeezed_markup(text):
-    """A page without spaces at the ends of its lines, and without the quotes that its attributes do not need."""
+    """Returns a page without indentation and without needless quotes of attributes."""
     text = "".join(line.strip() + "\n" for line in text.splitlines()).replace(">\n<", "><")
     return re.sub(r'="([a-z0-9-]+)"(?=[ >\n])', r"=\1", text)
 
 
 def squeezed(name):
-    """The text of a file without what a browser does not need."""
+    """Returns the text of a file without what a browser does not need."""
     text = (HERE / name).read_text(encoding="ascii")
     if name.endswith(".html"):
         return squeezed_markup(text)
@@ -113,12 +112,12 @@ def squeezed(name):
 
 
 def hashed(text):
-    """A text as the content policy names it."""
+    """Returns the name of a text in the content policy."""
     return "'sha256-" + base64.b64encode(hashlib.sha256(text.encode()).digest()).decode() + "'"
 
 
 def commands():
-    """The rows of docs/COMMANDS.md that say what can be typed: what is typed, and what comes."""
+    """Returns the rows of the table of commands in docs/COMMANDS.md: what is typed, and what it does."""
     text = COMMANDS.read_text(encoding="ascii")
     table = text.partition("| Line | Refused as | Otherwise |\n")[2].partition("\n\n")[0]
     rows = [re.split(r" ?(?<!`)\|(?!`) ?", line)[1:4] for line in table.splitlines()[1:]]
@@ -126,18 +125,18 @@ def commands():
 
 
 def pattern_of(texts):
-    """The regular expression of a line that is one of these texts."""
+    """Returns the regular expression of the lines that some texts stand for."""
     signs = [re.sub("%[ds]", lambda it: VARIABLES[it[0]], re.sub(r"[][().?]", r"\\\g<0>", text)) for text in texts]
     return f"/^{signs[0]}$/" if len(signs) == 1 else f"/^(?:{'|'.join(signs)})$/"
 
 
 def short_json(value):
-    """JSON without the spaces that nothing needs."""
+    """Returns JSON without needless spaces."""
     return json.dumps(value, separators=(",", ":"))
 
 
 def tables():
-    """The tables of the script."""
+    """Returns the tables of the script."""
     texts = json.loads(TEXTS.read_text(encoding="ascii"))
     said = ",".join(f"{name}:{pattern_of(row)}" for name, _, *row in texts["lines"])
     words = ",".join(f"{name}:{short_json(row)}" for name, _, *row in texts["words"])
@@ -145,29 +144,29 @@ def tables():
 
 
 def checker():
-    """The checker, in a scope of its own."""
+    """Returns the checker, in a scope of its own."""
     source = "".join(squeezed(name) for name in CHECKER)
     return f"const checker = (() => {{\n{source}return {{ {CHECKER_NAMES} }};\n}})();\n"
 
 
 def logic():
-    """The script but for main.js, which begins to do something."""
+    """Returns the script without main.js, which starts the page."""
     return '"use strict";\n' + NO_VALUE + checker() + tables() + "".join(squeezed(name) for name in SCRIPTS)
 
 
 def parts():
-    """The style and the script of the page."""
+    """Returns the style and the script of the page."""
     return squeezed("page.css"), logic() + squeezed("main.js")
 
 
 def page():
-    """The page."""
+    """Returns the page."""
     style, script = parts()
     return squeezed("page.html").replace("@style@", style).replace("@script@", script)
 
 
 def policy():
-    """The content policy (Content Security Policy Level 3)."""
+    """Returns the content policy (Content Security Policy Level 3)."""
     style, script = parts()
     allowed = {"default-src": "'none'", "connect-src": "'self'"}
     allowed |= {"style-src": hashed(style), "script-src": hashed(script)}
@@ -177,7 +176,7 @@ def policy():
 
 
 def answer():
-    """The whole answer: its head, and the page."""
+    """Returns the whole response: its head, and the page."""
     body = page()
     fields = {
         "Connection": "close",
@@ -195,8 +194,8 @@ def answer():
 
 
 def literal(text):
-    """A text of ASCII as a byte string of Rattle's, in lines that are short enough. A line goes on in the next one
-    without the spaces in front of it, so a space that comes first there is spelled out.
+    """Returns an ASCII text as a byte string of Rattle, in lines of limited length. Rattle drops the indentation of a
+    line that continues a string, so a leading space is escaped.
     """
     lines = [""]
     for sign in text:
@@ -208,7 +207,7 @@ def literal(text):
 
 
 def module():
-    """The module that has the page."""
+    """Returns the module with the page."""
     return (
         "//! The page, as page/make_page.py writes it.\n\n"
         "/// The whole answer to a browser that asks for the page: its head, and the page after it.\n"

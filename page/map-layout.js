@@ -1,20 +1,20 @@
-// Where rooms lie: each in a cell of a grid, as the names of ways say. A cell once given is kept. Nothing here touches
-// the page.
+// The layout of the map: each room has a cell of a grid, in the direction that the names of exits give. A room keeps
+// its cell. Nothing here touches the document.
 //
-// Rooms that ways join lie on one sheet, which has floors: `up` leads to the one above. Where a way is learned between
-// two sheets, the smaller one goes to the larger, all of its rooms by one step. So no two rooms of a sheet ever lie
-// otherwise to each other than before.
+// A way is an exit between two rooms. Rooms that ways connect lie on one sheet, which has floors: `up` leads to the
+// floor above. A new way between two sheets moves the smaller sheet next to the larger one, all of its rooms by one
+// offset. So the rooms of a sheet keep their positions relative to each other.
 
-const LONGEST_STEP = 10; // Letters of the longest name that says where a way leads, as `north-east`.
-const STRETCH = 16; // How many cells a way is stretched at most, where the nearer cells are taken.
-const MOST_WEIGHED = 5; // Ways of a room that are weighed when its cell is looked for.
-const PER_WAY = 2; // Cells that are tried for each of them.
-const MOST_WORK = 3000; // Cells that are weighed at once, about; the next update goes on.
-const SIDE = 1 << 14, MIDDLE = SIDE / 2; // Cells from side to side, and floors; more than there are objects.
-const KEPT_WAY = 100, PASSED = 8, BESIDE = 12; // What a way that keeps its name is worth; what hiding one costs.
+const LONGEST_STEP = 10; // The letters of the longest direction, `north-east`.
+const STRETCH = 16; // The most cells that a straight way spans where nearer cells are taken.
+const MOST_WEIGHED = 5; // The most ways that are weighed for the cell of a room.
+const PER_WAY = 2; // The cells that are tried for each of them.
+const MOST_WORK = 3000; // About the most cells that one update weighs; the next one continues.
+const SIDE = 1 << 14, MIDDLE = SIDE / 2; // Cells a row, and floors: more than a world has objects.
+const KEPT_WAY = 100, PASSED = 8, BESIDE = 12; // The worth of a way in its direction, and the costs of hiding ways.
 
-// Where the names of ways lead: east, south, up. A map, since a plain object also has what every object has: a way may
-// be named `constructor`.
+// The steps of directions: cells to the east, to the south, up. This is a Map: a plain object also has `constructor`,
+// which may be the name of an exit.
 const STEPS = new Map(Object.entries({
   north: [0, -1, 0], south: [0, 1, 0], east: [1, 0, 0], west: [-1, 0, 0], northeast: [1, -1, 0], northwest: [-1, -1, 0],
   southeast: [1, 1, 0], southwest: [-1, 1, 0], up: [0, 0, 1], down: [0, 0, -1],
@@ -22,20 +22,20 @@ const STEPS = new Map(Object.entries({
   sw: [-1, 1, 0], u: [0, 0, 1], d: [0, 0, -1],
 }));
 
-// Where a way leads by its name; undefined for one whose name says nothing of it.
+// Returns the step of an exit; undefined if its name is no direction.
 function stepOf(exit) {
   const { name } = exit;
   if (name === undefined || name.length > LONGEST_STEP) return undefined;
   return STEPS.get(name) ?? STEPS.get(name.toLowerCase().replace(/^(north|south)[ -](east|west)$/, "$1$2"));
 }
 
-// Whether so many cells lie where a step leads.
+// Returns true if an offset lies in the direction of a step.
 function isAlong([x, y, z], [dx, dy, dz]) {
   if (dz) return Math.sign(z) === dz;
   return z === 0 && Math.sign(x) === dx && Math.sign(y) === dy && (!dx || !dy || Math.abs(x) === Math.abs(y));
 }
 
-// The steps to the cells round one, the nearest first, and of those the ones askew: they are in the way of no street.
+// The offsets of the cells around one, nearest first. Diagonal cells precede straight ones, which ways may need.
 const AROUND = [];
 for (let x = -9; x <= 9; x += 1) for (let y = -9; y <= 9; y += 1) if (x || y) AROUND.push([x, y]);
 const askew = ([x, y]) => Math.hypot(x, y) + (x && y ? 0 : 0.9);
@@ -45,12 +45,12 @@ function keyOf(x, y, z) {
   return ((z + MIDDLE) * SIDE + x + MIDDLE) * SIDE + y + MIDDLE;
 }
 
-// Rooms on a grid of floors, and the cells that ways between them pass.
+// The rooms of a grid with floors, and the cells that the ways between them cross.
 class Sheet {
   constructor() {
-    this.rooms = new Map(); // The room of each taken cell, by its key.
-    this.passed = new Map(); // How many ways pass a cell, by its key.
-    this.spent = new Map(); // How many candidates of a way are taken, by its cell and its step.
+    this.rooms = new Map(); // Key of a taken cell to its room.
+    this.passed = new Map(); // Key of a cell to the number of ways that cross it.
+    this.spent = new Map(); // Cell and step of a way to the number of its candidates that are taken.
     this.right = this.low = 0; // The greatest x and y.
   }
 
@@ -64,7 +64,8 @@ class Sheet {
     this.low = Math.max(this.low, y);
   }
 
-  // Where a way from this cell may lead: the candidate of this number, the best first. Those past all others are free.
+  // Returns the candidate of this number for the end of a way from a cell, best first. Candidates beyond all rooms are
+  // free.
   candidate([x, y, z], step, number) {
     const up = step ? step[2] : 0, straight = !step ? 0 : up ? 1 : STRETCH, far = number + 1;
     if (number < straight) return up ? [x, y, z + up] : [x + step[0] * far, y + step[1] * far, z];
@@ -72,7 +73,7 @@ class Sheet {
     return round ? [x + round[0], y + round[1], z + up] : [this.right + far - straight - AROUND.length, y, z + up];
   }
 
-  // Some free cells where a way from this cell may lead. Those that were found taken are not tried again.
+  // Returns some free cells for the end of a way from a cell. Cells that were found taken are not tried again.
   some(cell, step) {
     const name = `${cell} ${step}`, found = [];
     for (let number = this.spent.get(name) ?? 0; found.length < PER_WAY; number += 1) {
@@ -84,7 +85,7 @@ class Sheet {
   }
 }
 
-// How many of the cells that a straight way between two on one floor passes fit, by their keys.
+// Returns how many of the cells between two cells of one floor fit, by their keys.
 function passed([x, y, z], [x2, y2, z2], fits) {
   const count = z === z2 ? Math.max(Math.abs(x2 - x), Math.abs(y2 - y)) : 0;
   let found = 0;
@@ -99,14 +100,14 @@ function passed([x, y, z], [x2, y2, z2], fits) {
 class Layout {
   constructor() {
     this.cells = new Map(); // Each room's { sheet, at: [x, y, z] }.
-    this.work = 0; // Cells that were weighed so far.
+    this.work = 0; // The number of cells weighed so far.
   }
 
   has(sheet) {
     return [...this.cells.values()].some((cell) => cell.sheet === sheet);
   }
 
-  // The cell of a room, with that of #0 as the origin of its sheet.
+  // Returns the cell of a room. The cell of #0 is the origin of its sheet.
   cell(room) {
     const cell = this.cells.get(room), hall = this.cells.get(0);
     if (!cell) return undefined;
@@ -114,8 +115,8 @@ class Layout {
     return { sheet: cell.sheet, x: cell.at[0] - x, y: cell.at[1] - y, z: cell.at[2] - z };
   }
 
-  // Puts the rooms that were learned since, and takes those away that are gone. Whether all is done: there is a bound on
-  // the work of one call.
+  // Places new rooms, and removes those that are gone. Returns true if all rooms are placed: the work of one call is
+  // bounded.
   update(world) {
     for (const [room, { sheet, at }] of this.cells) {
       if (world.rooms.has(room)) continue;
@@ -135,7 +136,7 @@ class Layout {
     return this.joinAll(world, most);
   }
 
-  // The ways between a room and others: each with the other room, its cell, and the step from there to here.
+  // Returns the ways of a room: for each the other room, its cell, and the step from there to here.
   neighbours(world, room) {
     const found = [];
     for (const number of world.ties.get(room) ?? []) {
@@ -147,7 +148,7 @@ class Layout {
     return found;
   }
 
-  // Puts the rooms of these ways, and then those that ways join to these: first where a name says the place.
+  // Places the rooms of these ways and all that ways connect to them, those in a direction first.
   spread(world, ways, most) {
     const named = [], other = [], seen = new Set();
     const sort = ({ other: room, cell, step }) => {
@@ -167,7 +168,7 @@ class Layout {
     }
   }
 
-  // Puts a room where most of its ways to placed rooms keep their names, and hide the least.
+  // Places a room in the cell where its ways to placed rooms keep their directions and hide the least.
   place(room, placed) {
     const first = placed.find(({ step }) => step) ?? placed[0], { sheet } = first.cell;
     const ways = [first, ...placed].filter(({ cell }) => cell.sheet === sheet).slice(0, MOST_WEIGHED);
@@ -188,7 +189,7 @@ class Layout {
     for (const { cell } of ways) passed(cell.at, at, pass);
   }
 
-  // What a cell is worth for a room with these ways.
+  // Returns the worth of a cell for a room with these ways.
   worth(sheet, cell, ways) {
     const isTaken = (key) => sheet.rooms.has(key);
     let worth = -BESIDE * (sheet.passed.get(keyOf(...cell)) ?? 0);
@@ -202,7 +203,7 @@ class Layout {
     return worth;
   }
 
-  // Brings sheets together that ways join, first those whose names say how. Whether all are together.
+  // Joins sheets that ways connect, by ways in a direction first. Returns true if all are joined.
   joinAll(world, most) {
     const apart = [...world.exits.values()].filter(({ from, to }) => {
       const [a, b] = [this.cells.get(from), this.cells.get(to)];
@@ -224,7 +225,7 @@ class Layout {
     this.move(goes.sheet, stays.sheet, this.offset(stays, goes, way));
   }
 
-  // How far all rooms of a sheet go, so that none comes where another is.
+  // Returns the offset by which a sheet moves, so that all of its rooms come to free cells.
   offset(stays, goes, step) {
     const rooms = [...goes.sheet.rooms.values()].map((room) => this.cells.get(room).at);
     for (let number = 0; ; number += 1) {
@@ -246,7 +247,7 @@ class Layout {
     }
   }
 
-  // What a tab keeps of it, and a layout from that.
+  // Returns what the tab keeps of the layout; `from` rebuilds the layout.
   kept() {
     const sheets = [...new Set([...this.cells.values()].map(({ sheet }) => sheet))];
     return [...this.cells].map(([room, { sheet, at }]) => [room, sheets.indexOf(sheet), ...at]);

@@ -1,9 +1,9 @@
-// Paints a picture of the map on a canvas. What differs in colour differs in shape, too: a room that was seen has a
-// whole border, one that was only heard of a broken one, one behind locked ways a double one and a lock.
+// Paints a picture of the map on a canvas. Colour is never the only difference: a room that was seen has a solid
+// border, one that was only heard of a dashed border, and one behind locked ways a double border and a lock.
 
 const INKS = ["back", "fore", "dim", "mark", "off", "room", "code"];
 
-// The colours, and the face of letters, that the style has now.
+// Returns the current colours and font of the style.
 function inksOf(element) {
   const style = getComputedStyle(element);
   return Object.fromEntries(INKS.map((name) => [name, style.getPropertyValue(`--${name}`).trim()]));
@@ -36,12 +36,12 @@ function paintWay(pen, { ends: [[x1, y1], [x2, y2]], bend, arrow, isStub, isLock
   if (arrow !== undefined) paintArrow(pen, from, arrow ? [x2, y2] : [x1, y1]);
 }
 
-// The middle of a way.
+// Returns the middle of a way.
 function halfway({ ends: [a, b], bend }) {
   return a.map((one, axis) => (one + b[axis] + 2 * (bend?.[axis] ?? (one + b[axis]) / 2)) / 4);
 }
 
-// The head of an arrow where a way goes only there.
+// Paints the head of an arrow: the way leads in this direction alone.
 function paintArrow(pen, [x1, y1], [x2, y2]) {
   const turn = Math.atan2(y2 - y1, x2 - x1);
   pen.beginPath();
@@ -80,7 +80,7 @@ function paintRoom(pen, { x, y, wide, tall, kind, lines, marks }, ink) {
   for (const mark of marks) paintMark(pen, mark, ink);
 }
 
-// The diamond at the left of the player's own room.
+// Paints the diamond at the left of the player's room.
 function paintHere(pen, x, y, ink) {
   pen.fillStyle = ink.mark;
   pen.beginPath();
@@ -88,7 +88,7 @@ function paintHere(pen, x, y, ink) {
   pen.fill();
 }
 
-// A way up or down: a triangle, which is empty where nobody told where it leads.
+// Paints the triangle of an exit up or down; it is empty if the other end is not known.
 function paintMark(pen, { x, y, isUp, isKnown, isLocked, isRoute }, ink) {
   pen.fillStyle = isKnown ? isRoute ? ink.mark : isLocked ? ink.off : ink.fore : ink.back;
   pen.strokeStyle = isRoute ? ink.mark : isLocked ? ink.off : ink.fore;
@@ -108,7 +108,7 @@ function paintLabel(pen, { x, y, wide, tall, text, isRoute, isLocked }, ink) {
   pen.fillText(text, x + wide / 2, y + tall / 2 + 0.5, wide);
 }
 
-// Where the player is, out of the window: an arrow at its edge.
+// Paints the arrow at the edge of the window that points to the player's room.
 function paintPointer(pen, { x, y, turn }, ink) {
   pen.fillStyle = ink.mark;
   pen.beginPath();

@@ -1,26 +1,27 @@
-// What is drawn of a floor of the map: boxes, ways and labels, in pixels of the window. Nothing here touches the page.
+// What is drawn of a floor of the map: boxes, ways and labels, in pixels of the window. Nothing here touches the
+// document.
 //
-// A view is { sheet, floor, x, y, scale, wide, tall }: the cell in the middle of the window, how large a cell is drawn,
-// and the size of the window. Letters have the same size at each scale; what has no space for them is drawn without.
+// A view is { sheet, floor, x, y, scale, wide, tall }: the cell in the middle of the window, the scale, and the size of
+// the window. Letters have one size at all scales; where they do not fit they are left out.
 
-const MOST_ROOMS = 800, MOST_WAYS = 2000, MOST_LABELS = 600; // What is drawn at most.
-const MOST_LISTED = 500, MOST_NAMED = 40; // Rooms of the list, and exits of each.
-const LETTER = 7.3, LINE = 15; // The width of a letter, and the height of a line, of 12 pixels.
+const MOST_ROOMS = 800, MOST_WAYS = 2000, MOST_LABELS = 600; // The most that is drawn.
+const MOST_LISTED = 500, MOST_NAMED = 40; // The most rooms of the list, and exits of each.
+const LETTER = 7.3, LINE = 15; // The width of a letter and the height of a line, in pixels.
 const CELL = { wide: 190, tall: 108 }, BOX = { wide: 118, tall: 42 };
-const STUB = 26; // How far a way is drawn whose end is not known.
-const TWO_LINES = 34, ONE_LINE = 17; // How tall a box has to be for its name and its number, or its name.
-const LABELLED = 0.7; // The smallest scale that has labels at the ways.
-const BEND = 0.62; // How far beside a room a way bows round it, in cells.
-const LONGEST = 18; // Letters of a label.
-const BUCKET = 96; // The side of the squares by which what overlaps is found.
-const SPOTS = [[0, 1], [0, -1], [1, 1], [1, -1]]; // Where a label may stand: lines along its way, and its side.
-const ASIDE = [[1, 1], [-1, 1], [1, -1], [-1, -1], [1, 0], [-1, 0]]; // Where ways go whose names say nothing.
+const STUB = 26; // The length of a way whose end is not known.
+const TWO_LINES = 34, ONE_LINE = 17; // The least height of a box with a name and a number, or a name alone.
+const LABELLED = 0.7; // The least scale at which ways have labels.
+const BEND = 0.62; // How far a way bends around a room, in cells.
+const LONGEST = 18; // The most letters of a label.
+const BUCKET = 96; // The side of the squares of the overlap search.
+const SPOTS = [[0, 1], [0, -1], [1, 1], [1, -1]]; // The places of a label: lines along its way, and the side.
+const ASIDE = [[1, 1], [-1, 1], [1, -1], [-1, -1], [1, 0], [-1, 0]]; // Where other ways are drawn.
 
 function short(text, most) {
   return text.length > most ? text.slice(0, Math.max(1, most - 2)) + ".." : text;
 }
 
-// A rectangle round a middle.
+// Returns the rectangle around a middle.
 function around(x, y, wide, tall) {
   return { x: x - wide / 2, y: y - tall / 2, wide, tall };
 }
@@ -56,7 +57,7 @@ class Taken {
   }
 }
 
-// How a room is drawn: `here`, `seen`, `heard` where the player was not yet, or `locked` where each way there is.
+// Returns how a room is drawn: `here`, `seen`, `heard` if the player was never there, `locked` if all ways to it are.
 function kindOf(world, room) {
   if (room === world.here) return "here";
   if (world.visited.has(room)) return "seen";
@@ -68,12 +69,13 @@ function sizeOf({ scale }) {
   return { wide: BOX.wide * scale, tall: BOX.tall * scale };
 }
 
-// Where the middle of a cell is in the window.
+// Returns the middle of a cell in the window.
 function middleOf({ x, y, scale, wide, tall }, cell) {
   return [wide / 2 + (cell.x - x) * CELL.wide * scale, tall / 2 + (cell.y - y) * CELL.tall * scale];
 }
 
-// The rooms of a floor that are in the window, the nearest to its middle first, as boxes.
+// Returns the boxes of the floor's rooms in the window, and how many rooms the floor has. Above the limit the nearest
+// to the middle are taken.
 function boxesOf(world, layout, view) {
   const { wide, tall } = view, size = sizeOf(view), boxes = [];
   let count = 0;
@@ -91,15 +93,15 @@ function boxesOf(world, layout, view) {
   return { boxes, count };
 }
 
-// What stands in a box: the name and the number, as far as there is space for letters.
+// Returns the lines in a box: the name and the number, as far as they fit.
 function linesOf(world, { room, wide, tall }) {
   const most = Math.floor((wide - 8) / LETTER), name = world.rooms.get(room) ?? "?";
   if (tall >= TWO_LINES) return [short(name, most), `#${room}`];
   return tall >= ONE_LINE && most >= 3 ? [short(name, most)] : [];
 }
 
-// The ways of the rooms that are drawn, those between the same two rooms together: { from, to, exits }. An exit is taken
-// once, in the room that it leaves, unless that is not drawn.
+// Returns the exits of the drawn rooms, bundled by the two rooms that they connect: { from, to, exits }. An exit is
+// taken from the room that it leaves, or from the other one if that room is not drawn.
 function bundlesOf(world, places) {
   const bundles = new Map();
   for (const room of places.keys())
@@ -113,13 +115,13 @@ function bundlesOf(world, places) {
   return [...bundles.values()];
 }
 
-// Where a line from the middle of a box leaves it.
+// Returns the point where a line from the middle of a box leaves it.
 function edge({ middle: [x, y], wide, tall }, dx, dy) {
   const part = Math.min(dx ? wide / 2 / Math.abs(dx) : Infinity, dy ? tall / 2 / Math.abs(dy) : Infinity);
   return [x + dx * part, y + dy * part];
 }
 
-// The names of exits as a label of so many letters.
+// Returns the label of some exits, of at most this many letters.
 function labelOf(exits, most) {
   const [, { name }] = exits[0];
   return short(name ?? "?", most) + (exits.length > 1 ? ` +${exits.length - 1}` : "");
@@ -136,7 +138,7 @@ class Picture {
     this.isWhole = this.boxes.length < MOST_ROOMS && Math.max(bundles.length, this.ways.length) < MOST_WAYS;
   }
 
-  // The box of a room; one out of the window has no lines.
+  // Returns the box of a room; outside of the window it has no lines.
   boxOf(room) {
     const cell = this.layout.cell(room);
     return this.places.get(room) ?? (cell && { middle: middleOf(this.view, cell), room, ...sizeOf(this.view) });
@@ -152,13 +154,13 @@ class Picture {
     if (b.z === this.view.floor) this.drawFloor(this.places.get(to), back, a.z > b.z);
   }
 
-  // Ways to where no cell was given yet.
+  // Draws ways to rooms that have no cell yet.
   drawAway(out, back) {
     const drawn = [...out, ...back].filter(([, { from }]) => this.places.has(from));
     for (const one of drawn) this.drawStub(this.places.get(one[1].from), one);
   }
 
-  // How exits are drawn: locked, or on the route, where one of them is.
+  // Returns how exits are drawn: locked, or on the route, if one of them is.
   look(exits) {
     const { route, walked } = this.world, at = exits.map(([number]) => route.lastIndexOf(number));
     const isLocked = exits.some(([, { locked }]) => locked), isRoute = at.some((one) => one >= walked);
@@ -166,7 +168,7 @@ class Picture {
     return { exits: exits.map(([number]) => number), isLocked, isRoute, isWalked };
   }
 
-  // A way between two rooms of the floor, bowed where it would pass behind a third.
+  // Draws a way between two rooms of the floor. It bends if a third room lies between them.
   drawWay(first, second, out, back) {
     const [x1, y1] = first.middle, [x2, y2] = second.middle, dx = x2 - x1, dy = y2 - y1, far = Math.hypot(dx, dy);
     const bow = this.isHidden(first.room, second.room) ? 2 * BEND * CELL.tall * this.view.scale / far : 0;
@@ -179,13 +181,13 @@ class Picture {
     if (back.length) this.label(ends[1], aims[1], back);
   }
 
-  // Whether a straight way between two rooms would pass a third.
+  // Returns true if a straight way between two rooms crosses a third.
   isHidden(from, to) {
     const a = this.layout.cells.get(from), b = this.layout.cells.get(to);
     return passed(a.at, b.at, (key) => a.sheet.rooms.has(key)) > 0;
   }
 
-  // A way whose end is not known, or that leads back to its room.
+  // Draws a way whose end is not known, or that leads back to its room.
   drawStub(box, [number, exit]) {
     const step = stepOf(exit);
     if (step?.[2] && exit.to === undefined) return this.drawFloor(box, [[number, exit]], step[2] > 0);
@@ -199,7 +201,7 @@ class Picture {
     this.label(start, aim, [[number, exit]], exit.to === exit.from ? " (here)" : "");
   }
 
-  // Exits to another floor: a mark at the box, and their label beside it.
+  // Draws exits to another floor: a mark at the box, with a label.
   drawFloor(box, exits, isUp) {
     if (!box || !exits.length) return;
     const x = box.x + box.wide * (isUp ? 0.86 : 0.14), y = box.y + (isUp ? 0 : box.tall);
@@ -207,8 +209,8 @@ class Picture {
     this.label([x, y], [0, isUp ? -1 : 1], exits);
   }
 
-  // A label to the right of its way, near its beginning, or else where there is space for it. It is as long as there is
-  // space for it, and left out where there is none.
+  // Adds a label to the right of its way, near its beginning, or at another place that is free. It is shortened to fit,
+  // and left out if no place is free.
   label([x, y], [dx, dy], exits, note = "") {
     const { scale } = this.view, far = Math.hypot(dx, dy);
     if (scale < LABELLED || this.labels.length >= MOST_LABELS) return;
@@ -227,7 +229,7 @@ class Picture {
   }
 }
 
-// The same in words, a line for each room: { room, text }.
+// Returns the map in words, a line for each room: { room, text }.
 function listOf(world, most = MOST_LISTED) {
   return [...world.rooms.keys()].sort((a, b) => a - b).slice(0, most).map((room) => {
     const exits = world.exitsOf(room), more = exits.length - MOST_NAMED, kind = kindOf(world, room);

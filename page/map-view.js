@@ -1,9 +1,9 @@
-// The map on the page: which part of it is shown, the hands that move it, and the list beside it.
+// The map on the page: the part that is shown, the controls that move it, and the list beside it.
 
 const SCALES = { least: 0.08, most: 2, step: 1.25 };
-const FADE = 1500; // Milliseconds for which a route that was walked is still shown.
-const MOVED = 5; // How far a finger goes before it drags, in pixels.
-const PAN = 60; // How far an arrow key moves the map.
+const FADE = 1500; // Milliseconds for which a finished route stays visible.
+const MOVED = 5; // Pixels that a finger moves before it drags the map.
+const PAN = 60; // Pixels that an arrow key moves the map.
 
 class MapView {
   constructor(parts, onRoom) {
@@ -18,7 +18,7 @@ class MapView {
     on(matchMedia("(prefers-color-scheme: dark)"), this.soon, "change");
   }
 
-  // The world may have changed: draws it where it did, and the map is open.
+  // Draws the world if it has changed and the map is open.
   show(world) {
     const isMoved = this.world !== world || this.here !== world.here;
     Object.assign(this, { world, here: world.here });
@@ -34,7 +34,7 @@ class MapView {
     return `Map${place}`;
   }
 
-  // A route that was walked is shown a little longer.
+  // Removes a finished route a little later.
   fade() {
     const { route } = this.world;
     if (this.fading === route) return;
@@ -65,8 +65,8 @@ class MapView {
     if (!isSettled) this.soon();
   }
 
-  // Keeps the player's room in the window, until the map is moved by hand; his next step ends that. A sheet may have
-  // gone into another one.
+  // Keeps the player's room in the window, unless the map was moved by hand since the player's last step. A sheet may
+  // have been joined to another one.
   follow() {
     const { view } = this, cell = this.layout.cell(this.here) ?? this.layout.cell(0);
     if (!cell || (this.isMovedByHand && this.layout.has(view.sheet))) return;
@@ -76,7 +76,7 @@ class MapView {
     if (isOther || !isIn) Object.assign(view, { x: cell.x, y: cell.y });
   }
 
-  // Where the player is, at the edge of the window, where his room is out of it.
+  // Returns the point at the edge of the window that is nearest to the player's room; undefined if the room is visible.
   pointer() {
     const { view } = this, cell = this.layout.cell(this.here);
     if (!cell || cell.sheet !== view.sheet || cell.z !== view.floor) return undefined;
@@ -98,7 +98,7 @@ class MapView {
     return floor ? `floor ${floor > 0 ? "+" : ""}${floor}` : "floor 0";
   }
 
-  // The same as a list. What is in it stays, so that it can be read and used while others talk.
+  // Updates the list of rooms. Existing items stay, so that a reader keeps its place while the world changes.
   list() {
     const { world, parts } = this;
     if (!world || !parts.words.open || !parts.map.open || this.listed === world.revision) return;
@@ -126,7 +126,7 @@ class MapView {
     return this.items.get(room);
   }
 
-  // ---- hands
+  // ---- controls
 
   listen() {
     const { window: pane, up, down, larger, smaller, whole, home } = this.parts;
@@ -157,7 +157,7 @@ class MapView {
     this.isMovedByHand = false;
   }
 
-  // All rooms of the floor.
+  // Shows all rooms of the floor.
   whole() {
     const { view } = this, cells = [...this.layout.cells.keys()].map((room) => this.layout.cell(room))
       .filter(({ sheet, z }) => sheet === view.sheet && z === view.floor);
@@ -169,7 +169,7 @@ class MapView {
     this.change({ x: (left + right) / 2, y: (top + low) / 2, scale: Math.max(SCALES.least, Math.min(1, fits)) });
   }
 
-  // Larger or smaller, round a point of the window.
+  // Scales the map around a point of the window.
   zoom(times, x = this.view.wide / 2, y = this.view.tall / 2) {
     const { view } = this, scale = Math.max(SCALES.least, Math.min(SCALES.most, view.scale * times));
     const part = 1 / view.scale - 1 / scale, dx = (x - view.wide / 2) / CELL.wide, dy = (y - view.tall / 2) / CELL.tall;

@@ -1,28 +1,28 @@
-// The world that a history makes: docs/WORLD.md. A change that is not legal is not made.
+// The world that a history leads to: docs/WORLD.md. An illegal change is not made.
 
 const ROOM = 1, EXIT = 2, THING = 3, PLAYER = 4;
 const HALL = 0, WIZARD = 1, NOWHERE = -1, MOST_NESTING = 3;
-const IS_SO = 1, IS_NOT_SO = 2; // What a judge found out; 0 stands where he was not asked yet.
+const IS_SO = 1, IS_NOT_SO = 2; // What a judge found; 0 where it was not asked yet.
 
 class Realm {
   constructor() {
     const numbers = () => new Int16Array(MOST_NUMBER + 1).fill(NOWHERE);
     this.version = 0;
     this.next = 0;
-    this.kind = new Uint8Array(MOST_NUMBER + 1); // 0 where no object has this number.
+    this.kind = new Uint8Array(MOST_NUMBER + 1); // 0 for a number without an object.
     [this.owner, this.place, this.from, this.to, this.price] = [numbers(), numbers(), numbers(), numbers(), numbers()];
-    this.uses = new Uint16Array(MOST_NUMBER + 1); // How many objects lie in it, and how many ends of exits it has.
-    this.keys = new Map(); // The key of each object that has one.
-    this.askers = new Map(); // The objects whose keys ask an object.
-    this.names = new Map(); // The names of each player, in lower case.
-    this.named = new Map(); // The player of each such name.
+    this.uses = new Uint16Array(MOST_NUMBER + 1); // The number of objects in it, and of ends of exits at it.
+    this.keys = new Map(); // Object to its key.
+    this.askers = new Map(); // Object to the objects whose keys ask it.
+    this.names = new Map(); // Player to its names, in lower case.
+    this.named = new Map(); // Name to its player.
     this.add(ROOM, WIZARD);
     this.add(PLAYER, WIZARD);
     this.put(WIZARD, HALL);
     this.call(WIZARD, "Wizard");
   }
 
-  // Makes a change. Whether it is legal; if not, all stays as it is.
+  // Makes a change if it is legal. Returns true if it was made.
   act(change) {
     if (change.kind !== "player" && this.kind[change.actor] !== PLAYER) return false;
     if (!this[change.kind](change)) return false;
@@ -30,7 +30,7 @@ class Realm {
     return true;
   }
 
-  // Makes the changes of a list up to a version. Whether all of them are legal.
+  // Makes the changes of a list up to a version. Returns true if all of them are legal.
   actUntil(version, changes) {
     while (this.version < version) if (!this.act(changes[this.version])) return false;
     return true;
@@ -96,8 +96,8 @@ class Realm {
     }
   }
 
-  // How many questions lead on from some objects, one after the other, where `further` gives those behind an object;
-  // no more than one above the limit are counted.
+  // Returns the length of the longest chain of questions from some objects, where `further` gives the objects that one
+  // asks. Counting stops one above the limit.
   depth(objects, further) {
     let count = 0;
     for (let level = new Set(objects); level.size && count <= MOST_NESTING; count += 1)
@@ -105,7 +105,7 @@ class Realm {
     return count;
   }
 
-  // Whether each key nests within the limit once the object has this one. A circle has no end, and is beyond it.
+  // Returns true if all keys nest within the limit when the object has this key. A cycle exceeds any limit.
   nests(object, key) {
     const down = this.depth(key.asked, (one) => (one === object ? key : this.keys.get(one))?.asked);
     if (down === 0) return true;
@@ -151,7 +151,7 @@ class Realm {
     return true;
   }
 
-  // Where a thing's places lead, passing only things: a room or a player.
+  // Returns the room or the player that holds a thing, through other things.
   holder(thing) {
     let at = thing;
     while (this.kind[at] === THING) at = this.place[at];
@@ -224,7 +224,7 @@ class Realm {
   }
 }
 
-// What is locked for one candidate, as long as the world does not change.
+// What is locked for one candidate, while the world does not change.
 class Judge {
   constructor(realm, candidate) {
     this.realm = realm;
@@ -233,7 +233,7 @@ class Judge {
     this.unlocked = new Uint8Array(realm.next);
   }
 
-  // Whether the candidate is the object, or has it within him at any depth.
+  // Returns true if the candidate is the object, or contains it at any depth.
   has(object) {
     if (this.realm.kind[object] === 0) return false;
     const passed = [];
@@ -265,7 +265,7 @@ class Judge {
       : this.isMet(tree.left) || this.isMet(tree.right);
   }
 
-  // Whether an exit is open: docs/ROADS.md.
+  // Returns true if an exit is open: docs/ROADS.md.
   isOpen(exit) {
     return this.isUnlocked(exit) && this.isUnlocked(this.realm.to[exit]);
   }

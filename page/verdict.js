@@ -1,6 +1,6 @@
-// What is found of a certificate in the world of its version: the doubts of docs/CERTIFICATES.md, in their order.
+// Checks a certificate in the world of its version: the doubts of docs/CERTIFICATES.md, in their order.
 
-// The rooms that a member labels, by number: the cost, and the number of exits. NOWHERE stands where there is no label.
+// The labels of a member, by room number: the cost, and the number of exits. The cost NOWHERE means no label.
 class Labels {
   constructor(labels) {
     this.cost = new Int32Array(MOST_NUMBER + 1).fill(NOWHERE);
@@ -16,7 +16,7 @@ class Labels {
     return this.cost[room] === cost && this.exits[room] === exits;
   }
 
-  // Whether the room has a label, and none above this one.
+  // Returns true if the room has a label that is at most this one.
   isAtMost(room, cost, exits) {
     if (!this.has(room)) return false;
     return this.cost[room] < cost || (this.cost[room] === cost && this.exits[room] <= exits);
@@ -28,13 +28,13 @@ class Doubter {
   constructor(realm, form, { player, from, labels, walk }) {
     Object.assign(this, { realm, player, from, walk, labels: new Labels(labels) });
     this.listed = labels;
-    this.step = form === 2 ? 1 : 0; // What an exit adds to the exits of a label.
+    this.step = form === 2 ? 1 : 0; // What one exit adds to the exits of a label.
     this.judge = new Judge(realm, player);
-    this.price = 0; // What the walk costs,
-    this.end = from; // and where it ends.
+    this.price = 0; // The cost of the walk.
+    this.end = from; // The room in which the walk ends.
   }
 
-  // The first of the doubts 1 to 7; undefined where there is none. It yields now and then.
+  // Returns the first of the doubts 1 to 7, or undefined. Yields now and then.
   *doubt(isSecond) {
     const { realm, player, from, labels } = this;
     if (realm.kind[player] !== PLAYER || isSecond) return `no such player #${player}`;
@@ -77,7 +77,7 @@ class Doubter {
   }
 }
 
-// Whether a conclusion agrees with the walks and the labels of the members: doubt 8.
+// Returns true if the conclusion agrees with the walks and the labels of the members: doubt 8.
 function agrees(realm, { room, cost, isMeeting }, members) {
   const isClaimed = isMeeting ? room !== undefined : cost !== undefined;
   if ((isClaimed || !isMeeting) && realm.kind[room] !== ROOM) return false;
@@ -92,7 +92,7 @@ function agrees(realm, { room, cost, isMeeting }, members) {
   return isClaimed ? !common.some(isBetter) : common.length === 0;
 }
 
-// The first doubt of a certificate; undefined where there is none. It yields now and then.
+// Returns the first doubt about a certificate, or undefined. Yields now and then.
 function* doubtOf(realm, certificate) {
   const members = [], players = new Set();
   for (const member of certificate.members) {

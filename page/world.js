@@ -1,36 +1,36 @@
-// What a player was told of the world. Nothing here touches the page. An exit is { name, from, to, locked }, and what
-// was not told is undefined.
+// What the player knows of the world. Nothing here touches the document. An exit is { name, from, to, locked }; a field
+// that is not known is undefined.
 
-const MOST_TYPED = 1000; // The server takes lines of at most so many characters.
-const MOST_NAMES = 2000; // Names of things and players that are kept to complete a line.
+const MOST_TYPED = 1000; // The server accepts lines of at most this many characters.
+const MOST_NAMES = 2000; // Names of things and players that Tab completes.
 
-// The line as the server reads it: of printable ASCII, a tab as a space.
+// Returns a line as the server reads it: printable ASCII, with tabs as spaces.
 function typed(line) {
   return line.replace(/\t/g, " ").replace(/[^ -~]/g, "").slice(0, MOST_TYPED);
 }
 
-// The words of a line, joined by one space.
+// Returns the words of a line, joined by single spaces.
 function words(line) {
   return line.trim().split(/ +/).join(" ");
 }
 
 class World {
   constructor() {
-    this.rooms = new Map(); // The name of each room, by its number.
-    this.exits = new Map(); // Each exit, by its number.
-    this.ties = new Map(); // The exits that leave a room or lead to it, by its number.
-    this.visited = new Set(); // The rooms where the player was.
-    this.things = new Map(); // The names of things and players, by their numbers.
-    this.people = new Set(); // The names of players who were heard.
-    this.me = undefined; // The number of the player.
-    this.here = undefined; // The number of the room where he is.
+    this.rooms = new Map(); // Room number to name.
+    this.exits = new Map(); // Exit number to exit.
+    this.ties = new Map(); // Room number to the exits that leave it or lead to it.
+    this.visited = new Set(); // The rooms that the player was in.
+    this.things = new Map(); // Number of a thing or a player to its name.
+    this.people = new Set(); // The names of players that were heard.
+    this.me = undefined; // The player's number.
+    this.here = undefined; // The number of the player's room.
     this.route = []; // The exits of the last route.
-    this.walked = 0; // How many of them were walked.
-    this.revision = 0; // Grows with each change of what is drawn.
-    this.age = 0; // Grows where all that was told is of no use any more.
+    this.walked = 0; // How many of them the player has walked.
+    this.revision = 0; // Increases with each change of what is drawn.
+    this.age = 0; // Increases when all of this becomes void.
   }
 
-  // It is another world: nothing that was told holds.
+  // Forgets everything: the server has another world.
   clear() {
     for (const kept of [this.rooms, this.exits, this.ties, this.visited, this.things, this.people]) kept.clear();
     this.plan([]);
@@ -65,13 +65,13 @@ class World {
     this.ties.get(to)?.delete(number);
   }
 
-  // The numbers of the exits that leave a room, by rising number.
+  // Returns the numbers of the exits that leave a room, in ascending order.
   exitsOf(room) {
     const ties = [...this.ties.get(room) ?? []];
     return ties.filter((exit) => this.exits.get(exit).from === room).sort((a, b) => a - b);
   }
 
-  // The player is here now.
+  // Moves the player to a room.
   arrive(room) {
     this.here = room;
     this.room(room);
@@ -79,7 +79,7 @@ class World {
     this.revision += 1;
   }
 
-  // An object is gone, and the exits to it with it.
+  // Removes an object, and with a room its exits.
   forget(number) {
     for (const exit of [number, ...this.ties.get(number) ?? []]) {
       this.untie(exit);
@@ -90,14 +90,14 @@ class World {
     this.revision += 1;
   }
 
-  // A route is shown from its beginning.
+  // Sets the route; the player has walked no exit of it.
   plan(exits) {
     this.route = exits;
     this.walked = 0;
     this.revision += 1;
   }
 
-  // A thing or a player is known by a name. The oldest goes where there are too many.
+  // Sets the name of a thing or a player. Above the limit the oldest name is dropped.
   thing(number, name) {
     this.things.set(number, name);
     if (this.things.size > MOST_NAMES) this.things.delete(this.things.keys().next().value);
@@ -108,7 +108,7 @@ class World {
     if (this.people.size > MOST_NAMES) this.people.delete(this.people.values().next().value);
   }
 
-  // The exit of this room that a text means, where it is plain: by its number or its whole name, else as a beginning.
+  // Returns the one exit of this room that a text names: by its number or its name, or by a prefix if not `whole`.
   exitNamed(text, whole) {
     const number = text.match(/^#(\d{1,9})$/);
     if (number) return this.exits.has(Number(number[1])) ? Number(number[1]) : undefined;
@@ -120,7 +120,7 @@ class World {
     return found.length === 1 ? found[0] : undefined;
   }
 
-  // What a tab keeps of it, and a world from that.
+  // Returns what the tab keeps of the world; `from` rebuilds the world.
   kept() {
     const { rooms, exits, visited, things, people, me, route, walked } = this;
     return { rooms: [...rooms], exits: [...exits], visited: [...visited], things: [...things], people: [...people], me,

@@ -46,7 +46,7 @@ NAMES = ["The Hall", "The Library", "The Attic", "The Vault"]
 STATE = text_of("state")
 ROOMS = "[...document.querySelectorAll('#rooms li')].map((item) => item.textContent).join(' | ')"
 FITS = "document.documentElement.scrollWidth <= window.innerWidth"
-EMPTIED = "sessionStorage.clear(), world.rooms.clear(), world.exits.clear()"  # What costs are counted by is large.
+EMPTIED = "sessionStorage.clear(), world.clear()"  # What costs are counted by is large.
 LOADED, ON = "document.readyState === 'complete'", "document.body.dataset.state === 'on'"
 # How often a page of another origin sends lines to the port for Telnet, and what the log says of that; and how it sends
 # them, which answers how often nothing came back.
@@ -279,6 +279,7 @@ def count_trip(count, browser):
     """Counts whether a way is gone by one click: to the observatory, and back."""
     for line, end in (("route to Observatory", "Observatory #25"), ("route to The Hall", "The Hall #0")):
         type_line(browser, line)
+        browser.waits_for("talk.asked.length === 0", 10)
         browser.waits_for(f"{text_of('told')}.startsWith('To {end}') && !{by_id('all')}.hidden", 10)
         click(browser, "all")
         there = browser.waits_for(f"{text_of('told')} === 'You are at {end}'", 10)

@@ -1,6 +1,4 @@
-"""The page of the door on the web: what the server hands out is what its sources give, and its logic does as
-docs/WEB.md says.
-"""
+"""The page: the server serves what the sources give, and its logic does as docs/WEB.md says."""
 import re
 import shutil
 import subprocess
@@ -12,7 +10,7 @@ from harness.programs import TOP
 COUNTED = re.compile(r"^# (pass|fail) (\d+)$", re.M)
 SUBJECTS = ("replies", "layout", "picture", "log", "connection", "hands", "checking", "checker", "help",
             "style")
-MOST_BYTES = 100_000  # What the page may have, all together.
+MOST_BYTES = 100_000  # The limit of the whole page.
 
 
 @part("page-built", "the page that the server hands out is what page/make_page.py makes of its sources, and small")

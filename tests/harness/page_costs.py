@@ -1,14 +1,14 @@
-"""What the page costs in a browser: a burst of notices, a picture of the map, the check of an answer.
+"""The costs of the page in a browser: a burst of notices, a picture of the map, the check of an answer.
 
-Times are those of the quickest try, since others use the machine, too.
+A time is that of the fastest try, since other programs use the machine.
 """
 
 SECOND, FRAME, SLOWEST = 1000, 16, 100  # Milliseconds: for a burst, a map of 200 rooms, and any map.
 WORLDS = [(200, 1000, FRAME), (150, 8000, SLOWEST), (4000, 4000, SLOWEST), (1000, 7000, SLOWEST)]
-# Rooms and changes of a world, and milliseconds until an answer there is checked; the changes of the longest history.
+# The rooms and changes of a world, and the milliseconds for a check there; the changes of the longest history.
 CHECKED, SOON, LONGEST = (2000, 20_000), 50, 65_536
 TRIES = 15
-# The milliseconds from a burst of 1,000 notices until all are shown, with a full log and a long history in it.
+# The milliseconds until a burst of 1,000 notices is shown, in a full log that has a long history.
 BURST = """(async () => {
   const frame = () => new Promise((go) => requestAnimationFrame(() => setTimeout(go)));
   const burst = (count) => { for (let at = 0; at < count; at += 1) heard(`(${at}) Bob says, "line ${at}"\\r\\n`); };
@@ -24,8 +24,8 @@ BURST = """(async () => {
   }
   return Math.min(...times);
 })()"""
-# The milliseconds of the dearest picture of a world at random that is learned at once, drawn as the page draws it:
-# there are those in which rooms are placed, and one more.
+# The milliseconds of the slowest picture of a random world that is learned at once. The page draws pictures while it
+# places rooms, and one more.
 PICTURES = """((rooms, exits, tries) => {
   const names = ["north", "south", "east", "west", "northeast", "southwest", "northwest", "southeast", "up", "down"];
   let state = 7;
@@ -48,7 +48,7 @@ PICTURES = """((rooms, exits, tries) => {
   };
   return Math.min(...Array.from({ length: tries }, dearest));
 })"""
-# The milliseconds from a history until an answer is checked by it: that of a way through a row of rooms.
+# The milliseconds until an answer is checked by a new history: the route through a row of rooms.
 CHECK = """(async (rooms, changes, tries) => {
   const room = (at) => at ? 3 * at - 1 : 0, all = Array.from({ length: rooms }, (_, at) => at), last = rooms - 1;
   const lines = all.slice(1).flatMap((at) =>
@@ -72,7 +72,7 @@ CHECK = """(async (rooms, changes, tries) => {
   }
   return Math.min(...times);
 })"""
-# The milliseconds for which the page does nothing else at most while the longest history is checked.
+# The longest time in milliseconds for which the check of the longest history blocks the page.
 STANDSTILL = """(async (changes, tries) => {
   const lines = Array.from({ length: changes }, (_, at) => `${at + 1} 1 say #1 line ${at}\\n`);
   const history = `mud history 2\\n${lines.join("")}end ${changes}\\n`, found = [];
@@ -92,7 +92,7 @@ STANDSTILL = """(async (changes, tries) => {
 
 
 def count_costs(count, browser):
-    """Counts what a burst, a picture of the map and a check cost."""
+    """Tests the costs of a burst, of a picture of the map and of a check."""
 
     def count_time(what, expression, most):
         took = browser.value(expression)

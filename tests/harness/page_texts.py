@@ -1,5 +1,5 @@
-"""The table page/texts.json: what the page looks for in the server's texts is what the crates define, and what the
-programs say. A text that changes fails here; the page would only pass over it.
+"""The table page/texts.json: the page looks for the texts that the crates define and the programs say. Without this
+test a changed text would fail in silence: the page would no longer find it.
 """
 import glob
 import importlib.util
@@ -15,97 +15,96 @@ from harness.sessions import answer
 from harness.web import WebServer
 from harness.web_client import upgrade
 
-# A text that a definition spells out, and the definition of a refusal's text.
+# A text in a definition, and the definition of a refusal's text.
 CODES = re.compile(r'codes "((?:\\.|[^"\\])*)"')
 REFUSAL = re.compile(r'^refusal_text \w+ = codes "(.*)"$', re.M)
-# What stands for a number or a text in the table, and what may stand there in a line.
+# The variables of the table, and the values that they stand for.
 VARIABLE, VALUES = re.compile("%[ds]"), {"%d": r"\d+", "%s": ".*"}
 VERSION = re.compile(r"\[\d+\] |\(\d+\) ")
-# The row of which only the form is fixed, and the rows that have all lines in brackets of the file that defines them.
+# The row that gives a form alone, and the rows that list all lines in brackets of their files.
 FORM, IN_BRACKETS = "refused", ("failed", "ended")
-# What a program says only where one of its calls fails, as other parts have it.
+# Lines that a program says only if one of its calls fails; other parts have the calls fail.
 AT_FAULTS = {"(out of memory)", "(not stored)", "(journal fault)"}
-# What two players of a server type, of whom the first hears the second; and where a page is that may not play there.
+# The lines of two players, the second of which the first player hears, and the origin of a page that is refused.
 FIRST, SECOND = [b"connect Ann", b"@dig door|back to Yard"], [b"connect Bob", b"say hello", b"door"]
 ELSEWHERE = "http://elsewhere.example"
-SHORTEST = 4  # A shorter part of a text may stand anywhere.
+SHORTEST = 4  # Characters of the shortest text that identifies a row.
 
 
 def rows():
-    """The rows of each block of the table: each row's name, the files that define its texts, and the texts."""
+    """Returns the rows of each block of the table: the name, the files that define the texts, and the texts."""
     with open(f"{TOP}/page/texts.json", encoding="ascii") as file:
         table = json.load(file)
     return {block: [(name, paths.split(), texts) for name, paths, *texts in found] for block, found in table.items()}
 
 
 def read(path):
-    """The text of a file, by its path below the top."""
+    """Returns the text of a file, by its path below the top."""
     with open(f"{TOP}/{path}", encoding="utf-8") as file:
         return file.read()
 
 
 def spelled(path):
-    """The texts that the definitions of a file spell out, without line ends; one behind a comma also without that."""
+    """Returns the texts in the definitions of a file, without line ends, and with and without a leading comma."""
     texts = {it.encode().decode("unicode_escape").strip("\r\n") for it in CODES.findall(read(path))}
     return texts | {it.removeprefix(", ") for it in texts}
 
 
 def fixed_parts(text):
-    """What a text has between its variables."""
+    """Returns the parts of a text between its variables."""
     return [it for it in VARIABLE.split(text) if it]
 
 
 def is_made_of(text, pieces):
-    """Whether a text is some of these pieces one behind the other. The sign in front of a number is always one."""
+    """Returns true if a text is a sequence of these pieces and of the sign before a number."""
     choices = "|".join(re.escape(it) for it in {"#", *pieces} - {""})
     return re.fullmatch(f"(?:{choices})+", text) is not None
 
 
 def is_defined(text, pieces):
-    """Whether each fixed part of a text is made of what definitions spell out."""
+    """Returns true if each fixed part of a text is a sequence of these pieces."""
     return all(is_made_of(it, pieces) for it in fixed_parts(text))
 
 
 def lines_of(text):
-    """The pattern of the lines that a text of the table stands for."""
+    """Returns the pattern of the lines that a text of the table stands for."""
     return re.compile(VARIABLE.sub(lambda it: VALUES[it[0]], re.escape(text)))
 
 
 def definers(texts):
-    """The files of definitions that spell out how one of these texts begins."""
+    """Returns the files with a definition that begins as one of these texts does."""
     begins = tuple(fixed_parts(text)[0] for text in texts)
     paths = (os.path.relpath(it, TOP) for it in glob.glob(f"{TOP}/crates/*/specs/**/*.antt", recursive=True))
     return [path for path in paths if any(it.startswith(begins) for it in spelled(path))]
 
 
 def said_by_scripts():
-    """The lines that a script answers to the sessions of the tests."""
+    """Yields the lines that a script answers to the sessions of the tests."""
     for one in inputs.sessions():
         yield from answer([program("mud_serve"), "script", *one.words], one.text)[1].decode("latin-1").split("\r\n")
 
 
 def said_by_server():
-    """The lines that a page from elsewhere reads of a server, and those that two players do: the first player up to the
-    end, at which the server stops.
-    """
+    """Yields the lines that a server says to a page from elsewhere and to two players, up to its end."""
     with WebServer(console=True) as server:
         yield from server.ask(upgrade(ELSEWHERE)).decode("latin-1").split("\r\n")
         first, second = Client(server.port), Client(server.port)
         for client, lines in ((first, FIRST), (second, SECOND)):
             client.send_all(lines)
             yield from [client.line().decode() for _ in ["the greeting", *lines]]
+        yield from [first.line().decode() for _ in SECOND]
         server.type(b"stop\n")
         yield from (line.decode() for line in iter(first.line, None))
 
 
 def texts_in(line):
-    """What may be a row's text of a line: all of it, what stands behind the version, and each thing that was dug."""
+    """Returns what a row may match in a line: the line, its text without the version, and each item that was dug."""
     text = VERSION.sub("", line, count=1)
     return {line, text, *text.removeprefix("dug ").split(", ")}
 
 
 def count_defined(count, name, paths, texts):
-    """Counts whether definitions spell out the texts of a row; of a row without a file, that none does yet."""
+    """Tests that the files of a row define its texts, or for a row without files that no file defines them yet."""
     if not paths:
         count(f"{name}: defined", not definers(texts), f"the table lacks the file: {definers(texts)}")
         return
@@ -118,7 +117,7 @@ def count_defined(count, name, paths, texts):
 
 
 def count_form(count, paths, texts, said):
-    """Counts whether all refusals have the form of one, and no other reply has it."""
+    """Tests that all refusals have the form of the row, and no other reply has it."""
     refusals = {it for path in paths for it in REFUSAL.findall(read(f"crates/{path}"))}
     forms = [lines_of(text) for text in texts]
     others = {it for it in refusals if not any(form.fullmatch(it) for form in forms)}
@@ -129,7 +128,7 @@ def count_form(count, paths, texts, said):
 
 
 def maker():
-    """The module that puts the page together."""
+    """Returns the module page/make_page.py."""
     spec = importlib.util.spec_from_file_location("make_page", f"{TOP}/page/make_page.py")
     module = importlib.util.module_from_spec(spec)
     spec.loader.exec_module(module)
@@ -137,14 +136,14 @@ def maker():
 
 
 def literals(tokens, script):
-    """The texts and the patterns that a script of the page has, without the signs that escape others."""
+    """Returns the string and pattern literals of a script, without backslashes."""
     found = (it.group() for it in tokens.finditer(script) if it.lastgroup in ("text", "pattern"))
     return [it.replace("\\", "") for it in found]
 
 
 def count_once(count, table):
-    """Counts for each script of the page whether it leaves the texts to the table. The checker has its own: the parts
-    `checkers` and `page` hold it to them.
+    """Tests that no script of the page has a text of the table itself. The checker has its own, which the parts
+    `checkers` and `page` test.
     """
     begins = {fixed_parts(text)[0] for _, _, texts in table for text in texts}
     begins = {it for it in begins if len(it) >= SHORTEST and not it.strip().isalpha()}

@@ -1,5 +1,5 @@
-"""What a player does with the page in a browser besides typing: he moves the map, reads the log, goes a way by clicks
-and through the page by keys.
+"""What a player does with the page in a browser besides typing: moves the map, reads the log, walks a route by clicks,
+and goes through the page by keys.
 """
 import glob
 import json
@@ -8,21 +8,21 @@ import re
 from harness.inputs import read
 from harness.shown import EXITS, IN_WINDOW, LOG, by_id, click, text_of, type_line
 
-# Where the picture of the map begins in the window, and how large it is; and the middle of a room's box there.
+# The position and the size of the map's picture in the window, and the middle of a room's box in it.
 PANE = f"(({{ x, y, width, height }}) => [x, y, width, height])({by_id('picture')}.getBoundingClientRect())"
 BOX = "(({ middle }) => middle)(map.picture.boxes.find((box) => box.room === %d))"
 IS_WHOLE = """(({ boxes, count, view }) => boxes.length === count && boxes.every(({ x, y, wide, tall }) =>
   x >= 0 && y >= 0 && x + wide <= view.wide && y + tall <= view.tall))(map.picture)"""
 AT_END = "(({ scrollTop, clientHeight, scrollHeight }) => scrollTop + clientHeight >= scrollHeight - 24)(log.parts.log)"
-# How entries of each kind look, but for their colour.
+# How entries of each kind look, apart from their colour.
 LOOKS = """['mine', 'reply', 'notice', 'page'].map((kind) => {
   const { fontFamily, fontSize, fontStyle, fontWeight } = getComputedStyle(document.querySelector(`#entries .${kind}`));
   return [fontFamily, fontSize, fontStyle, fontWeight].join();
 })"""
-# The time that stands beside a line, if one does.
+# The time beside a line, or an empty text.
 TIME = """((entry) => getComputedStyle(entry, '::before').content === 'none' ? '' : entry.dataset.time)(
   document.querySelector('#entries .mine'))"""
-# What has the focus; and whether it stands behind what had it before.
+# The node with the focus, and whether it follows the one that had the focus before.
 FOCUS = "document.activeElement.id || document.activeElement.textContent.slice(0, 20)"
 IS_LATER = """(() => {
   const { activeElement: now } = document, was = window.hadFocus;
@@ -33,12 +33,12 @@ MOST_CONTROLS = 60
 
 
 def rest(browser, seconds=0.3):
-    """Lets the page draw."""
+    """Waits until the page has drawn."""
     browser.waits_for("false", seconds)
 
 
 def count_map(count, browser):
-    """Counts whether the map can be dragged, made larger and smaller, seen whole, and asked for a way."""
+    """Tests that the map can be dragged and scaled, shows all rooms, and asks for a route by a click."""
     name = browser.name
     browser.value(by_id("words") + ".open = false")
     browser.value("map.home()")
@@ -69,7 +69,7 @@ def count_map(count, browser):
 
 
 def count_way(count, browser):
-    """Counts what stands beside a way: how many changes came since, and when it goes."""
+    """Tests the route bar: it counts the changes since the answer, and goes when the player leaves the end."""
     name = browser.name
     type_line(browser, "route to The Library")
     shown = browser.waits_for(f"{text_of('told')}.startsWith('To The Library') && {by_id('again')}.hidden", 10)
@@ -90,9 +90,10 @@ def count_way(count, browser):
 
 
 def count_switches(count, browser):
-    """Counts whether the page looks by itself only where that is switched on."""
+    """Tests that the page looks by itself only if that is switched on."""
     for is_on, line in ((False, "north"), (True, "south")):
         browser.value(f"{by_id('looks')}.checked = {json.dumps(is_on)}")
+        browser.waits_for("talk.asked.length === 0", 10)
         before = len(browser.value(LOG))
         type_line(browser, line)
         browser.waits_for(f"{LOG}.slice({before}).includes('went by')", 10)
@@ -104,7 +105,7 @@ def count_switches(count, browser):
 
 
 def count_help(count, browser):
-    """Counts whether a button shows what can be typed, and Escape closes that."""
+    """Tests that a button opens the help, and Escape closes it."""
     click(browser, "ask")
     rows = browser.value("help.open && help.querySelectorAll('#commands tr').length")
     browser.press("Escape", 27)
@@ -113,8 +114,9 @@ def count_help(count, browser):
 
 
 def count_log(count, browser, folder):
-    """Counts what the log does: its end, times, kinds, the title, and its file."""
+    """Tests the log: its end, times, kinds of lines, the title, and the saved file."""
     name = browser.name
+    browser.waits_for("talk.asked.length === 0", 10)
     browser.value("Array.from({ length: 100 }, (_, at) => heard(`(${at}) Bob counts ${at}.\\r\\n`))")
     rest(browser)
     for what, is_button in (("a button", True), ("one's own line", False)):
@@ -144,10 +146,13 @@ def count_log(count, browser, folder):
 
 
 def count_volume(count, browser, folder):
-    """Counts what the page makes of the line of a new volume: it offers the proofs of the one that has ended, and names
-    the new one in what it saves. No server says the line, so the page is handed it.
+    """Tests the line of a new volume: the page offers the proofs of the one that has ended, and names the new one in
+    the record. No server says the line yet, so the test hands it to the page.
     """
-    name, proofs = browser.name, browser.value("talk.proofs.length")
+    name = browser.name
+    type_line(browser, "proof route to #3")
+    browser.waits_for("talk.proofs.length > 0 && talk.asked.length === 0", 10)
+    proofs = browser.value("talk.proofs.length")
     browser.value("heard('(volume 2)\\r\\n')")
     rest(browser)
     told = browser.value(f"{LOG}.includes('volume 1 has ended, proofs of it: {proofs}')")
@@ -163,7 +168,7 @@ def count_volume(count, browser, folder):
 
 
 def count_behind(count, browser):
-    """Counts whether the title tells what came while the tab was behind."""
+    """Tests that the title counts the lines that came while the tab was hidden."""
     browser.value("Object.defineProperty(document, 'hidden', { configurable: true, get: () => true })")
     browser.value("heard('(101) Bob waves.\\r\\n(102) Bob leaves.\\r\\n')")
     behind = browser.value("document.title")
@@ -174,7 +179,7 @@ def count_behind(count, browser):
 
 
 def count_keys(count, browser):
-    """Counts whether Tab goes through the page in its order, from its head to the line."""
+    """Tests that Tab goes through the page in its order, from its head to the input line."""
     browser.value("(line.set(''), window.hadFocus = undefined)")
     browser.value(by_id("ask") + ".focus()")
     seen, is_ordered = [], True

@@ -67,7 +67,7 @@ test("Tab completes commands, exits, things, players and rooms that were told", 
   assert.deepEqual(found("route to old l"), ["route to Old Library"]);
   assert.deepEqual(found("meet Ann, bob"), ["meet Ann, Bobby"]);
   assert.deepEqual(found("go th"), ["go the gate"]);
-  assert.deepEqual([found("zzz"), found("")], [[], []]);
+  assert.deepEqual([found("zzz"), found(""), found("take x\u2028")], [[], [], []]);
 });
 
 test("the arrow keys go through the lines that begin as what was typed", () => {

@@ -117,8 +117,7 @@ def flood(client):
 @part("console", "a line `stop` at the console of a server, or its end, ends it in order")
 def console(count):
     for what, *typed in TYPED:
-        why = why_going_on(*typed)
-        count(f"console: {what}", not why, why)
+        count.tries(f"console: {what}", why_going_on, *typed)
     rows = [
         ("nobody ever comes", why_unmoved),
         ("a journal and a total", why_unkept),
@@ -126,5 +125,4 @@ def console(count):
         ("a client reads nothing", why_held),
     ]
     for what, why_wrong in rows:
-        why = why_wrong()
-        count(f"console: {what}", not why, why)
+        count.tries(f"console: {what}", why_wrong)

@@ -14,6 +14,7 @@ from harness.parts import part
 from harness.programs import program
 from harness.proofs import refused
 from harness.server import Client, Server
+from harness.shrinking import tell_small
 from harness.visit import SERVER_FULL, Visit
 from harness.web import WebServer
 
@@ -131,6 +132,8 @@ def judge_crowd(count, sessions, history):
           f"checked, {len(faults)} faults", flush=True)
     count("crowd: what all sessions read", not faults, "; ".join(faults[:SHOWN_FAULTS]))
     count("crowd: the proofs that they read", not wrong, wrong[:SHOWN_FAULTS])
+    if faults:
+        tell_small(sessions, history)
 
 
 def count_crowd(count, clients, seconds, pace, words=(), is_on_web=False):

@@ -157,5 +157,4 @@ def why_wrong(row):
 @part("dear-steps", "the dearest steps that were found in the largest worlds take little time", wants_proof=True)
 def dear_steps(count):
     for row in ROWS:
-        why = why_wrong(row)
-        count(f"dear steps: {row.what}", not why, why)
+        count.tries(f"dear steps: {row.what}", why_wrong, row)

@@ -397,25 +397,25 @@ def why_nearly_full():
 
 @part("guests", "guests who would hold up a server hold nobody, and the log names what ended each")
 def guests(count):
-    def show(what, why):
-        count(f"guests: {what}", not why, why)
+    def show(what, why_not, *given):
+        count.tries(f"guests: {what}", why_not, *given)
 
-    show("more come than there are descriptors", why_descriptors())
+    show("more come than there are descriptors", why_descriptors)
     for number in PASSING:
-        show(f"calls for a connection fail by {errno.errorcode[number]}", why_accept(number, 5))
+        show(f"calls for a connection fail by {errno.errorcode[number]}", why_accept, number, 5)
     for number in LASTING:
-        show(f"no call gives a connection any more, by {errno.errorcode[number]}", why_no_more(number))
-    show("all places are taken", why_full())
-    show("one address has as many sessions as it may", why_per_address())
-    show("one does not say who he is", why_unnamed())
+        show(f"no call gives a connection any more, by {errno.errorcode[number]}", why_no_more, number)
+    show("all places are taken", why_full)
+    show("one address has as many sessions as it may", why_per_address)
+    show("one does not say who he is", why_unnamed)
     rows = [("nothing", b""), ("requests", NOP), ("a line without an end", b"x"), ("parts of requests", b"\xff\xfaxx")]
     for what, sent in rows:
-        show(f"with --idle one sends {what}", why_idle(sent))
-    show("the system asks whether a peer is there", why_unprobed())
-    show("one comes behind the total", why_total())
-    show("those who leave unnamed don't count", why_counted())
-    show("one reads nothing while much is said", why_behind())
-    show("a long text is sent at a stop", why_stop_within())
-    show("nobody reads the log", why_log())
-    show("the log names what ended a session", why_partings())
-    show("one fills the history", why_nearly_full())
+        show(f"with --idle one sends {what}", why_idle, sent)
+    show("the system asks whether a peer is there", why_unprobed)
+    show("one comes behind the total", why_total)
+    show("those who leave unnamed don't count", why_counted)
+    show("one reads nothing while much is said", why_behind)
+    show("a long text is sent at a stop", why_stop_within)
+    show("nobody reads the log", why_log)
+    show("the log names what ended a session", why_partings)
+    show("one fills the history", why_nearly_full)

@@ -119,5 +119,4 @@ def huge_inputs(count):
     script = ["mud_serve", "script"]
     trials += [(f"{what} in constant memory", script, *texts, SECONDS, SCRIPT_MEMORY) for what, *texts in CONSTANT]
     for what, command, *rest in trials:
-        why = why_wrong(command, *rest)
-        count(f"huge inputs: {what}: {' '.join(command)}", not why, why)
+        count.tries(f"huge inputs: {what}: {' '.join(command)}", why_wrong, command, *rest)

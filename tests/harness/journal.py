@@ -290,39 +290,39 @@ def why_no_port():
 
 @part("journal", "a server goes on from its journal, or says why not and leaves the file as it is")
 def journal(count):
-    def show(what, why):
-        count(f"journal: {what}", not why, why)
+    def show(what, why_not, *given, **how):
+        count.tries(f"journal: {what}", why_not, *given, **how)
 
     for what, text, words, right in REFUSED:
-        show(f"{what} is refused", why_taken(text, words, right))
-    show("a file in no folder is refused", why_no_file("/no-such-folder/journal", b"file: no such folder"))
+        show(f"{what} is refused", why_taken, text, words, right)
+    show("a file in no folder is refused", why_no_file, "/no-such-folder/journal", b"file: no such folder")
     for what, make in (("folder", os.mkdir), ("pipe", os.mkfifo), ("socket", bound)):
-        show(f"a {what} is refused", why_taken_special(make))
-    show("a device is refused", why_no_file("/dev/zero", b"not a plain file"))
-    show("a file larger than any journal is refused", why_large())
-    show("a file that may not be written is refused", why_no_right(0o444))
-    show("a file in a folder that may not be written is refused", why_no_right(0o666))
-    show("no room at the start", why_no_room())
-    show("the rights of a journal", why_open_to_all())
-    show("a symbolic link", why_unlinked())
-    show("what a crash at a start left", why_left_over())
-    show("another server has the port", why_no_port())
-    show("an empty file is a new journal", why_lost(b"", FIRST))
-    show("no file is a new journal", why_lost(None, FIRST))
+        show(f"a {what} is refused", why_taken_special, make)
+    show("a device is refused", why_no_file, "/dev/zero", b"not a plain file")
+    show("a file larger than any journal is refused", why_large)
+    show("a file that may not be written is refused", why_no_right, 0o444)
+    show("a file in a folder that may not be written is refused", why_no_right, 0o666)
+    show("no room at the start", why_no_room)
+    show("the rights of a journal", why_open_to_all)
+    show("a symbolic link", why_unlinked)
+    show("what a crash at a start left", why_left_over)
+    show("another server has the port", why_no_port)
+    show("an empty file is a new journal", why_lost, b"", FIRST)
+    show("no file is a new journal", why_lost, None, FIRST)
     for length in (1, len(FIRST), 5000):
-        show(f"{length} zeros are a new journal", why_lost(bytes(length), FIRST, torn=length))
-    show("a first line that is old bytes is torn", why_lost(b"old bytes", FIRST, torn=9))
+        show(f"{length} zeros are a new journal", why_lost, bytes(length), FIRST, torn=length)
+    show("a first line that is old bytes is torn", why_lost, b"old bytes", FIRST, torn=9)
     for torn in (bytes(3), b"3 1 say \0\0 hi\n4 1 say #2 a\n", LAST_LINE[:-2] + bytes(700)):
-        show(f"a hole in {len(torn)} bytes", why_lost(ANN + torn, ANN, torn=len(torn)))
+        show(f"a hole in {len(torn)} bytes", why_lost, ANN + torn, ANN, torn=len(torn))
     before = ANN.removesuffix(LAST_LINE)
     for length in range(1, len(FIRST)):
-        show(f"a first line cut after {length} bytes", why_lost(FIRST[:length], FIRST, torn=length))
+        show(f"a first line cut after {length} bytes", why_lost, FIRST[:length], FIRST, torn=length)
     for length in range(len(LAST_LINE)):
-        show(f"a last line cut after {length} bytes", why_lost(before + LAST_LINE[:length], before, torn=length))
-    show("a whole journal", why_lost(ANN, ANN))
+        show(f"a last line cut after {length} bytes", why_lost, before + LAST_LINE[:length], before, torn=length)
+    show("a whole journal", why_lost, ANN, ANN)
     with Place() as place:
-        show("a history is loaded into a new journal", why_lost(None, ANN, ["--load", place.whole]))
-    show("a killed server's world goes on", why_broken())
-    show("two servers share no journal", why_shared())
-    show("the printed history is the journal's", why_unprinted())
-    show("as many changes as a history holds", why_slow())
+        show("a history is loaded into a new journal", why_lost, None, ANN, ["--load", place.whole])
+    show("a killed server's world goes on", why_broken)
+    show("two servers share no journal", why_shared)
+    show("the printed history is the journal's", why_unprinted)
+    show("as many changes as a history holds", why_slow)

@@ -219,5 +219,4 @@ def journal_faults(count):
         ("a client is on the web", why_untold_on_the_web),
         ("a sync fails, another server goes on, and the power fails", why_forgotten),
     ]:
-        why = why_bad()
-        count(f"journal faults: {what}", not why, why)
+        count.tries(f"journal faults: {what}", why_bad)

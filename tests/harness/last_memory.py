@@ -61,5 +61,4 @@ def why_wrong(room):
 @part("last-memory", "a server that ends needs no more than half a megabyte beyond what it has")
 def last_memory(count):
     for room in STATUSES:
-        why = why_wrong(room)
-        count(f"last memory: {room} bytes", not why, why)
+        count.tries(f"last memory: {room} bytes", why_wrong, room)

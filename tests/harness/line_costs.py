@@ -106,5 +106,4 @@ def line_costs(count):
     if needs_valgrind():
         raise Skipped("valgrind is not there")
     for line, bound, right in BOUNDS:
-        why = why_dear(line, bound, right)
-        count(f"line costs: {line.what}", not why, why)
+        count.tries(f"line costs: {line.what}", why_dear, line, bound, right)

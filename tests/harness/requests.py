@@ -150,5 +150,4 @@ def requests(count):
         ("counted for nothing", why_counted),
         ("what is none", why_refused),
     ]:
-        why = tried()
-        count(f"requests: {name}", not why, why)
+        count.tries(f"requests: {name}", tried)

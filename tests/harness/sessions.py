@@ -1,4 +1,5 @@
 """Sessions: the lines of a player, and all that a script answers. The checker accepts each proof among the answers."""
+import difflib
 import os
 import re
 import subprocess
@@ -19,14 +20,18 @@ def answer(command, text):
     return done.returncode, done.stdout
 
 
+def shown_lines(text):
+    """The lines of bytes, each with what can't be seen spelled out. A last line without an end says so."""
+    *lines, last = (repr(line)[2:-1] for line in text.split(b"\n"))
+    return lines + [f"{last} (no line end)"] * bool(last)
+
+
 def difference(printed, wanted):
-    """The first line in which a text differs from the wanted one; nothing where they are the same."""
+    """How a text differs from the wanted one, as `diff -u` shows it; nothing where they are the same."""
     if printed == wanted:
         return ""
-    lines, others = printed.split(b"\n"), wanted.split(b"\n")
-    same = len(os.path.commonprefix([lines, others]))
-    line, other = ([*some, None][same] for some in (lines, others))
-    return f"line {same + 1} is {line}, and not {other}"
+    lines = difflib.unified_diff(shown_lines(wanted), shown_lines(printed), "wanted", "printed", n=2, lineterm="")
+    return "\n".join(["it differs", *lines])
 
 
 def misanswered(command, one):
@@ -37,10 +42,11 @@ def misanswered(command, one):
 
 def count_each(count, why_not, tests):
     """Counts tests, each a name and what is tried; one passes where `why_not` gives no reason. Several run at once."""
-    names, tried = zip(*tests)
+    wanted = [(name, tried) for name, tried in tests if count.wants(name)]
     with ThreadPoolExecutor(os.cpu_count()) as threads:
-        for name, why in zip(names, threads.map(why_not, tried)):
-            count(name, not why, why)
+        running = [(name, threads.submit(why_not, tried)) for name, tried in wanted]
+        for name, one in running:
+            count.tries(name, one.result)
 
 
 def named(found):

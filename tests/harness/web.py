@@ -173,11 +173,9 @@ def why_not_ended(server, pieces, code):
 def web_frames(count):
     with WebServer() as server:
         for name, pieces, lines, others in GOES_ON:
-            why = why_not_on(server, pieces, lines, others)
-            count(name, not why, why)
+            count.tries(name, why_not_on, server, pieces, lines, others)
         for name, pieces, code in ENDS:
-            why = why_not_ended(server, pieces, code)
-            count(name, not why, why)
+            count.tries(name, why_not_ended, server, pieces, code)
         late = server.dial(first=frame(TEXT, b"quit"))
         given = [plain(line) for line in late.rest()], late.closed
         count("a first frame with the head, and quit", given == ([GREETING, b"bye"], 1000), f"{given}")
@@ -483,11 +481,11 @@ def why_not_behind_a_proxy():
 
 @part("web-sessions", "players on the web and by Telnet in one hall, quit, a stop, a full server")
 def web_sessions(count):
-    for name, why in [
-        ("together", why_not_together()),
-        ("the server stops", why_not_stopped()),
-        ("the server is full", why_not_full()),
-        ("one message for each answer", why_not_one_message_each()),
-        ("behind a proxy", why_not_behind_a_proxy()),
+    for name, why_not in [
+        ("together", why_not_together),
+        ("the server stops", why_not_stopped),
+        ("the server is full", why_not_full),
+        ("one message for each answer", why_not_one_message_each),
+        ("behind a proxy", why_not_behind_a_proxy),
     ]:
-        count(name, not why, why)
+        count.tries(name, why_not)

@@ -321,8 +321,7 @@ def why_many_at_once():
 def web_guests(count):
     rows = [("nothing", b""), ("pings", frame(PING, b"x")), ("binary messages", frame(BINARY, b"x\n"))]
     for what, sent in rows:
-        why = why_idle(what, sent)
-        count(f"web guests: with --idle one sends {what}", not why, why)
+        count.tries(f"web guests: with --idle one sends {what}", why_idle, what, sent)
     for name, tried in [
         ("one does not say who he is", why_unnamed),
         ("one address has as many sessions as it may", why_per_address),
@@ -339,5 +338,4 @@ def web_guests(count):
         ("all talk at a stop", why_talk_at_stop),
         ("sixty-four play at once", why_many_at_once),
     ]:
-        why = tried()
-        count(f"web guests: {name}", not why, why)
+        count.tries(f"web guests: {name}", tried)

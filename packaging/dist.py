@@ -1,0 +1,303 @@
+"""Makes what hosts install, in dist/: a tarball, a package for Debian, a Containerfile that takes that package,
+PROVED.json, which says what was proved of the programs, and SHA256SUMS. `./run --dist` hands it the programs. The same
+commit gives the same bytes.
+
+It needs git, and strip and readelf of binutils; dpkg-deb for the package.
+"""
+import gzip
+import hashlib
+import json
+import os
+import re
+import shutil
+import subprocess
+import sys
+import tarfile
+import tempfile
+from dataclasses import dataclass
+from datetime import datetime, timezone
+from email.utils import format_datetime
+
+import completions
+import manual
+from command_lines import read_program
+from templates import filled
+
+HERE = os.path.dirname(os.path.realpath(__file__))
+TOP = os.path.dirname(HERE)
+NEEDED = ("git", "strip", "readelf", "dpkg-deb")
+SUMMARY = "text world for many players, with a guide whose answers can be checked"
+# The address is nobody's: there is none that could be written to.
+MAINTAINER = "The Seamountcup maintainers <maintainers@seamountcup.invalid>"
+NUMBER = re.compile(r"^## (\d+\.\d+\.\d+)", re.MULTILINE)
+LIBC = re.compile(r"GLIBC_(\d+)\.(\d+)")
+# What is read by people, as it stands in the repository.
+READ = ["README.md", "CHANGELOG.md", "LICENSE", "docs", "examples"]
+EXECUTABLE, PLAIN = 0o755, 0o644
+
+
+def fail(why):
+    sys.exit(f"run: {why}")
+
+
+def git(*words):
+    """What git says to these words, without the last line end."""
+    return subprocess.run(["git", "-C", TOP, *words], capture_output=True, text=True, check=True).stdout.rstrip("\n")
+
+
+@dataclass
+class Release:
+    """What is released: its number, whether its programs are proved, its commit and the time of that, and the kit."""
+
+    number: str
+    is_proved: bool
+    commit: str
+    seconds: int
+    kit: str
+
+    def version(self):
+        """The version in the names of files: it says so where nothing is proved."""
+        return self.number if self.is_proved else f"{self.number}-unproved"
+
+    def debian_version(self):
+        """The version of the package; that of a proved one is the greater of two with one number."""
+        return self.number if self.is_proved else f"{self.number}~unproved"
+
+    def time(self):
+        """The time of the commit."""
+        return datetime.fromtimestamp(self.seconds, timezone.utc)
+
+    def says(self, name):
+        """What the program of this name answers to `--version`."""
+        return f"{name} {self.number}, {f'proved with {self.kit}' if self.is_proved else 'unproved'}\n"
+
+
+def release_of(is_proved, kit):
+    """The release of what is checked out, all of which has to be committed."""
+    if changed := git("status", "--porcelain"):
+        fail(f"a release is made of a commit, and these are not committed:\n{changed}")
+    with open(f"{TOP}/CHANGELOG.md", encoding="utf-8") as file:
+        number = NUMBER.search(file.read())[1]
+    return Release(number, is_proved, git("rev-parse", "HEAD"), int(git("show", "-s", "--format=%ct")), kit)
+
+
+# ---- files
+
+
+def write(path, text, mode=PLAIN):
+    """Writes a file, and the folders above it."""
+    os.makedirs(os.path.dirname(path), exist_ok=True)
+    with open(path, "wb") as file:
+        file.write(text if isinstance(text, bytes) else text.encode())
+    os.chmod(path, mode)
+
+
+def read(path):
+    with open(path, "rb") as file:
+        return file.read()
+
+
+def template(name, **values):
+    """A text of this folder, its placeholders filled."""
+    return filled(read(f"{HERE}/{name}").decode(), **values)
+
+
+def sum_of(path):
+    return hashlib.sha256(read(path)).hexdigest()
+
+
+def files_below(folder):
+    """The paths of all files below a folder, from there, sorted."""
+    walk = ((os.path.relpath(above, folder), names) for above, _, names in os.walk(folder))
+    return sorted(os.path.normpath(f"{above}/{name}") for above, names in walk for name in names)
+
+
+# ---- what both hold
+
+
+def put_programs(paths, folder):
+    """Puts the programs without what only a debugger reads. Those that are one file stay one, with several names."""
+    os.makedirs(folder)
+    first = {}
+    for name, path in sorted(paths.items()):
+        if (same := first.setdefault(sum_of(path), name)) != name:
+            os.link(f"{folder}/{same}", f"{folder}/{name}")
+            continue
+        subprocess.run(["strip", "--strip-all", "-o", f"{folder}/{name}", path], check=True)
+        os.chmod(f"{folder}/{name}", EXECUTABLE)
+
+
+def check_versions(release, folder, names):
+    """Whether each program says what it is: nothing unproved goes out as proved, and nothing of another version."""
+    for name in names:
+        said = subprocess.run([f"{folder}/{name}", "--version"], capture_output=True, text=True, check=False).stdout
+        if said != release.says(name):
+            fail(f"{name} says {said!r} to --version, and not {release.says(name)!r}")
+
+
+def proved_text(release, folder, crates):
+    """What was proved, as PROVED.json has it: by the name of each crate the tree that git has of its sources."""
+    trees = {name: git("rev-parse", f"HEAD:crates/{name}") for name in sorted(crates)} if release.is_proved else {}
+    programs = {name: sum_of(f"{folder}/{name}") for name in sorted(os.listdir(folder))}
+    told = {"version": release.version(), "commit": release.commit, "kit": release.kit}
+    told |= {"proved": release.is_proved, "proved crates, by the tree of git": trees, "programs, by SHA-256": programs}
+    return json.dumps(told, indent=2) + "\n"
+
+
+def put_read(folder, licenses):
+    """Puts what people read, and the licences of the kit's crates that are in the programs."""
+    for name in READ:
+        if os.path.isdir(f"{TOP}/{name}"):
+            shutil.copytree(f"{TOP}/{name}", f"{folder}/{name}")
+        else:
+            write(f"{folder}/{name}", read(f"{TOP}/{name}"))
+    for crate, paths in licenses.items():
+        for path in paths:
+            write(f"{folder}/licenses/{crate}/{os.path.basename(path)}", read(path))
+
+
+def put_all(release, folder, prefix, programs, proved, licenses):
+    """Puts all that the tarball and the package share below a folder that is to become the prefix."""
+    shutil.copytree(programs, f"{folder}/bin", copy_function=link_or_copy)
+    for name in ("launch", "serve"):
+        write(f"{folder}/libexec/seamountcup/{name}", read(f"{HERE}/{name}"), EXECUTABLE)
+    unit = template("mud_serve.service", PREFIX=prefix)
+    write(f"{folder}/lib/systemd/system/mud_serve.service", unit)
+    lines = {name: read_program(name, f"{programs}/{name}") for name in os.listdir(programs)}
+    for name, program in lines.items():
+        write(f"{folder}/share/bash-completion/completions/{name}", completions.bash(program))
+        write(f"{folder}/share/zsh/site-functions/_{name}", completions.zsh(program))
+    for name, text in manual.pages(lines, release.time(), prefix).items():
+        write(f"{folder}/share/man/man{name[-1]}/{name}", text)
+    put_read(f"{folder}/share/doc/seamountcup", licenses)
+    write(f"{folder}/share/doc/seamountcup/PROVED.json", proved)
+
+
+def link_or_copy(source, target):
+    """Gives a file a second name on the same disk, so that files that are one stay one."""
+    os.link(source, target)
+
+
+# ---- the tarball
+
+
+def entry_of(release, info):
+    """An entry of a tarball that says nothing of who made it, where and when."""
+    info.uid = info.gid = 0
+    info.uname = info.gname = "root"
+    info.mtime = release.seconds
+    return info
+
+
+def make_tarball(release, room, name):
+    """Packs the folder of this name in a room; the file's bytes."""
+    packed = f"{room}/{name}.tar"
+    with tarfile.open(packed, "w", format=tarfile.GNU_FORMAT) as tar:
+        for path in [".", *files_below(f"{room}/{name}")]:
+            whole = os.path.normpath(f"{room}/{name}/{path}")
+            info = entry_of(release, tar.gettarinfo(whole, os.path.normpath(f"{name}/{path}")))
+            info.mode = EXECUTABLE if info.isdir() or os.access(whole, os.X_OK) and info.mode & 0o100 else PLAIN
+            with open(whole, "rb") if info.isreg() else open(os.devnull, "rb") as file:
+                tar.addfile(info, file)
+    return gzip.compress(read(packed), mtime=0)
+
+
+# ---- the package
+
+
+def least_libc(programs):
+    """The oldest C library that has all that the programs take of it."""
+    found = []
+    for name in os.listdir(programs):
+        words = ["readelf", "--version-info", "--wide", f"{programs}/{name}"]
+        said = subprocess.run(words, capture_output=True, text=True, check=True).stdout
+        found += [(int(major), int(minor)) for major, minor in LIBC.findall(said)]
+    return "{}.{}".format(*max(found))
+
+
+def put_control(release, folder, programs):
+    """Puts what dpkg reads of a package, whose other files stand in the folder already."""
+    size = sum(os.stat(f"{folder}/{path}").st_size for path in files_below(folder))
+    how = {"VERSION": release.debian_version(), "SIZE": str(-(-size // 1024)), "LIBC": least_libc(programs)}
+    sums = "".join(f"{hashlib.md5(read(f'{folder}/{path}')).hexdigest()}  {path}\n" for path in files_below(folder)
+                   if not path.startswith("etc/"))
+    write(f"{folder}/DEBIAN/control", template("debian/control", SUMMARY=SUMMARY, MAINTAINER=MAINTAINER, **how))
+    write(f"{folder}/DEBIAN/conffiles", "/etc/seamountcup/serve.toml\n")
+    write(f"{folder}/DEBIAN/md5sums", sums)
+    for name in ("postinst", "prerm", "postrm"):
+        write(f"{folder}/DEBIAN/{name}", read(f"{HERE}/debian/{name}"), EXECUTABLE)
+
+
+def as_debian(release, folder):
+    """Moves and packs what Debian has elsewhere, or in another form."""
+    zsh = f"{folder}/usr/share/zsh"
+    os.rename(f"{zsh}/site-functions", f"{zsh}/vendor-completions")
+    docs = f"{folder}/usr/share/doc/seamountcup"
+    how = {"MAINTAINER": MAINTAINER, "DATE": format_datetime(release.time())}
+    changes = template("debian/changelog", VERSION=release.debian_version(), **how)
+    write(f"{docs}/changelog.gz", gzip.compress(changes.encode(), mtime=0))
+    write(f"{docs}/copyright", template("debian/copyright", YEAR=str(release.time().year)))
+    for path in files_below(f"{folder}/usr/share/man"):
+        whole = f"{folder}/usr/share/man/{path}"
+        write(f"{whole}.gz", gzip.compress(read(whole), mtime=0))
+        os.remove(whole)
+    write(f"{folder}/etc/seamountcup/serve.toml", template("serve.toml"))
+
+
+def make_package(release, folder, programs, path):
+    """Makes the package of a folder that has `usr` already."""
+    as_debian(release, folder)
+    put_control(release, folder, programs)
+    for above, folders, files in os.walk(folder):
+        for name in [*folders, *files]:
+            whole = f"{above}/{name}"
+            os.chmod(whole, EXECUTABLE if os.path.isdir(whole) or os.stat(whole).st_mode & 0o100 else PLAIN)
+            os.utime(whole, (release.seconds, release.seconds))
+    os.chmod(folder, EXECUTABLE)
+    how = {"env": {**os.environ, "SOURCE_DATE_EPOCH": str(release.seconds)}, "stdout": subprocess.DEVNULL}
+    subprocess.run(["dpkg-deb", "--root-owner-group", "-Zxz", "--build", folder, path], check=True, **how)
+
+
+# ---- all of it
+
+
+def make_both(release, room, out, programs, proved, licenses):
+    """Makes the tarball and the package, in a room, of the programs of a folder."""
+    name = f"seamountcup-{release.version()}-linux-x86_64"
+    put_all(release, f"{room}/{name}", "/usr/local", programs, proved, licenses)
+    write(f"{room}/{name}/etc/seamountcup/serve.toml", template("serve.toml"))
+    write(f"{out}/{name}.tar.gz", make_tarball(release, room, name))
+    put_all(release, f"{room}/package/usr", "/usr", programs, proved, licenses)
+    package = f"seamountcup_{release.debian_version()}_amd64.deb"
+    make_package(release, f"{room}/package", programs, f"{out}/{package}")
+
+
+def make_files(release, out, paths, crates, licenses):
+    """Makes all files of a release, in a folder that is not there yet, of the programs at these paths. `crates` are
+    those that they are made of, `licenses` the files of the licences of the kit's crates among them, by crate."""
+    with tempfile.TemporaryDirectory(prefix="dist-") as room:
+        programs = f"{room}/programs"
+        put_programs(paths, programs)
+        check_versions(release, programs, paths)
+        proved = proved_text(release, programs, crates)
+        write(f"{out}/PROVED.json", proved)
+        make_both(release, room, out, programs, proved, licenses)
+    for name in ("Containerfile", "container.toml"):
+        write(f"{out}/{name}", template(name))
+    sums = [f"{sum_of(f'{out}/{name}')}  {name}\n" for name in sorted(os.listdir(out))]
+    write(f"{out}/SHA256SUMS", "".join(sums))
+
+
+def missing():
+    """The commands that a release wants and that are not on the path."""
+    return [name for name in NEEDED if not shutil.which(name)]
+
+
+def make(paths, crates, licenses, is_proved, kit):
+    """Makes dist/ of what is checked out; the paths of its files, from the top."""
+    if missing():
+        fail(f"a release wants {', '.join(missing())}, which is not on the path")
+    release, out = release_of(is_proved, kit), f"{TOP}/dist"
+    shutil.rmtree(out, ignore_errors=True)
+    make_files(release, out, paths, crates, licenses)
+    return [f"dist/{name}" for name in sorted(os.listdir(out))]

@@ -1,0 +1,98 @@
+"""The pages of the manual, in mdoc: packaging/manual/ has their prose, and the options are those that `--help` tells.
+
+In a page `%HEAD` stands for its head with name and synopsis, `%FORMS` for the options of each form, `%DATE` for the day
+of the release, and `%PREFIX` for the folder below which it is installed.
+"""
+import os
+import textwrap
+
+from templates import filled
+
+FOLDER = f"{os.path.dirname(os.path.realpath(__file__))}/manual"
+# What each program has, and says by itself.
+COMMON = ("--help", "--version")
+LONGEST = 80
+
+
+def escaped(text):
+    """A text as it stands in a line of roff: its dashes can be copied, and its backquotes quote."""
+    quoted = "".join(piece + ("\\(oq", "\\(cq")[at % 2] for at, piece in enumerate(text.split("`")))
+    return quoted.removesuffix("\\(oq").removesuffix("\\(cq").replace("-", "\\-")
+
+
+def lowered(text):
+    """A text whose first letter is small, as after a dash."""
+    return text[:1].lower() + text[1:]
+
+
+def flag(option):
+    """An option with its value, as mdoc has it."""
+    return f"Fl {option.long[1:]}" + (f" Ar {option.value}" if option.value else "")
+
+
+def own(form):
+    """The options of a form that are not common to all."""
+    return [option for option in form.options if option.long not in COMMON]
+
+
+def synopsis_of(form):
+    """The lines that show how a form is called."""
+    lines = [".Nm", *(f".Cm {word}" for word in form.words[1:])]
+    lines += [f".{'' if option.is_required else 'Op '}{flag(option)}" for option in own(form)]
+    return lines + [f".{'' if file.is_required else 'Op '}Ar {file.name}" for file in form.files]
+
+
+def head_of(program):
+    """The head of a program's page, its name and its synopsis."""
+    name = program.name()
+    lines = [".Dd %DATE", f".Dt {name.upper()} 1", ".Os", ".Sh NAME", f".Nm {name}"]
+    lines += [f".Nd {lowered(escaped(program.own.about))}", ".Sh SYNOPSIS"]
+    for form in program.forms or [program.own]:
+        lines += synopsis_of(form)
+    return lines + [".Nm", ".Fl -help | -version"]
+
+
+def items_of(form):
+    """What a form takes, an item each."""
+    rows = [(f".It Ar {file.name}", file.text, None) for file in form.files]
+    rows += [(f".It {flag(option)}", option.text, option.default) for option in own(form)]
+    for item, text, default in rows:
+        yield item
+        yield f"{escaped(text)}."
+        if default is not None:
+            yield f"The default is {escaped(default)}."
+
+
+def forms_of(program):
+    """What each form does and takes."""
+    lines = []
+    for form in program.forms:
+        lines += [f".Ss {escaped(form.name())}", f"{escaped(form.about)}."]
+        lines += [".Bl -tag -width Ds", *items_of(form), ".El"] if form.files or own(form) else []
+    if not program.forms:
+        lines += [".Bl -tag -width Ds", *items_of(program.own), ".El"]
+    return lines
+
+
+def cut(line):
+    """A line of text in lines that are not too long, none of which begins as a macro does. Macros stay whole."""
+    whole = {"break_long_words": False, "break_on_hyphens": False}
+    return [line] if line.startswith(".") else textwrap.wrap(line, LONGEST, **whole)
+
+
+def laid_out(text):
+    """A page whose lines are as long as they may be."""
+    return "".join(f"{line}\n" for whole in text.splitlines() for line in cut(whole))
+
+
+def pages(programs, time, prefix):
+    """The names of the pages with their texts. `time` is that of the release."""
+    values = {"DATE": f"{time:%B} {time.day}, {time.year}", "PREFIX": prefix}
+    found = {}
+    for name in sorted(os.listdir(FOLDER)):
+        with open(f"{FOLDER}/{name}", encoding="utf-8") as file:
+            text = file.read()
+        if (program := programs.get(name.partition(".")[0])) is not None:
+            text = filled(text, HEAD="\n".join(head_of(program)), FORMS="\n".join(forms_of(program)))
+        found[name] = laid_out(filled(text, **values))
+    return found

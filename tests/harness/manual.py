@@ -1,0 +1,200 @@
+"""The pages of the manual and the completions of a release, held against what the programs answer to `--help`."""
+import contextlib
+import fcntl
+import os
+import pty
+import re
+import select
+import shutil
+import struct
+import subprocess
+import tempfile
+import termios
+import time
+
+from harness.first_words import FORMS, given
+from harness.inputs import read
+from harness.packages import PAGES, PROGRAMS, unpacked
+from harness.parts import part
+
+# A row of help: an option with its value, or a file; and what is said of it.
+ROW = re.compile(r"^ +(?:-\w, )?(--[\w-]+|<\w+>|\[\w+\])(?: <(\w+)>)? {2,}(.*)$", re.M)
+# An item of a page, or a line of its synopsis, and what stands below an item.
+ITEM = re.compile(r"^\.It (?:Fl -([\w-]+)|Ar (\w+))(?: Ar (\w+))?\n((?:(?!\.It|\.El).*\n)*)", re.M)
+SYNOPSIS = re.compile(r"^\.(Op )?(?:Fl -([\w-]+)(?: Ar (\w+))?|Ar (\w+))$", re.M)
+REFERENCE = re.compile(r"referenced manual not found: Xr (\S+) (\d)")
+# An option with its value in a usage: it must be there.
+NEEDED = re.compile(r"(--[\w-]+) <(\w+)>")
+COMMON = ("--help", "--version")
+# How large a terminal is in which zsh lists everything.
+ROWS, COLUMNS = 200, 200
+SECONDS = 20
+
+
+def forms():
+    """Each program with each of its forms; a form that is empty has the options of the program itself."""
+    return [(name, form) for name, (words, _) in FORMS.items() for form in words]
+
+
+def rows_of(name, form):
+    """What help tells of a form: each option or file with its value and its text."""
+    _, text, _ = given(name, [*form.split(), "--help"])
+    return {what.strip("<>[]"): (value, text) for what, value, text in ROW.findall(text)}
+
+
+def required_of(name, form):
+    """What must be there by the usage of a form."""
+    _, text, _ = given(name, [*form.split(), "--help"])
+    usage = re.search(r"^Usage: (.*)$", text, re.M)[1].replace("<COMMAND>", "")
+    options = {option for option, _ in NEEDED.findall(usage)}
+    return options | {*re.findall(r"<(\w+)>", NEEDED.sub("", usage))}
+
+
+# ---- pages
+
+
+def plain(text):
+    """A text of a page without its escapes and line ends."""
+    for escape, letter in (("\\(oq", "`"), ("\\(cq", "`"), ("\\-", "-")):
+        text = text.replace(escape, letter)
+    return " ".join(text.split())
+
+
+def told(row):
+    """What a page says of a row of help: a sentence, and one more for its default."""
+    text, _, default = row.removesuffix("]").partition(" [default: ")
+    return f"{text}." + (f" The default is {default}." if default else "")
+
+
+def section_of(page, name, form):
+    """What a page says of a form."""
+    if form:
+        return re.search(rf"^\.Ss {name} {form}$(.*?)^(?=\.S[sh])", page, re.M | re.S)[1]
+    return page
+
+
+def count_page(count, name, form, page):
+    """The options of a form on its page: the same with the same texts, and in the synopsis those that must be there."""
+    section, rows = section_of(page, name, form), rows_of(name, form)
+    items = {f"--{flag}" if flag else file: (value, plain(text)) for flag, file, value, text in ITEM.findall(section)}
+    wanted = {what: (value, told(text)) for what, (value, text) in rows.items() if what not in COMMON}
+    count(f"manual: {name} {form}", items == wanted, f"{items} and not {wanted}")
+    shown = page.partition(".Sh SYNOPSIS\n")[2].partition("\n.Sh")[0]
+    ours = re.search(rf"^\.Nm\n\.Cm {form}$(.*?)(?=^\.Nm)", f"{shown}\n", re.M | re.S)[1] if form else shown
+    needed = {f"--{flag}" if flag else file for is_open, flag, _, file in SYNOPSIS.findall(ours) if not is_open}
+    count(f"manual: what {name} {form} needs", needed == required_of(name, form), needed)
+
+
+def complaints(path):
+    """What mandoc and man say of a page; what they miss are the other pages, which are not installed here."""
+    said = ""
+    if shutil.which("mandoc"):
+        lint = subprocess.run(["mandoc", "-Tlint", path], capture_output=True, text=True).stdout.splitlines()
+        missing = [REFERENCE.search(line) for line in lint]
+        known = [found and f"man{found[2]}/{found[1]}.{found[2]}" in PAGES for found in missing]
+        said += "".join(line for line, is_known in zip(lint, known) if not is_known)
+    if shutil.which("man"):
+        how = {"env": {**os.environ, "LC_ALL": "C.UTF-8", "MANWIDTH": "80"}, "stdin": subprocess.DEVNULL}
+        man = subprocess.run(["man", "--warnings", "--local-file", path], capture_output=True, text=True, **how)
+        said += man.stderr + ("" if man.stdout.strip() else "man shows nothing")
+    return said
+
+
+@part("manual", "the pages of the manual say of each option what `--help` says, and no formatter complains")
+def manual(count):
+    with unpacked() as (_, folder):
+        share = f"{folder}/tarball/share/man"
+        for name, form in forms():
+            if form or len(FORMS[name][0]) == 1:
+                count_page(count, name, form, read(f"{share}/man1/{name}.1").decode())
+        for page in PAGES:
+            said = complaints(f"{share}/{page}")
+            count(f"manual: {page}", not said, said)
+            count(f"manual: {page} is filled", "%" not in read(f"{share}/{page}").decode())
+
+
+# ---- completions
+
+
+def bash_offers(path, words, folder):
+    """What bash offers for the last of these words, in a folder."""
+    script = 'source "$1"; shift; COMP_WORDS=("$@"); COMP_CWORD=$(($# - 1)); "_$1"; printf "%s\\n" "${COMPREPLY[@]}"'
+    ran = subprocess.run(["bash", "-c", script, "bash", path, *words], cwd=folder, capture_output=True, text=True)
+    return {*ran.stdout.splitlines()} - {""} | {*ran.stderr.splitlines()}
+
+
+def wanted_of(name, form):
+    """The long options of a form."""
+    return {what for what in rows_of(name, form) if what.startswith("--")}
+
+
+def count_bash(count, folder, files):
+    """Completions for bash."""
+    for name, form in forms():
+        path, words = f"{folder}/{name}", [name, *form.split()]
+        given_options = bash_offers(path, [*words, "--"], files)
+        count(f"bash: options of {name} {form}", given_options == wanted_of(name, form), given_options)
+        for what, (value, _) in rows_of(name, form).items():
+            takes_file = value == "FILE" or not what.startswith("-")
+            if value or takes_file:
+                offers = bash_offers(path, [*words, *[what] * bool(value), ""], files)
+                count(f"bash: {name} {form} {what}", offers == ({"a world.journal"} if takes_file else set()), offers)
+    for name, (words, _) in FORMS.items():
+        offers = bash_offers(f"{folder}/{name}", [name, ""], files)
+        right = {word for word in words if word} | {"--help", "-h", "--version", "-V"}
+        count(f"bash: forms of {name}", offers == right if len(words) > 1 else offers == {"a world.journal"}, offers)
+
+
+class Zsh:
+    """A zsh in a terminal of its own that knows the completions of a folder, and no others."""
+
+    def __init__(self, completions, folder):
+        self.pid, self.master = pty.fork()
+        if self.pid == 0:
+            os.chdir(folder)
+            os.execvpe("zsh", ["zsh", "-f", "-i"], {"PATH": os.environ["PATH"], "TERM": "dumb", "HOME": folder})
+        fcntl.ioctl(self.master, termios.TIOCSWINSZ, struct.pack("HHHH", ROWS, COLUMNS, 0, 0))
+        self.typed(f"fpath=({completions} $fpath); autoload -Uz compinit; compinit -u -D; unsetopt beep; LISTMAX=0\n")
+
+    def typed(self, text):
+        """What comes after this was typed, up to the answer to a line behind it."""
+        os.write(self.master, f"{text}\x15echo $((40 + 2))end\n".encode())
+        seen, until = b"", time.monotonic() + SECONDS
+        while b"42end" not in seen and (left := until - time.monotonic()) > 0:
+            if select.select([self.master], [], [], left)[0]:
+                seen += os.read(self.master, 65_536)
+        return seen.decode(errors="replace").replace("\r", "")
+
+    def offers(self, line):
+        """What it shows for a line, without what is before the line."""
+        return self.typed(f"{line}\t\t")
+
+    def close(self):
+        os.close(self.master)
+        os.waitpid(self.pid, 0)
+
+
+def count_zsh(count, folder, files):
+    """Completions for zsh: what it lists has each option and each form, and no other option."""
+    with contextlib.closing(Zsh(folder, files)) as zsh:
+        for name, form in forms():
+            words = " ".join([name, *form.split()])
+            shown = zsh.offers(f"{words} --")
+            listed = {*re.findall(rf"^(?:.*{words} )?(--\w[\w-]*)", shown, re.M)}
+            count(f"zsh: options of {name} {form}", listed == wanted_of(name, form), f"{listed} {shown}")
+        for name, (words, _) in FORMS.items():
+            shown = zsh.offers(f"{name} ")
+            right = [rf"^{word}\b" for word in words if word] or [r"a\\ world\.journal"]
+            count(f"zsh: forms of {name}", all(re.search(one, shown, re.M) for one in right), shown)
+
+
+@part("completions", "bash and zsh complete the options that `--help` has, forms, and files where a file is taken")
+def complete(count):
+    with unpacked() as (_, folder), tempfile.TemporaryDirectory() as files:
+        open(f"{files}/a world.journal", "w").close()
+        share = f"{folder}/tarball/share"
+        count_bash(count, f"{share}/bash-completion/completions", files)
+        if shutil.which("zsh"):
+            count_zsh(count, f"{share}/zsh/site-functions", files)
+        names = {name.lstrip("_") for name in os.listdir(f"{share}/zsh/site-functions")}
+        count("completions: of all programs", names == {*PROGRAMS}, names)

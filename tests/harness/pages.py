@@ -1,5 +1,5 @@
-"""The pages of the repository, held against the repository: what they quote and name is there, README has room for a
-reader, no line is too long, and no row of a table stands on two pages."""
+"""The pages of the repository, compared with the repository: everything that they quote and name is there. README has
+room for a reader, no line is too long, and no row of a table is on two pages."""
 import glob
 import os
 import re
@@ -8,8 +8,8 @@ import subprocess
 from harness.parts import PARTS, part
 from harness.programs import TOP
 
-LONGEST_LINE, README_LINES = 120, 100
-# What is read by people: pages, scripts, sources and specs. Of proofs only the lines are looked at.
+LONGEST_LINE, README_LINES = 120, 110
+# The files that people read: pages, scripts, sources and specs. Of proofs only the lines are checked.
 SOURCES = ["crates/*/src/**/*.rt", "crates/*/specs/**/*.antt"]
 PROOFS = ["crates/*/proofs/**/*.antt"]
 SCRIPTS = ["run", ".ci/run", "tests/run", "tests/*/*.py", "tests/*/*.c", "bench/*", "bench/*/*"]
@@ -29,32 +29,32 @@ RULE = re.compile(r"^\|[ :|-]+$")
 STEP = re.compile(r"^\d+\. `(mud_\w+)`: .*?`([A-Za-z_]\w*(?:::\w+)*)`", re.M)
 PLACEHOLDER = re.compile(r"\b(?:NAME|CRATE|SUBJECT|DOUBT|PROGRAM)\b")
 LOGIC = re.compile(r"logic ([0-9a-f]{8,})")
-# A section of docs/FAULTS.md, and the entries of a section: what is wrong, and what is said of it, in this order. The
-# second may be said of a whole section, before its entries.
+# A section of docs/FAULTS.md, and the entries of a section: the fault, and the parts of its entry, in this order. The
+# second part may be given for a whole section, before its entries.
 SECTION, ENTRY = re.compile(r"^## (.+)\n", re.M), re.compile(r"^- \*\*(.+?)\*\*((?:.*\n)(?:  .*\n)*)", re.M)
 FOUND, WHY, NOW = "*Found by:*", "*Why no contract:*", "*Now:*"
 HYPHENED = re.compile(r"[a-z0-9]+(?:-[a-z0-9]+)+")
 
 
 def text_of(path):
-    """The text of a file, by its path below the top."""
+    """Returns the text of a file, by its path below the top."""
     with open(f"{TOP}/{path}", encoding="utf-8") as file:
         return file.read()
 
 
 def files(patterns):
-    """The files that match one of the patterns."""
+    """Returns the files that match one of the patterns."""
     found = {name for pattern in patterns for name in glob.glob(f"{TOP}/{pattern}", recursive=True)}
     return sorted(os.path.relpath(name, TOP) for name in found if os.path.isfile(name))
 
 
 def pages():
-    """README and all pages, by their paths."""
+    """Returns README and all pages, by their paths."""
     return files(PAGES)
 
 
 def rows_of(page):
-    """The rows of a page's tables, each as its cells. A head is none, nor is the rule below it."""
+    """Returns the rows of a page's tables, each as its cells, without heads and the rules below them."""
     lines = page.split("\n")
     rows = [line for line, below in zip(lines, [*lines[1:], ""]) if line.startswith("|") and not RULE.match(below)]
     return [[cell.strip() for cell in re.split(r"(?<!\\)\|", row)[1:-1]] for row in rows if not RULE.match(row)]
@@ -64,17 +64,17 @@ def rows_of(page):
 
 
 def quotes_of(page):
-    """What a page quotes: the file and the text of each block after a line that names a file."""
+    """Returns the quotes of a page: the file and the text of each block after a line that names a file."""
     return QUOTE.findall(page)
 
 
 def stands_in(quote, path):
-    """Whether the text stands in the file, as whole lines."""
+    """Returns whether the file contains the text as whole lines."""
     return os.path.isfile(f"{TOP}/{path}") and f"\n{quote}\n" in f"\n{text_of(path)}\n"
 
 
 def count_quotes(count, page):
-    """A test for each quote of a page, and one that no block of definitions lacks the name of its file."""
+    """Tests each quote of a page, and that each block of definitions has the name of its file."""
     text = text_of(page)
     count(f"{page}: quotes", "\n```antt\n" not in QUOTE.sub("", text), "a block of definitions doesn't name its file")
     for path, quote in quotes_of(text):
@@ -82,13 +82,13 @@ def count_quotes(count, page):
 
 
 def clauses_in(page):
-    """What the tables of a page say of clauses: the first cell of each row of two cells, in pieces where it is cut."""
+    """Returns the clauses in a page's tables: the first cell of each row of two cells, in pieces where it is cut."""
     cells = [cells[0] for cells in rows_of(page) if len(cells) == 2]
     return [piece for cell in cells for span in SPAN.findall(cell) for piece in span.split("..")]
 
 
 def count_clauses(count, page):
-    """A test that each clause in a page's tables stands in what the page quotes."""
+    """Tests that each clause in a page's tables is in the page's quotes."""
     quoted = "\n".join(quote for _, quote in quotes_of(text_of(page)))
     missing = [piece for piece in clauses_in(text_of(page)) if piece not in quoted]
     count(f"{page}: clauses", bool(quoted) and not missing, f"quoted nowhere: {', '.join(missing)}")
@@ -98,7 +98,7 @@ def count_clauses(count, page):
 
 
 def expanded(path):
-    """The patterns that a path with braces stands for; a placeholder stands for any name."""
+    """Returns the patterns of a path with braces; a placeholder matches any name."""
     brace = re.search(r"\{([^{}]*)\}", path)
     if not brace:
         return [PLACEHOLDER.sub("*", path)]
@@ -106,8 +106,8 @@ def expanded(path):
 
 
 def is_there(path, folder):
-    """Whether the repository has what a page of this folder names: from the top, from the page, in a crate, or by its
-    file's name only. What is built isn't looked for."""
+    """Returns whether the repository has a path that a page of this folder names: from the top, from the page, in a
+    crate, or by its file's name only. Build outputs are not checked."""
     if "/out" in path:
         return True
     if "/" not in path:
@@ -117,12 +117,12 @@ def is_there(path, folder):
 
 
 def paths_in(page):
-    """The paths that a page names, outside of the blocks that it quotes."""
+    """Returns the paths that a page names, outside of the blocks that it quotes."""
     return sorted({path.rstrip(".") for path in PATH.findall(QUOTE.sub("", page))})
 
 
 def count_paths(count, page):
-    """A test of all paths that a page names."""
+    """Tests all paths that a page names."""
     gone = [path for path in paths_in(text_of(page)) if not is_there(path, os.path.dirname(page))]
     count(f"{page}: paths", not gone, f"not there: {' '.join(gone)}")
 
@@ -131,33 +131,33 @@ def count_paths(count, page):
 
 
 def has_name(path, name):
-    """Whether a file has each word of a name."""
+    """Returns whether a file has each word of a name."""
     text = text_of(path)
     return all(re.search(rf"(?<![\w]){re.escape(word)}(?![\w])", text) for word in name.split("::"))
 
 
 def known_names():
-    """All names of the crates' sources and definitions."""
+    """Returns all names of the crates' sources and definitions."""
     return {name for path in files(SOURCES) for name in WORD.findall(text_of(path))}
 
 
 def count_names(count, page, known):
-    """A test that each name between backquotes on a page is one of the crates, or of a part of tests/run."""
+    """Tests that each name between backquotes on a page is one of the crates, or of a part of tests/run."""
     spans = [span for span in SPAN.findall(QUOTE.sub("", text_of(page))) if NAME.fullmatch(span)]
     missing = sorted({span for span in spans if span not in PARTS and not known.issuperset(WORD.findall(span))})
     count(f"{page}: names", not missing, f"nowhere in the crates: {', '.join(missing)}")
 
 
 def count_steps(count, page):
-    """A test for each step of a path through the crates: the crate that it names has what it names."""
+    """Tests each step of a path through the crates: the crate that it names has the name."""
     for crate, name in STEP.findall(text_of(page)):
         known = {word for path in files([f"crates/{crate}/src/*.rt"]) for word in WORD.findall(text_of(path))}
         count(f"{page}: {crate}: {name}", known.issuperset(WORD.findall(name)), "this crate has no such name")
 
 
 def carriers(cell, crate):
-    """The files of a cell, each with the names after it: `src/a.rt` `one`, `two`; `src/b.rt` `three`. Names before
-    the first file are those of parts of tests/run."""
+    """Returns the files of a cell, each with the names after it: `src/a.rt` `one`, `two`; `src/b.rt` `three`. Names
+    before the first file are those of parts of tests/run."""
     found = [("", [])]
     for span in SPAN.findall(cell):
         if "/" not in span:
@@ -168,7 +168,7 @@ def carriers(cell, crate):
 
 
 def missing_of(path, names):
-    """Which of the names the file hasn't, or the file itself, where it isn't there."""
+    """Returns the names that the file does not have, or the file itself if it is missing."""
     if not path:
         return [name for name in names if name not in PARTS]
     if not os.path.exists(f"{TOP}/{path}"):
@@ -177,13 +177,13 @@ def missing_of(path, names):
 
 
 def faults_of(cell, crate=""):
-    """What a cell names that isn't there."""
+    """Returns the names in a cell that are missing."""
     return [fault for path, names in carriers(cell, crate) for fault in missing_of(path, names)]
 
 
 def count_promises(count, page):
-    """A test for each row of five cells, which tells what carries a promise: one of the last three. A row without a
-    crate is of the one above."""
+    """Tests each row of five cells, which says what carries a promise: one of the last three. A row without a crate is
+    of the one above."""
     crate = ""
     for cells in (cells for cells in rows_of(text_of(page)) if len(cells) == 5):
         crate = (SPAN.findall(cells[0]) or [crate])[0]
@@ -194,14 +194,14 @@ def count_promises(count, page):
 
 
 def count_together(count, page):
-    """A test for each row of two cells, which names what shows something of several programs."""
+    """Tests each row of two cells, which names what shows something about several programs."""
     for shown, where in (cells for cells in rows_of(text_of(page)) if len(cells) == 2):
         faults = faults_of(where)
         count(f"{page}: {shown}", not faults, f"not there: {', '.join(faults)}")
 
 
 def faults_of_edit(kind, crate, name):
-    """What is wrong where a wrong body is said to be tried in the gate, or on demand."""
+    """Returns what is wrong if a wrong body is said to be tried in the gate, or on demand."""
     by_kit, by_function = f"crates/{crate}/must-fail/{name}.edit", f"tests/wrong-bodies/{crate}/{name}.edit"
     if kind == "gate" and os.path.exists(f"{TOP}/{by_kit}"):
         return []
@@ -211,7 +211,7 @@ def faults_of_edit(kind, crate, name):
 
 
 def count_wrong_bodies(count, page):
-    """A test for each row of three cells, which names what refuses a mistake."""
+    """Tests each row of three cells, which names what refuses a mistake."""
     for mistake, kind, where in (cells for cells in rows_of(text_of(page)) if len(cells) == 3):
         is_edit = kind in ("gate", "on demand")
         faults = faults_of_edit(kind, *SPAN.findall(where)) if is_edit else faults_of(where)
@@ -222,9 +222,8 @@ def count_wrong_bodies(count, page):
 
 
 def is_known(span, known):
-    """Whether what a page names between backquotes is there: a part of tests/run, a wrong body, a name of the crates.
-    What is none of these by its form is not looked for.
-    """
+    """Returns whether a name between backquotes exists: a part of tests/run, a wrong body, or a name of the crates.
+    Anything else by its form is not checked."""
     if HYPHENED.fullmatch(span):
         edits = (f"{TOP}/{folder}/{span}.edit" for folder in ("crates/*/must-fail", "tests/wrong-bodies/*"))
         return span in PARTS or any(map(glob.glob, edits))
@@ -232,7 +231,7 @@ def is_known(span, known):
 
 
 def faults_of_entry(text, section, known):
-    """What an entry of a section lacks, or names as a remedy though it isn't there."""
+    """Returns the parts that an entry of a section lacks, or the missing names of its remedy."""
     is_said_of_all = WHY in section.partition("\n- ")[0]
     places = [text.find(word) for word in (FOUND, *[WHY] * (not is_said_of_all), NOW)]
     missing = [span for span in SPAN.findall(text.partition(NOW)[2]) if not is_known(span, known)]
@@ -240,7 +239,7 @@ def faults_of_entry(text, section, known):
 
 
 def count_entries(count, page, known):
-    """A test for each entry: it has all that is said of a fault, in order, and what it names as its remedy is there."""
+    """Tests each entry: it has all parts in order, and the names of its remedy exist."""
     sections = SECTION.split(text_of(page))[2::2]
     for section, (title, text) in ((section, it) for section in sections for it in ENTRY.findall(section)):
         faults = faults_of_entry(" ".join(text.split()), section, known)
@@ -248,14 +247,14 @@ def count_entries(count, page, known):
 
 
 def count_shown(count, page, known):
-    """A test for each row of three cells, which tells what is believed: what would show it false is there."""
+    """Tests each row of three cells, which states an assumption: what would show it false exists."""
     for believed, _, shown in (cells for cells in rows_of(text_of(page)) if len(cells) == 3):
         missing = [span for span in SPAN.findall(shown) if not is_known(span, known)]
         count(f"{page}: {believed}", not missing, f"not there: {', '.join(missing)}")
 
 
 def count_sections(count, page):
-    """A test that the first table of a page of faults has each section, and how many entries that has."""
+    """Tests that the first table of a page of faults has each section, with its number of entries."""
     first, *rest = SECTION.split(text_of(page))
     counts = [[name, str(len(ENTRY.findall(text)))] for name, text in zip(rest[::2], rest[1::2])]
     count(f"{page}: counts", counts == [row for row in rows_of(first)], f"the sections have {counts}")
@@ -265,18 +264,18 @@ def count_sections(count, page):
 
 
 def may_be_long(line):
-    """Whether a line is the row of a table with the address of a page elsewhere."""
+    """Returns whether a line is the row of a table with the address of a page elsewhere."""
     return line.startswith("|") and "://" in line
 
 
 def long_lines(path):
-    """The numbers of the lines that are too long."""
+    """Returns the numbers of the lines that are too long."""
     lines = enumerate(text_of(path).split("\n"), 1)
     return [n for n, line in lines if len(line) > LONGEST_LINE and not may_be_long(line)]
 
 
 def count_lines(count):
-    """A test of README's length, and of the lines of each file that is read by people."""
+    """Tests README's length, and the lines of each file that people read."""
     lines = len(text_of("README.md").splitlines())
     count("README.md: length", lines <= README_LINES, f"{lines} lines")
     for path in files(WRITTEN):
@@ -287,7 +286,7 @@ def count_lines(count):
 
 
 def count_kit(count):
-    """A test that README and the programs name the logic of the kit that is here."""
+    """Tests that README and the programs name the logic of the present kit."""
     said = subprocess.run(["rt", "version"], capture_output=True, text=True).stdout
     here = LOGIC.findall(said)
     for path in ("README.md", "crates/mud_cli/src/build.rt"):
@@ -296,14 +295,14 @@ def count_kit(count):
 
 
 def count_readers(count):
-    """A test for each page that README's table of pages has a row for it."""
+    """Tests that README's table of pages has a row for each page."""
     rows = " ".join(cells[-1] for cells in rows_of(text_of("README.md")))
     for page in (page for page in pages() if page != "README.md"):
         count(f"{page}: a reader", page in rows, "README's table doesn't name it")
 
 
 def count_repeated(count):
-    """A test that no row of a table stands on two pages."""
+    """Tests that no row of a table is on two pages."""
     seen = {}
     for page in pages():
         for row in {" | ".join(cells) for cells in rows_of(text_of(page))}:

@@ -72,8 +72,15 @@ class Release:
         return f"{name} {self.number}, {f'proved with {self.kit}' if self.is_proved else 'unproved'}\n"
 
 
+def missing():
+    """The commands that a release wants and that are not on the path."""
+    return [name for name in NEEDED if not shutil.which(name)]
+
+
 def release_of(is_proved, kit):
     """The release of what is checked out, all of which has to be committed."""
+    if missing():
+        fail(f"a release wants {', '.join(missing())}, which is not on the path")
     if changed := git("status", "--porcelain"):
         fail(f"a release is made of a commit, and these are not committed:\n{changed}")
     with open(f"{TOP}/CHANGELOG.md", encoding="utf-8") as file:
@@ -139,9 +146,8 @@ def proved_text(release, folder, crates):
     """What was proved, as PROVED.json has it: by the name of each crate the tree that git has of its sources."""
     trees = {name: git("rev-parse", f"HEAD:crates/{name}") for name in sorted(crates)} if release.is_proved else {}
     programs = {name: sum_of(f"{folder}/{name}") for name in sorted(os.listdir(folder))}
-    told = {"version": release.version(), "commit": release.commit, "kit": release.kit}
-    told |= {"proved": release.is_proved, "proved crates, by the tree of git": trees, "programs, by SHA-256": programs}
-    return json.dumps(told, indent=2) + "\n"
+    told = {"version": release.version(), "commit": release.commit, "kit": release.kit, "proved": release.is_proved}
+    return json.dumps({**told, "git_trees_of_proved_crates": trees, "sha256_of_programs": programs}, indent=2) + "\n"
 
 
 def put_read(folder, licenses):
@@ -158,7 +164,7 @@ def put_read(folder, licenses):
 
 def put_all(release, folder, prefix, programs, proved, licenses):
     """Puts all that the tarball and the package share below a folder that is to become the prefix."""
-    shutil.copytree(programs, f"{folder}/bin", copy_function=link_or_copy)
+    shutil.copytree(programs, f"{folder}/bin", copy_function=name_again)
     for name in ("launch", "serve"):
         write(f"{folder}/libexec/seamountcup/{name}", read(f"{HERE}/{name}"), EXECUTABLE)
     unit = template("mud_serve.service", PREFIX=prefix)
@@ -173,8 +179,8 @@ def put_all(release, folder, prefix, programs, proved, licenses):
     write(f"{folder}/share/doc/seamountcup/PROVED.json", proved)
 
 
-def link_or_copy(source, target):
-    """Gives a file a second name on the same disk, so that files that are one stay one."""
+def name_again(source, target):
+    """Gives a file a second name, so that files that are one stay one."""
     os.link(source, target)
 
 
@@ -196,7 +202,7 @@ def make_tarball(release, room, name):
         for path in [".", *files_below(f"{room}/{name}")]:
             whole = os.path.normpath(f"{room}/{name}/{path}")
             info = entry_of(release, tar.gettarinfo(whole, os.path.normpath(f"{name}/{path}")))
-            info.mode = EXECUTABLE if info.isdir() or os.access(whole, os.X_OK) and info.mode & 0o100 else PLAIN
+            info.mode = EXECUTABLE if info.isdir() or info.mode & 0o100 else PLAIN
             with open(whole, "rb") if info.isreg() else open(os.devnull, "rb") as file:
                 tar.addfile(info, file)
     return gzip.compress(read(packed), mtime=0)
@@ -288,16 +294,11 @@ def make_files(release, out, paths, crates, licenses):
     write(f"{out}/SHA256SUMS", "".join(sums))
 
 
-def missing():
-    """The commands that a release wants and that are not on the path."""
-    return [name for name in NEEDED if not shutil.which(name)]
-
-
-def make(paths, crates, licenses, is_proved, kit):
+def make(release, paths, crates, licenses):
     """Makes dist/ of what is checked out; the paths of its files, from the top."""
-    if missing():
-        fail(f"a release wants {', '.join(missing())}, which is not on the path")
-    release, out = release_of(is_proved, kit), f"{TOP}/dist"
+    if release_of(release.is_proved, release.kit) != release:
+        fail("another commit was checked out meanwhile")
+    out = f"{TOP}/dist"
     shutil.rmtree(out, ignore_errors=True)
     make_files(release, out, paths, crates, licenses)
     return [f"dist/{name}" for name in sorted(os.listdir(out))]

@@ -299,6 +299,17 @@ def count_upgrade(count, made, machine, package, old):
     count_played(count, "upgrade: after", machine)
 
 
+def count_by_hand(count, machine):
+    """A server that systemd knows nothing of: the launcher is started as the journal's owner, and is told to end."""
+    by_hand = re.search(r"`(/usr/local/libexec/\S+ [^`]*)`", text_of("docs/INSTALL.md").replace("\n", " "))[1]
+    owner = "setpriv --reuid=seamountcup --regid=seamountcup --clear-groups"
+    machine.sh(f"systemctl stop mud_serve; {owner} {by_hand} >/dev/null 2>&1 & echo $! > /tmp/launcher")
+    count_played(count, "tarball: by hand", machine)
+    wait = "kill $(cat /tmp/launcher)\nwhile pidof mud_serve; do sleep 0.1; done"
+    count_told(count, "tarball: by hand", machine, wait)
+    machine.sh("systemctl start mud_serve")
+
+
 def count_tarball(count, made, machine):
     """The tarball from its installation to its removal."""
     before = machine.says("find /usr/local /etc/systemd -type f")
@@ -309,6 +320,7 @@ def count_tarball(count, made, machine):
     count("tarball: version", said == made.says("mud_serve").rstrip(), said)
     verified = machine.sh("systemd-analyze verify mud_serve.service")
     count("tarball: the unit", verified == (0, ""), verified)
+    count_by_hand(count, machine)
     world, inside = machine.says(f"cat {JOURNAL}"), "cd seamountcup-*-linux-x86_64\n"
     count_told(count, "tarball: upgrade", machine, inside + block("tarball-upgrade"))
     count_played(count, "tarball: upgraded", machine)

@@ -1,4 +1,7 @@
-"""The door on the web, played by web sockets that others wrote: the libraries `websockets` and `autobahn` of Debian."""
+"""The door on the web, played by web sockets that others wrote: the libraries `websockets` and `autobahn` of Debian.
+
+Autobahn's test suite, of some five hundred cases, is in no package of Debian 12. The tries of harness/web.py are ours.
+"""
 import contextlib
 import select
 import subprocess

@@ -20,13 +20,19 @@ SHELLS = {"dash": ["dash"], "bash": ["bash", "--posix"], "busybox": ["busybox", 
 STOP_SECONDS = 3
 
 
+def heed_interrupts():
+    """Gives SIGINT its usual effect: a job in the background ignores it, and a shell cannot trap what it ignores."""
+    signal.signal(signal.SIGINT, signal.SIG_DFL)
+
+
 class Launched(Server):
     """A server that the launcher runs, by a shell, with its pipe in a folder."""
 
     def __init__(self, shell, folder, words=(), before=()):
         self.folder = folder
         self.shell = [*before, *shell, LAUNCH]
-        super().__init__(self.written(), words, environment={"RUNTIME_DIRECTORY": folder}, start_new_session=True)
+        how = {"start_new_session": True, "preexec_fn": heed_interrupts}
+        super().__init__(self.written(), words, environment={"RUNTIME_DIRECTORY": folder}, **how)
 
     def written(self):
         """A script that runs the launcher: a `Server` is one word."""

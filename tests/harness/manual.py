@@ -28,7 +28,7 @@ NEEDED = re.compile(r"(--[\w-]+) <(\w+)>")
 COMMON = ("--help", "--version")
 # How large a terminal is in which zsh lists everything.
 ROWS, COLUMNS = 200, 200
-SECONDS = 20
+SECONDS, TRIES = 20, 20
 
 
 def forms():
@@ -165,9 +165,15 @@ class Zsh:
                 seen += os.read(self.master, 65_536)
         return seen.decode(errors="replace").replace("\r", "")
 
-    def offers(self, line):
-        """What it shows for a line, without what is before the line."""
-        return self.typed(f"{line}\t\t")
+    def why_not(self, line, pattern, right):
+        """What it offers for a line, where these are not the right words; the pattern finds them in what it shows. On a
+        busy machine it may read what is typed next before it has shown anything, so it is asked again.
+        """
+        for _ in range(TRIES):
+            offers = {*re.findall(pattern, self.typed(f"{line}\t\t"), re.M)}
+            if offers == right:
+                return ""
+        return f"{offers}, and not {right}"
 
     def close(self):
         os.close(self.master)
@@ -179,13 +185,11 @@ def count_zsh(count, folder, files):
     with contextlib.closing(Zsh(folder, files)) as zsh:
         for name, form in forms():
             words = " ".join([name, *form.split()])
-            shown = zsh.offers(f"{words} --")
-            listed = {*re.findall(rf"^(?:.*{words} )?(--\w[\w-]*)", shown, re.M)}
-            count(f"zsh: options of {name} {form}", listed == wanted_of(name, form), f"{listed} {shown}")
+            option, right = rf"^(?:.*{words} )?(--\w[\w-]*)", wanted_of(name, form)
+            count.tries(f"zsh: options of {name} {form}", zsh.why_not, f"{words} --", option, right)
         for name, (words, _) in FORMS.items():
-            shown = zsh.offers(f"{name} ")
-            right = [rf"^{word}\b" for word in words if word] or [r"a\\ world\.journal"]
-            count(f"zsh: forms of {name}", all(re.search(one, shown, re.M) for one in right), shown)
+            offers = (r"^(\w+) +-- ", {*words} - {""}) if len(words) > 1 else (r"(a\\ \S+)", {"a\\ world.journal"})
+            count.tries(f"zsh: forms of {name}", zsh.why_not, f"{name} ", *offers)
 
 
 @part("completions", "bash and zsh complete the options that `--help` has, forms, and files where a file is taken")

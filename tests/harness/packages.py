@@ -106,23 +106,32 @@ def count_files(count, made, folder):
         count(f"packages: the unit in {where}", named == [prefix] * 2, named)
 
 
+def named_below(names):
+    """These crates, and all that crates.txt names behind them, and so on."""
+    named = dict(re.findall(r"^(\w+):(.*)$", text_of("crates.txt"), re.M))
+    found = set()
+    while names:
+        found |= {*names}
+        names = [low for name in names for low in named[name].split() if low in named and low not in found]
+    return found
+
+
 def count_programs(count, made, folder):
     """The programs: each says what it is, is without symbols, and has the sum that PROVED.json tells."""
     proved = json.loads(read(f"{folder}/dist/PROVED.json"))
     count("packages: proved or not", proved["proved"] is made.is_proved is (not is_unproved()), proved["proved"])
-    trees = proved["proved crates, by the tree of git"]
+    trees = proved["git_trees_of_proved_crates"]
     git = subprocess.run(["git", "-C", TOP, "ls-tree", "-d", "HEAD", "crates/"], capture_output=True, text=True).stdout
-    right = {line.split("/")[1]: line.split()[2] for line in git.splitlines()} if made.is_proved else {}
-    lacking = set(right) - set(trees) - {"mud_tests"}
-    wrong = [name for name, tree in trees.items() if right.get(name) != tree]
-    count("packages: the proved crates", not lacking and not wrong, f"{lacking} {wrong}")
+    found = {line.split("/")[1]: line.split()[2] for line in git.splitlines()}
+    right = {name: found[name] for name in named_below(PROGRAMS)} if made.is_proved else {}
+    count("packages: the proved crates", trees == right, f"{trees} and not {right}")
     for name in PROGRAMS:
         for where in ("tarball", "package/usr"):
             path = f"{folder}/{where}/bin/{name}"
             said = subprocess.run([path, "--version"], capture_output=True, text=True).stdout
             state = "unproved" if is_unproved() else f"proved with {made.kit}"
             count(f"packages: {name} in {where}", said == f"{name} {made.number}, {state}\n", said)
-            right = proved["programs, by SHA-256"][name]
+            right = proved["sha256_of_programs"][name]
             count(f"packages: sum of {name} in {where}", hashlib.sha256(read(path)).hexdigest() == right)
         sections = subprocess.run(["readelf", "--sections", "--wide", path], capture_output=True, text=True).stdout
         count(f"packages: {name} without symbols", ".symtab" not in sections and ".debug" not in sections)

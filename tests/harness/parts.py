@@ -18,7 +18,7 @@ from dataclasses import dataclass
 from typing import Callable
 
 PARTS = {}
-SHOWN_LENGTH = 2000
+SHOWN_LENGTH, SHOWN_CALLS = 2000, 6
 
 
 class Skipped(Exception):
@@ -66,7 +66,7 @@ class Count:
 
     def tries(self, name, why_not, *given, **how):
         """Counts a test that passes where `why_not`, called with the rest, gives no reason. It isn't called where the
-        test doesn't count, and what it raises is the reason, with its traceback."""
+        test doesn't count, and what it raises is the reason, with its last calls."""
         if not self.wants(name):
             return
         try:
@@ -74,7 +74,7 @@ class Count:
         except Skipped:
             raise
         except Exception:
-            why = traceback.format_exc()
+            why = traceback.format_exc(limit=-SHOWN_CALLS)
         self(name, not why, why)
 
     def __str__(self):

@@ -118,11 +118,11 @@ def why_idle_place():
         silent = server.player(b"Ann")
         while silent.closed is None and silent.more():
             pass
-        began = time.monotonic()
-        has_place = server.has_place()
+        end = time.monotonic() + 1
+        while not (has_place := server.has_place()) and time.monotonic() < end:
+            pass
         given = silent.closed, has_place
-        took = time.monotonic() - began
-        return "" if given == (1000, True) and took < 1 else f"{given} after {took} s"
+        return "" if given == (1000, True) else f"{given}"
 
 
 def silent_heads(server, number):

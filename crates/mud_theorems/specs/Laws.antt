@@ -1,0 +1,56 @@
+-- Laws of the definitions: what many callers did, what outlives a crash, and who changes what.
+use Rattle.std.specs.Prelude.{◌≡◌, ◌≤◌, ◌⊎◌, ℕ, List, length, map, take, None, Some, IsTrue, All}
+use Rattle.mud_world.specs.declared.change.Change.{Change}
+use Rattle.mud_world.specs.declared.record.Record.{Record}
+use Rattle.mud_world.specs.State.{State, record_at}
+use Rattle.mud_world.specs.Conditions.{owns}
+use Rattle.mud_world.specs.Legal.{refusal, after}
+use Rattle.mud_chron.specs.Entry.{Entry}
+use Rattle.mud_journal.specs.Found.{Finds}
+use Rattle.mud_journal.specs.OpenFaults.{IsRefusedAs}
+use Rattle.mud_journal.specs.declared.fault.OpenFault.{OpenFault}
+use Rattle.mud_journal.specs.declared.fault.OpenFault.TheVariants.{OutOfMemory}
+use Rattle.mud_hall.specs.Desk.{DeskState, View}
+use Rattle.mud_hall.specs.Replies.{Accepted}
+use Rattle.mud_hall.specs.Answers.{Answered}
+use Rattle.mud_hall.specs.Settlement.{IsSettled}
+use Rattle.mud_hall.specs.Steps.{Hall, AreLoadable, Begins, HallStep, Act, Ask, IsRun}
+use Rattle.mud_session.specs.Notices.{NamesUpTo}
+use Rattle.mud_theorems.specs.Runs.{Work, IsWork, AreOneRun}
+use Rattle.mud_theorems.specs.Owning.{moves, IsMoved}
+use Rattle.mud_theorems.specs.Survival.{IsCrashOf, IsBack, WasCalled, StillHolds}
+
+-- What was called at the desks of a hall that was settled, by whichever threads, is one run of the hall, and a hall can
+-- begin with its history.
+abbrev pub ThreadsMakeRuns : Type 0
+ThreadsMakeRuns =
+    (capacity : ℕ) (loaded history : List Entry) (desks : List View) (works : List Work)
+    → IsSettled loaded desks history → map (λ d. d.state) desks ≡ map (λ w. w.desk) works
+    → All (IsWork capacity loaded) works
+    → AreOneRun capacity loaded history works × (AreLoadable capacity loaded → AreLoadable capacity history)
+
+-- Whatever a crash leaves of the journal of a hall is read. What is found goes back to some version, at least to the
+-- last that was synced: a text that names none after that names none that is not found, each change that was accepted
+-- by then is there, and each answer by such a version still holds.
+abbrev pub WhatWasToldLasts : Type 0
+WhatWasToldLasts =
+    (capacity : ℕ) (loaded : List Entry) (begin : Hall) → Begins capacity loaded begin
+    → (steps : List HallStep) (hall : Hall) → IsRun capacity loaded begin steps hall
+    → (synced : List Entry) (bytes : List ℕ) → IsCrashOf hall.history synced bytes
+    → ((fault : OpenFault) → IsRefusedAs bytes fault → fault ≡ OutOfMemory)
+    × ((got : List Entry) (torn : ℕ) → Finds bytes got torn → IsBack capacity hall.history synced got
+    × ((text : List ℕ) → NamesUpTo (length synced) text → NamesUpTo (length got) text)
+    × ((s v : ℕ) (line text : List ℕ) (next : Hall)
+    → WasCalled capacity loaded begin s (Act line (Accepted v text)) next hall → v ≤ length synced
+    → take v got ≡ next.history)
+    × ((s : ℕ) (line : List ℕ) (a : Answered) (next : Hall) (d : DeskState)
+    → WasCalled capacity loaded begin s (Ask line (Some a)) next hall → a.version ≤ length synced
+    → next.desks s ≡ Some d → StillHolds got d.player line a))
+
+-- A legal change leaves an object as it was, unless its actor owns the object or is #1, or the change moves it. What is
+-- moved has another place, and else is as it was.
+abbrev pub OnlyOwnersChange : Type 0
+OnlyOwnersChange =
+    (w : State) (e : Change) (o : ℕ) (r : Record) → refusal w e ≡ None → record_at w o ≡ Some r
+    → (record_at (after w e) o ≡ Some r) ⊎ IsTrue (owns w e.actor o)
+    ⊎ (IsTrue (moves e.actor e.deed o) × IsMoved (after w e) o r)

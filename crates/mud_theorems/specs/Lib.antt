@@ -1,0 +1,6 @@
+pub mod Runs
+pub mod Transcripts
+pub mod Survival
+pub mod Owning
+pub mod Laws
+pub mod inner

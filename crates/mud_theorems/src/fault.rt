@@ -1,0 +1,40 @@
+//! Why players did not play.
+
+use mud_hall::{CloseFault, Fault};
+use std::alloc::{AllocError, AllocFailed};
+use thiserror::Error;
+
+/// Why players did not play, or their hall was not settled.
+#[derive(Clone, Copy, PartialEq, Eq, Debug, Drop, Error)]
+pub enum PlayFault {
+    /// Memory ran out for a desk, a session or a list.
+    #[error("out of memory")]
+    OutOfMemory,
+    /// The hall has no desk left for one of them.
+    #[error("no desk is left")]
+    DesksFull,
+    /// Their desks alone did not make the history: somebody else has a desk of the hall.
+    #[error("{0}")]
+    Close(CloseFault),
+}
+
+impl From<Fault> for PlayFault {
+    fn from(fault: Fault) -> PlayFault {
+        match fault {
+            Fault::DesksFull => PlayFault::DesksFull,
+            _ => PlayFault::OutOfMemory,
+        }
+    }
+}
+
+impl From<AllocError> for PlayFault {
+    fn from(_e: AllocError) -> PlayFault {
+        PlayFault::OutOfMemory
+    }
+}
+
+impl<T: Drop> From<AllocFailed<T>> for PlayFault {
+    fn from(_e: AllocFailed<T>) -> PlayFault {
+        PlayFault::OutOfMemory
+    }
+}
